@@ -1,0 +1,8 @@
+//! Lexical paths, and the plain values that the crates above share.
+#![tactic(auto)]
+
+mod clean_path;
+mod plain;
+
+pub use clean_path::CleanPath;
+pub use plain::{Bytes, List, Text};

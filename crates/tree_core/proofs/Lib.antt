@@ -1,0 +1,5 @@
+pub mod Replies
+pub mod Entries
+pub mod Recorded
+pub mod Asking
+pub mod Firsts

@@ -1,0 +1,61 @@
+-- A plan: which questions are put to a tree, in what order, and what their replies come to.
+use Rattle.std.specs.Prelude.{ℕ, Bool, false, cond, List, [], ◌∷◌, Option, Some, None, Result, Ok, Err}
+use Rattle.tree_core.specs.declared.question.Question.{Question}
+use Rattle.tree_core.specs.declared.question.Question.TheVariants.{File, Read}
+use Rattle.tree_core.specs.declared.question.Reply.{Reply}
+use Rattle.tree_core.specs.declared.question.Reply.TheVariants.{Flag, Content}
+use Rattle.sugar_path.specs.Path.{Path, text_of}
+use Rattle.tree_core.specs.Tree.{Files, reply}
+
+-- `Done a` puts no question and answers a; `Ask q next` puts q, and goes on by its reply
+pub data Plan (A : Type 0) : Type 0 where
+  Done : A → Plan A
+  Ask : Question → (Reply → Plan A) → Plan A
+
+-- what a plan answers on a tree
+unfoldable pub answer : {A : Type 0} → Files → Plan A → A
+answer t (Done a) = a
+answer t (Ask q next) = answer t (next (reply t q))
+
+-- the questions that it puts to that tree, in order
+unfoldable pub asked : {A : Type 0} → Files → Plan A → List Question
+asked t (Done a) = []
+asked t (Ask q next) = q ∷ asked t (next (reply t q))
+
+-- one plan, and then the plan that its answer gives
+infixl 10 ◌>>=◌
+unfoldable pub ◌>>=◌ : {A B : Type 0} → Plan A → (A → Plan B) → Plan B
+Done a >>= then = then a
+Ask q next >>= then = Ask q (λ r. next r >>= then)
+
+abbrev pub flag : Reply → Bool
+flag (Flag b) = b
+flag (Content _) = false
+
+abbrev pub content : Reply → Option (List ℕ)
+content (Flag _) = None
+content (Content bytes) = bytes
+
+-- whether there is a file at a path
+unfoldable pub file : Path → Plan Bool
+file p = Ask (File (text_of p)) (λ r. Done (flag r))
+
+-- the bytes of the file at a path
+unfoldable pub read : Path → Plan (Option (List ℕ))
+read p = Ask (Read (text_of p)) (λ r. Done (content r))
+
+-- the first of the paths that is a file
+abbrev pub first_file : List Path → Plan (Option Path)
+first_file [] = Done None
+first_file (p ∷ ps) = do
+  found ← file p
+  cond found (Done (Some p)) (first_file ps)
+
+-- a plan that may refuse, and then the plan that its answer gives
+abbrev pub on_ok : {A B X : Type 0} → (A → Plan (Result B X)) → Result A X → Plan (Result B X)
+on_ok then (Ok a) = then a
+on_ok then (Err x) = Done (Err x)
+
+infixl 10 ◌>>=?◌
+abbrev pub ◌>>=?◌ : {A B X : Type 0} → Plan (Result A X) → (A → Plan (Result B X)) → Plan (Result B X)
+p >>=? then = p >>= on_ok then
