@@ -3,6 +3,7 @@
 
 mod clean_path;
 mod plain;
+mod plain_traits;
 
 pub use clean_path::CleanPath;
 pub use plain::{Bytes, List, Text};

@@ -1,6 +1,6 @@
 // Plain owned values that contracts see as lists.
 
-ghost use Rattle.std.specs.Prelude.{◌≡◌, ◌++◌, ◌∷◌, [], IfOk, IfErr, OnOk, OnErr};
+ghost use Rattle.std.specs.Prelude.{◌≡◌, ◌++◌, ◌∷◌, [], IfOk, IfErr, OnOk, OnErr, string_bytes};
 
 use std::alloc::{AllocError, Global};
 use std::marker::Model;
@@ -41,6 +41,23 @@ impl Text {
     }
 }
 
+impl From<String> for Text {
+    ghost from_gives = { λ string text. text ≡ string_bytes string };
+
+    fn from(text: String) -> Text {
+        Text { text }
+    }
+}
+
+impl From<Text> for String {
+    ghost from_gives = { λ text string. string_bytes string ≡ text };
+
+    fn from(text: Text) -> String {
+        let Text { text } = text;
+        text
+    }
+}
+
 /// Owned bytes, seen as their list.
 #[derive(Drop)]
 pub struct Bytes {
@@ -74,6 +91,23 @@ impl Bytes {
         ensures { IfOk result (λ b. b ≡ self.now) }
     {
         Bytes::of(alloc, self.as_slice())
+    }
+}
+
+impl From<Vec<u8>> for Bytes {
+    ghost from_gives = { λ vec bytes. bytes ≡ vec.items };
+
+    fn from(bytes: Vec<u8>) -> Bytes {
+        Bytes { bytes }
+    }
+}
+
+impl From<Bytes> for Vec<u8> {
+    ghost from_gives = { λ bytes vec. vec.items ≡ bytes };
+
+    fn from(bytes: Bytes) -> Vec<u8> {
+        let Bytes { bytes } = bytes;
+        bytes
     }
 }
 
@@ -117,5 +151,22 @@ impl<T> List<T> {
         ensures { result.now ≡ self.now }
     {
         self.members.as_slice()
+    }
+}
+
+impl<T> From<Vec<T>> for List<T> {
+    ghost from_gives = { λ vec list. list ≡ vec.items };
+
+    fn from(members: Vec<T>) -> List<T> {
+        List { members }
+    }
+}
+
+impl<T> From<List<T>> for Vec<T> {
+    ghost from_gives = { λ list vec. vec.items ≡ list };
+
+    fn from(list: List<T>) -> Vec<T> {
+        let List { members } = list;
+        members
     }
 }
