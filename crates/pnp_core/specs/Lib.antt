@@ -1,0 +1,11 @@
+pub mod NormalizePath
+pub mod BareIdentifier
+pub mod Payload
+pub mod Manifest
+pub mod ManifestReading
+pub mod Owner
+pub mod Located
+pub mod Binding
+pub mod Wording
+pub mod Refusal
+pub mod Loading

@@ -1,0 +1,20 @@
+-- The manifest that a file of a tree is.
+use Rattle.std.specs.Prelude.{Result, Ok, Err}
+use Rattle.sugar_path.specs.Path.{Path}
+use Rattle.tree_core.specs.Plan.{Plan, Done, ◌>>=◌, read}
+use Rattle.pnp_core.specs.declared.error.HydrationCause.{HydrationCause}
+use Rattle.pnp_core.specs.Manifest.{Contents}
+use Rattle.pnp_core.specs.ManifestReading.{reading}
+use Rattle.pnp_core.specs.Refusal.{Refusal, NoManifest}
+use Rattle.pnp_core.specs.Wording.{failed_hydration}
+
+-- a manifest, or the refusal of the file at a path
+abbrev pub or_refused : Path → Result Contents HydrationCause → Result Contents Refusal
+or_refused p (Ok m) = Ok m
+or_refused p (Err cause) = Err (NoManifest (failed_hydration cause p))
+
+-- the bytes at the path are read, and say the rest
+unfoldable pub loading : Path → Plan (Result Contents Refusal)
+loading p = do
+  content ← read p
+  Done (or_refused p (reading content p))

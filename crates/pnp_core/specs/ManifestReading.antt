@@ -1,0 +1,179 @@
+-- The manifest that bytes are: the JSON of their payload, field by field.
+use Rattle.std.specs.Prelude.{ℕ, false, cond, List, [], ◌∷◌, ◌++◌, Option, Some, None, Result, Ok, Err, map, filter, codes, bytes_eq, is_none, option_map, option_and_then, unwrap_or}
+use Rattle.std.specs.Str.{is_utf8}
+use Rattle.serde_json.specs.Data.{Data, null, boolean, number, string, array, object, Items, no_items, item}
+use Rattle.serde_json.specs.Find.{get, as_str, as_bool, as_array}
+use Rattle.serde_json.specs.Read.{read}
+use Rattle.serde_json.specs.Written.{has_float}
+use Rattle.indexmap.specs.IndexMap.{insert_all}
+use Rattle.indexmap.specs.IndexSet as set
+use Rattle.sugar_path.specs.Path.{Path, parent, text_of, join}
+use Rattle.pnp_core.specs.declared.error.HydrationCause.{HydrationCause}
+use Rattle.pnp_core.specs.declared.error.HydrationCause.TheVariants.{NotText, NoPayload, BadJson, NoTopLevel}
+use Rattle.pnp_core.specs.declared.manifest.PackageLocator.{PackageLocator}
+use Rattle.pnp_core.specs.declared.manifest.PackageDependency.{PackageDependency}
+use Rattle.pnp_core.specs.declared.manifest.PackageDependency.TheVariants.{Reference, Alias}
+use Rattle.pnp_core.specs.NormalizePath.{normalize_path}
+use Rattle.pnp_core.specs.Payload.{payload, or_else}
+use Rattle.pnp_core.specs.Manifest.{Dependencies, Package, Registry, Contents, locator, locator_eq, top_level, at, package_at, has_row}
+
+infixl 10 ◌>>=◌
+abbrev pub ◌>>=◌ : {A B : Type 0} → Option A → (A → Option B) → Option B
+found >>= next = option_and_then next found
+
+-- each member of a list, read
+abbrev pub items_by : {A : Type 0} → (Data → Option A) → Items → Option (List A)
+items_by f no_items = Some []
+items_by f (item d ds) = do
+  a ← f d
+  rest ← items_by f ds
+  Some (a ∷ rest)
+
+abbrev pub list_by : {A : Type 0} → (Data → Option A) → Data → Option (List A)
+list_by f d = as_array d >>= items_by f
+
+-- exactly two members, read
+abbrev pub two_by : {A B : Type 0} → (Data → Option A) → (Data → Option B) → Items → Option (A × B)
+two_by f g no_items = None
+two_by f g (item a no_items) = None
+two_by f g (item a (item b no_items)) = do
+  first ← f a
+  second ← g b
+  Some (first, second)
+two_by f g (item a (item b (item c rest))) = None
+
+abbrev pub pair_by : {A B : Type 0} → (Data → Option A) → (Data → Option B) → Data → Option (A × B)
+pair_by f g d = as_array d >>= two_by f g
+
+-- a value that may be null
+abbrev pub nullable_by : {A : Type 0} → (Data → Option A) → Data → Option (Option A)
+nullable_by f null = Some None
+nullable_by f (boolean b) = option_map Some (f (boolean b))
+nullable_by f (number n) = option_map Some (f (number n))
+nullable_by f (string s) = option_map Some (f (string s))
+nullable_by f (array ds) = option_map Some (f (array ds))
+nullable_by f (object ms) = option_map Some (f (object ms))
+
+-- a field that has to be there
+abbrev pub field_by : {A : Type 0} → List ℕ → (Data → Option A) → Data → Option A
+field_by k f d = get k d >>= f
+
+-- a field, or what stands for it where it is absent
+abbrev pub present_or : {A : Type 0} → A → (Data → Option A) → Option Data → Option A
+present_or absent f None = Some absent
+present_or absent f (Some d) = f d
+
+abbrev pub field_or : {A : Type 0} → List ℕ → A → (Data → Option A) → Data → Option A
+field_or k absent f d = present_or absent f (get k d)
+
+-- a repeated name keeps its place and takes the last value
+abbrev pub entries_of : {A : Type 0} → List (List ℕ × A) → List (List ℕ × A)
+entries_of pairs = insert_all bytes_eq [] pairs
+
+-- a null name or reference is the empty text
+abbrev pub named : {A : Type 0} → Option (List ℕ) × A → List ℕ × A
+named pair = (unwrap_or pair.0 [], pair.1)
+
+-- a text is a reference of the package of the bound name, and two texts are a name and a reference
+abbrev pub dependency_in : Data → Option PackageDependency
+dependency_in d = or_else (option_map Reference (as_str d)) (option_map (λ pair. Alias pair.0 pair.1) (pair_by as_str as_str d))
+
+abbrev pub dependencies_in : Data → Option Dependencies
+dependencies_in d = option_map entries_of (list_by (pair_by as_str (nullable_by dependency_in)) d)
+
+unfoldable pub locator_in : Data → Option PackageLocator
+locator_in d = do
+  name ← field_by (codes "name") as_str d
+  reference ← field_by (codes "reference") as_str d
+  Some (locator name reference)
+
+unfoldable pub package_in : Data → Option Package
+package_in d = do
+  location ← field_by (codes "packageLocation") as_str d
+  discard ← field_or (codes "discardFromLookup") false as_bool d
+  dependencies ← field_by (codes "packageDependencies") dependencies_in d
+  Some (record { package_location = location; discard_from_lookup = discard; package_dependencies = dependencies })
+
+abbrev pub references_in : Data → Option (List (List ℕ × Package))
+references_in d = option_map (λ pairs. entries_of (map named pairs)) (list_by (pair_by (nullable_by as_str) package_in) d)
+
+abbrev pub registry_in : Data → Option Registry
+registry_in d = option_map (λ pairs. entries_of (map named pairs)) (list_by (pair_by (nullable_by as_str) references_in) d)
+
+-- a repeated locator or reference counts once
+abbrev pub roots_in : Data → Option (List PackageLocator)
+roots_in d = option_map (set.insert_all locator_eq []) (list_by locator_in d)
+
+abbrev pub texts_in : Data → Option (List (List ℕ))
+texts_in d = option_map (set.insert_all bytes_eq []) (list_by as_str d)
+
+abbrev pub exclusions_in : Data → Option (List (List ℕ × List (List ℕ)))
+exclusions_in d = option_map entries_of (list_by (pair_by as_str texts_in) d)
+
+-- the fields of a manifest; others are passed over. It has no folder and no path yet
+unfoldable pub fields_in : Data → Option Contents
+fields_in d = do
+  fallback ← field_by (codes "enableTopLevelFallback") as_bool d
+  pattern ← field_or (codes "ignorePatternData") None (nullable_by as_str) d
+  roots ← field_by (codes "dependencyTreeRoots") roots_in d
+  pool ← field_by (codes "fallbackPool") dependencies_in d
+  exclusions ← field_by (codes "fallbackExclusionList") exclusions_in d
+  registry ← field_by (codes "packageRegistryData") registry_in d
+  Some (record {
+    manifest_dir = [];
+    manifest_path = [];
+    enable_top_level_fallback = fallback;
+    ignore_pattern_data = pattern;
+    dependency_tree_roots = roots;
+    fallback_pool = pool;
+    fallback_exclusion_list = exclusions;
+    package_registry_data = registry;
+  })
+
+-- a value with a float is no manifest
+abbrev pub manifest_in : Data → Option Contents
+manifest_in d = cond (has_float d) None (fields_in d)
+
+-- a location is read from the manifest's folder
+abbrev pub located : List ℕ → Package → Package
+located dir p = record p { package_location = normalize_path (join dir p.package_location) }
+
+abbrev pub located_registry : List ℕ → Registry → Registry
+located_registry dir registry = map (λ named. (named.0, map (λ row. (row.0, located dir row.1)) named.1)) registry
+
+-- the pool, and behind it the top-level row's bindings of names that the pool lacks, nulls too
+abbrev pub filled : Dependencies → Dependencies → Dependencies
+filled pool own = pool ++ filter (λ bound. is_none (at bound.0 pool)) own
+
+abbrev pub filled_by : Dependencies → Option Package → Dependencies
+filled_by pool None = pool
+filled_by pool (Some p) = filled pool p.package_dependencies
+
+-- a manifest that was read, at the path of its file
+abbrev pub initialized : Path → Contents → Contents
+initialized p m = record m {
+  manifest_dir = text_of (parent p);
+  manifest_path = text_of p;
+  fallback_pool = filled_by m.fallback_pool (package_at m.package_registry_data top_level);
+  package_registry_data = located_registry (text_of (parent p)) m.package_registry_data;
+}
+
+abbrev pub with_top_level : Path → Contents → Result Contents HydrationCause
+with_top_level p m = cond (has_row m top_level) (Ok (initialized p m)) (Err NoTopLevel)
+
+abbrev pub from_fields : Path → Option Contents → Result Contents HydrationCause
+from_fields p None = Err BadJson
+from_fields p (Some m) = with_top_level p m
+
+abbrev pub from_payload : Path → Option (List ℕ) → Result Contents HydrationCause
+from_payload p None = Err NoPayload
+from_payload p (Some text) = from_fields p (read text >>= manifest_in)
+
+-- the manifest of a text
+abbrev pub from_text : Path → List ℕ → Result Contents HydrationCause
+from_text p text = from_payload p (payload text)
+
+-- the manifest that the bytes of a file are, or the first cause why they are none
+abbrev pub reading : Option (List ℕ) → Path → Result Contents HydrationCause
+reading None p = Err NotText
+reading (Some bytes) p = cond (is_utf8 bytes) (from_text p bytes) (Err NotText)

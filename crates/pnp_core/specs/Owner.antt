@@ -1,0 +1,36 @@
+-- Which package owns a path.
+use Rattle.std.specs.Prelude.{◌≡◌, Bool, not, ◌&&◌, cond, IsTrue, IsSome, List, [], ◌∷◌, Option, Some, None}
+use Rattle.std.specs.List.{AllByRecursion}
+use Rattle.sugar_path.specs.Path.{Path, IsCleanPath, is_absolute, path_eq, text_of}
+use Rattle.pnp_core.specs.declared.manifest.PackageLocator.{PackageLocator}
+use Rattle.pnp_core.specs.NormalizePath.{location_path, normalize_path}
+use Rattle.pnp_core.specs.Payload.{or_else}
+use Rattle.pnp_core.specs.Manifest.{Contents, Row, rows, top_level, package_at}
+
+-- a row that isn't discarded owns its location
+abbrev pub owns : Row → Path → Bool
+owns row l = not row.1.discard_from_lookup && path_eq (location_path row.1.package_location) l
+
+-- the last of the rows that own a location
+abbrev pub last_at : List Row → Path → Option PackageLocator
+last_at [] l = None
+last_at (row ∷ rest) l = or_else (last_at rest l) (cond (owns row l) (Some row.0) None)
+
+-- the nearest of a path and the folders above it that is the location of rows; the last of them owns it
+abbrev pub nearest_owner : List Row → Path → Option PackageLocator
+nearest_owner rs [] = last_at rs []
+nearest_owner rs (n ∷ p) = or_else (last_at rs (n ∷ p)) (nearest_owner rs p)
+
+-- the owner of a path: its text is read as a manifest reads one, so `\` separates names
+abbrev pub owner : Contents → Path → Option PackageLocator
+owner m p = nearest_owner (rows m.package_registry_data) (location_path (text_of p))
+
+-- a row's location is an absolute text in normal form
+abbrev pub IsLocated : Row → Type 0
+IsLocated row = IsTrue (is_absolute row.1.package_location) × (normalize_path row.1.package_location ≡ row.1.package_location)
+
+-- A manifest that was loaded: its folder is clean and absolute, its rows are located, and the top-level package has a row.
+pub record IsReady (m : Contents) : Type 0 where
+  pub folder : IsCleanPath m.manifest_dir
+  pub located : AllByRecursion IsLocated (rows m.package_registry_data)
+  pub top_level_row : IsSome (package_at m.package_registry_data top_level)

@@ -1,0 +1,59 @@
+-- The JSON text inside a manifest's program file.
+use Rattle.std.specs.Prelude.{ℕ, Bool, ◌==◌, ◌||◌, cond, List, [], ◌∷◌, Option, Some, None, option_map, option_and_then, codes}
+
+-- what follows a front that is the word
+abbrev pub after_word : List ℕ → List ℕ → Option (List ℕ)
+after_word [] t = Some t
+after_word (w ∷ ws) [] = None
+after_word (w ∷ ws) (c ∷ cs) = cond (c == w) (after_word ws cs) None
+
+-- a space, a carriage return or a line feed
+abbrev pub is_blank : ℕ → Bool
+is_blank c = c == 32 || c == 13 || c == 10
+
+abbrev pub after_blanks : List ℕ → List ℕ
+after_blanks [] = []
+after_blanks (c ∷ cs) = cond (is_blank c) (after_blanks cs) (c ∷ cs)
+
+-- one blank or more
+abbrev pub after_some_blanks : List ℕ → Option (List ℕ)
+after_some_blanks [] = None
+after_some_blanks (c ∷ cs) = cond (is_blank c) (Some (after_blanks cs)) None
+
+-- what follows a text that is there, and then the blanks
+abbrev pub then_word : List ℕ → List ℕ → Option (List ℕ)
+then_word word t = after_word word (after_blanks t)
+
+-- `const`, blanks, `RAW_RUNTIME_STATE`, `=` and `'`, with any blanks before the last two
+unfoldable pub after_constant : List ℕ → Option (List ℕ)
+after_constant t =
+    option_and_then (then_word (codes "'"))
+    (option_and_then (then_word (codes "="))
+    (option_and_then (after_word (codes "RAW_RUNTIME_STATE"))
+    (option_and_then after_some_blanks (after_word (codes "const") t))))
+
+unfoldable pub after_call : List ℕ → Option (List ℕ)
+after_call t = after_word (codes "hydrateRuntimeState(JSON.parse('") t
+
+abbrev pub or_else : {A : Type 0} → Option A → Option A → Option A
+or_else None other = other
+or_else (Some a) other = Some a
+
+-- what follows one of the two openings, where the text begins with it
+abbrev pub after_opening : List ℕ → Option (List ℕ)
+after_opening t = or_else (after_constant t) (after_call t)
+
+-- what follows the leftmost opening
+abbrev pub after_leftmost : List ℕ → Option (List ℕ)
+after_leftmost [] = None
+after_leftmost (c ∷ cs) = or_else (after_opening (c ∷ cs)) (after_leftmost cs)
+
+-- up to the next `'` that no backslash takes, or to the end: a backslash is dropped, and the character after it is kept
+abbrev pub quoted : List ℕ → List ℕ
+quoted [] = []
+quoted (c ∷ []) = cond (c == 39 || c == 92) [] (c ∷ [])
+quoted (c ∷ d ∷ rest) = cond (c == 39) [] (cond (c == 92) (d ∷ quoted rest) (c ∷ quoted (d ∷ rest)))
+
+-- the payload of a manifest's text
+abbrev pub payload : List ℕ → Option (List ℕ)
+payload t = option_map quoted (after_leftmost t)

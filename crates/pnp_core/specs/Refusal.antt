@@ -1,0 +1,32 @@
+-- Which errors are refusals, and which come from the tree.
+use Rattle.std.specs.Prelude.{◌≡◌, Result, Ok, Err, refl}
+use Rattle.tree_core.specs.declared.tree.ReadError.{ReadError}
+use Rattle.tree_core.specs.declared.tree.ReadError.TheVariants.{Fault, NoMemory}
+use Rattle.tree_core.specs.Asks.{Layer}
+use Rattle.pnp_core.specs.declared.error.BadSpecifier.{BadSpecifier}
+use Rattle.pnp_core.specs.declared.error.FailedManifestHydration.{FailedManifestHydration}
+use Rattle.pnp_core.specs.declared.error.Error.{Error}
+use Rattle.pnp_core.specs.declared.error.Error.TheVariants as error
+
+-- a specifier that names no package, or a file that is no manifest
+pub data Refusal : Type 0 where
+  NoIdentifier : BadSpecifier → Refusal
+  NoManifest : FailedManifestHydration → Refusal
+
+abbrev pub kind : Error → Result Refusal ReadError
+kind (error.BadSpecifier refused) = Ok (NoIdentifier refused)
+kind (error.FailedManifestHydration refused) = Ok (NoManifest refused)
+kind error.TreeFault = Err Fault
+kind error.NoMemory = Err NoMemory
+
+abbrev pub into : ReadError → Error
+into Fault = error.TreeFault
+into NoMemory = error.NoMemory
+
+abbrev pub carries : (e : ReadError) → kind (into e) ≡ Err e
+carries Fault = refl
+carries NoMemory = refl
+
+-- this crate's errors over a tree
+abbrev pub pnp : Layer Error Refusal
+pnp = record { kind = kind; into = into; carries = carries }

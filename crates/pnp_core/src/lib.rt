@@ -1,0 +1,13 @@
+//! Yarn's Plug'n'Play manifests: which file holds one, what it says, which package owns a path, and what a name is bound to.
+#![tactic(auto)]
+
+mod error;
+mod manifest;
+mod trie;
+
+pub use error::{
+    BadSpecifier, Error, FailedManifestHydration, HydrationCause, ReadManifestError,
+    UndeclaredDependency,
+};
+pub use manifest::{Binding, Manifest, PackageDependency, PackageInformation, PackageLocator};
+pub use trie::Trie;

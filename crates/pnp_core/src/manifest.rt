@@ -1,0 +1,73 @@
+// A manifest, as its payload says it.
+use crate::Trie;
+use indexmap::{IndexMap, IndexSet};
+use std::marker::Model;
+use sugar_path::Text;
+
+/// A package by its name and its reference. The top-level package has both texts empty.
+#[derive(Debug, PartialEq, Eq, Hash, Drop)]
+pub struct PackageLocator {
+    pub name: Text,
+    pub reference: Text,
+}
+
+/// What a name is bound to: a reference of the package of that name, or a package of another name.
+#[derive(Drop)]
+pub enum PackageDependency {
+    Reference(Text),
+    Alias(Text, Text),
+}
+
+/// What a row of the registry says of its package.
+#[derive(Drop)]
+pub struct PackageInformation {
+    pub package_location: Text,
+    pub discard_from_lookup: bool,
+    pub package_dependencies: IndexMap<Text, Option<PackageDependency>>,
+}
+
+impl Model for PackageInformation {
+    ghost use Rattle.pnp_core.specs.Manifest.{Package};
+
+    ghost Value = { Package };
+
+    ghost view = { λ p. record {
+      package_location = p.package_location;
+      discard_from_lookup = p.discard_from_lookup;
+      package_dependencies = p.package_dependencies.entries;
+    } };
+}
+
+/// A manifest. Its registry, its pool and its lists keep the order of the payload.
+#[derive(Drop)]
+pub struct Manifest {
+    pub manifest_dir: Text,
+    pub manifest_path: Text,
+    pub location_trie: Trie<PackageLocator>,
+    pub enable_top_level_fallback: bool,
+    pub ignore_pattern_data: Option<Text>,
+    pub dependency_tree_roots: IndexSet<PackageLocator>,
+    pub fallback_pool: IndexMap<Text, Option<PackageDependency>>,
+    pub fallback_exclusion_list: IndexMap<Text, IndexSet<Text>>,
+    pub package_registry_data: IndexMap<Text, IndexMap<Text, PackageInformation>>,
+}
+
+impl Model for Manifest {
+    ghost use Rattle.pnp_core.specs.Manifest.{Contents};
+
+    ghost Value = { Contents };
+
+    ghost use Rattle.pnp_core.specs.Located.{contents_of, HoldsLocations};
+
+    ghost view = { contents_of };
+
+    ghost invariant = { HoldsLocations };
+}
+
+/// What a row binds a name to.
+#[derive(Debug, PartialEq, Eq, Drop)]
+pub enum Binding {
+    Bound(PackageLocator),
+    MissingPeer,
+    Undeclared,
+}
