@@ -3,20 +3,50 @@ use Rattle.sugar_path.proofs.Bools.{and_left, and_right}
 use Rattle.std.proofs.Common.{◌≡◌, Bool, true, false, cond, ◌&&◌, ◌⊎◌, inl, inr, refl, sym, ap, ◌∙◌, List, [], ◌∷◌, ◌++◌, Result, Ok, Err, OnOk, OnErr, Some, None, is_ok, subst}
 use Rattle.std.proofs.lemmas.Slice.Eq.{bytes_eq-Decides}
 use Rattle.tree_core.specs.declared.question.Question.{Question}
-use Rattle.tree_core.specs.declared.question.Question.TheVariants.{File, Read}
+use Rattle.tree_core.specs.declared.question.Question.TheVariants.{File, Dir, Exists, Read, Canon}
 use Rattle.tree_core.specs.declared.question.Reply.{Reply}
-use Rattle.tree_core.specs.Question.{question_eq, reply_in, fits, all_fit}
+use Rattle.tree_core.specs.Question.{path_asked, same_kind, question_eq, reply_in, fits, all_fit}
 use Rattle.tree_core.specs.Tree.{Files, reply, Agrees}
 
+same_kind-is : (a b : Question) → same_kind a b ≡ true → path_asked a ≡ path_asked b → a ≡ b
+same_kind-is (File a) (File b) kind path = ap File path
+same_kind-is (File a) (Dir b) kind path = cc
+same_kind-is (File a) (Exists b) kind path = cc
+same_kind-is (File a) (Read b) kind path = cc
+same_kind-is (File a) (Canon b) kind path = cc
+same_kind-is (Dir a) (File b) kind path = cc
+same_kind-is (Dir a) (Dir b) kind path = ap Dir path
+same_kind-is (Dir a) (Exists b) kind path = cc
+same_kind-is (Dir a) (Read b) kind path = cc
+same_kind-is (Dir a) (Canon b) kind path = cc
+same_kind-is (Exists a) (File b) kind path = cc
+same_kind-is (Exists a) (Dir b) kind path = cc
+same_kind-is (Exists a) (Exists b) kind path = ap Exists path
+same_kind-is (Exists a) (Read b) kind path = cc
+same_kind-is (Exists a) (Canon b) kind path = cc
+same_kind-is (Read a) (File b) kind path = cc
+same_kind-is (Read a) (Dir b) kind path = cc
+same_kind-is (Read a) (Exists b) kind path = cc
+same_kind-is (Read a) (Read b) kind path = ap Read path
+same_kind-is (Read a) (Canon b) kind path = cc
+same_kind-is (Canon a) (File b) kind path = cc
+same_kind-is (Canon a) (Dir b) kind path = cc
+same_kind-is (Canon a) (Exists b) kind path = cc
+same_kind-is (Canon a) (Read b) kind path = cc
+same_kind-is (Canon a) (Canon b) kind path = ap Canon path
+
+same_kind-refl : (a : Question) → same_kind a a ≡ true
+same_kind-refl (File a) = refl
+same_kind-refl (Dir a) = refl
+same_kind-refl (Exists a) = refl
+same_kind-refl (Read a) = refl
+same_kind-refl (Canon a) = refl
+
 pub question_eq-is : (a b : Question) → question_eq a b ≡ true → a ≡ b
-question_eq-is (File a) (File b) h = ap File ((bytes_eq-Decides a b).0 h)
-question_eq-is (File a) (Read b) h = cc
-question_eq-is (Read a) (File b) h = cc
-question_eq-is (Read a) (Read b) h = ap Read ((bytes_eq-Decides a b).0 h)
+question_eq-is a b h = same_kind-is a b (and_left (same_kind a b) _ h) ((bytes_eq-Decides (path_asked a) (path_asked b)).0 (and_right (same_kind a b) _ h))
 
 pub question_eq-refl : (a : Question) → question_eq a a ≡ true
-question_eq-refl (File a) = (bytes_eq-Decides a a).1 refl
-question_eq-refl (Read a) = (bytes_eq-Decides a a).1 refl
+question_eq-refl a = rw (same_kind-refl a) ((bytes_eq-Decides (path_asked a) (path_asked a)).1 refl)
 
 pub chosen : {A : Type 0} (b : Bool) (x y z : A) → cond b x y ≡ z → ((b ≡ true) × (x ≡ z)) ⊎ ((b ≡ false) × (y ≡ z))
 chosen true x y z h = inl (refl, h)

@@ -1,14 +1,14 @@
--- The first of a list of paths that is a file of a tree, and the questions up to it, as plain functions of the tree.
-use Rattle.std.specs.Prelude.{Bool, cond, List, [], ◌∷◌, Option, Some, None, is_some}
-use Rattle.std.specs.FinMap.{get}
+-- The first of a list of paths that a tree has, and the questions up to it, as plain functions of the tree.
+use Rattle.std.specs.Prelude.{Bool, ◌||◌, cond, List, [], ◌∷◌, Option, Some, None}
 use Rattle.tree_core.specs.declared.question.Question.{Question}
-use Rattle.tree_core.specs.declared.question.Question.TheVariants.{File}
+use Rattle.tree_core.specs.declared.question.Question.TheVariants.{File, Exists}
 use Rattle.sugar_path.specs.Path.{Path, text_of}
-use Rattle.tree_core.specs.Tree.{Files}
+use Rattle.tree_core.specs.Tree.{Files, is_file, is_folder}
 
 abbrev pub is_key : Files → Path → Bool
-is_key t p = is_some (get t (text_of p))
+is_key t p = is_file t (text_of p)
 
+-- the first that is a file
 abbrev pub first_key : Files → List Path → Option Path
 first_key t [] = None
 first_key t (p ∷ ps) = cond (is_key t p) (Some p) (first_key t ps)
@@ -17,3 +17,16 @@ first_key t (p ∷ ps) = cond (is_key t p) (Some p) (first_key t ps)
 abbrev pub up_to_first : Files → List Path → List Question
 up_to_first t [] = []
 up_to_first t (p ∷ ps) = File (text_of p) ∷ cond (is_key t p) [] (up_to_first t ps)
+
+abbrev pub is_there : Files → Path → Bool
+is_there t p = is_file t (text_of p) || is_folder t (text_of p)
+
+-- the first that is a file or a folder
+abbrev pub first_there : Files → List Path → Option Path
+first_there t [] = None
+first_there t (p ∷ ps) = cond (is_there t p) (Some p) (first_there t ps)
+
+-- `Exists` of each path, up to the first that is a file or a folder
+abbrev pub up_to_first_there : Files → List Path → List Question
+up_to_first_there t [] = []
+up_to_first_there t (p ∷ ps) = Exists (text_of p) ∷ cond (is_there t p) [] (up_to_first_there t ps)

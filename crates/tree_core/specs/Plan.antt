@@ -1,9 +1,9 @@
 -- A plan: which questions are put to a tree, in what order, and what their replies come to.
 use Rattle.std.specs.Prelude.{ℕ, Bool, false, cond, List, [], ◌∷◌, Option, Some, None, Result, Ok, Err}
 use Rattle.tree_core.specs.declared.question.Question.{Question}
-use Rattle.tree_core.specs.declared.question.Question.TheVariants.{File, Read}
+use Rattle.tree_core.specs.declared.question.Question.TheVariants.{File, Dir, Exists, Read, Canon}
 use Rattle.tree_core.specs.declared.question.Reply.{Reply}
-use Rattle.tree_core.specs.declared.question.Reply.TheVariants.{Flag, Content}
+use Rattle.tree_core.specs.declared.question.Reply.TheVariants.{Flag, Bytes, Name}
 use Rattle.sugar_path.specs.Path.{Path, text_of}
 use Rattle.tree_core.specs.Tree.{Files, reply}
 
@@ -30,19 +30,35 @@ Ask q next >>= then = Ask q (λ r. next r >>= then)
 
 abbrev pub flag : Reply → Bool
 flag (Flag b) = b
-flag (Content _) = false
+flag _ = false
 
 abbrev pub content : Reply → Option (List ℕ)
-content (Flag _) = None
-content (Content bytes) = bytes
+content (Bytes bytes) = bytes
+content _ = None
+
+abbrev pub name : Reply → Option (List ℕ)
+name (Name text) = text
+name _ = None
 
 -- whether there is a file at a path
 unfoldable pub file : Path → Plan Bool
 file p = Ask (File (text_of p)) (λ r. Done (flag r))
 
+-- whether there is a folder at a path
+unfoldable pub folder_there : Path → Plan Bool
+folder_there p = Ask (Dir (text_of p)) (λ r. Done (flag r))
+
+-- whether there is a file or a folder at a path
+unfoldable pub exists : Path → Plan Bool
+exists p = Ask (Exists (text_of p)) (λ r. Done (flag r))
+
 -- the bytes of the file at a path
 unfoldable pub read : Path → Plan (Option (List ℕ))
 read p = Ask (Read (text_of p)) (λ r. Done (content r))
+
+-- the canonical name of the file at a path
+unfoldable pub canon : Path → Plan (Option (List ℕ))
+canon p = Ask (Canon (text_of p)) (λ r. Done (name r))
 
 -- the first of the paths that is a file
 abbrev pub first_file : List Path → Plan (Option Path)
@@ -50,6 +66,13 @@ first_file [] = Done None
 first_file (p ∷ ps) = do
   found ← file p
   cond found (Done (Some p)) (first_file ps)
+
+-- the first of the paths that is a file or a folder
+abbrev pub first_existing : List Path → Plan (Option Path)
+first_existing [] = Done None
+first_existing (p ∷ ps) = do
+  found ← exists p
+  cond found (Done (Some p)) (first_existing ps)
 
 -- a plan that may refuse, and then the plan that its answer gives
 abbrev pub on_ok : {A B X : Type 0} → (A → Plan (Result B X)) → Result A X → Plan (Result B X)

@@ -2,16 +2,12 @@
 #![tactic(auto)]
 
 mod asker;
-mod failing;
-mod memory;
 mod question;
 mod recorder;
 mod trail;
 mod tree;
 
 pub use asker::Asker;
-pub use failing::FailingTree;
-pub use memory::MemoryTree;
 pub use question::{Question, Reply};
 pub use recorder::Recorder;
 pub use trail::Trail;

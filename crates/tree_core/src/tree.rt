@@ -4,14 +4,17 @@ ghost use Rattle.sugar_path.specs.Path.{IsCleanPath};
 ghost use Rattle.tree_core.specs.Tree.{Files, reply, HasCause, one_more, Tells};
 ghost use Rattle.tree_core.specs.declared.question.Question.{Question};
 ghost use Rattle.tree_core.specs.declared.tree.ReadError.TheVariants.{NoMemory};
-ghost use Rattle.tree_core.specs.declared.question.Question.TheVariants.{File, Read};
-ghost use Rattle.tree_core.specs.declared.question.Reply.TheVariants.{Flag, Content};
+ghost use Rattle.tree_core.specs.declared.question.Question.TheVariants.{File, Dir, Exists, Read, Canon};
+ghost use Rattle.tree_core.specs.declared.question.Reply.TheVariants.{Flag, Bytes as BytesReply, Name};
 
+use crate::{Question, Reply};
 use std::alloc::{AllocError, Global};
-use sugar_path::Bytes;
+use sugar_path::{Bytes, Text};
 
+/// Why a question was refused.
 #[derive(Clone, Copy, Debug, PartialEq, Eq)]
 pub enum ReadError {
+    /// The tree failed. Its count of faults rose, or stands at its last value.
     Fault,
     NoMemory,
 }
@@ -24,8 +27,17 @@ impl From<AllocError> for ReadError {
     }
 }
 
+impl From<(Question, Reply, AllocError)> for ReadError {
+    ghost from_gives = { λ _ e. e ≡ NoMemory };
+
+    fn from(_: (Question, Reply, AllocError)) -> Self {
+        ReadError::NoMemory
+    }
+}
+
+/// A tree that is asked on clean absolute paths.
 pub trait Tree {
-    /// For which valid trees the object answers.
+    /// For which trees the object answers.
     ghost stands_for: { Self → Files → Bool };
 
     /// How often a question was refused. It never falls.
@@ -46,12 +58,39 @@ pub trait Tree {
         ensures counted { questions self.new ≡ one_more (questions self.old) }
         ensures told { Tells (File p.now) result (told self.new) };
 
+    /// Whether there is a folder.
+    fn is_dir(&mut self, p: &str) -> Result<bool, ReadError>
+        requires { IsCleanPath p.now }
+        ensures reply { IfOk result (λ b. (t : Files) → IsTrue (stands_for self.old t) → reply t (Dir p.now) ≡ Flag b) }
+        ensures stands { stands_for self.new ≡ stands_for self.old }
+        ensures cause { HasCause (faults self.old) (faults self.new) result }
+        ensures counted { questions self.new ≡ one_more (questions self.old) }
+        ensures told { Tells (Dir p.now) result (told self.new) };
+
+    /// Whether there is a file or a folder.
+    fn exists(&mut self, p: &str) -> Result<bool, ReadError>
+        requires { IsCleanPath p.now }
+        ensures reply { IfOk result (λ b. (t : Files) → IsTrue (stands_for self.old t) → reply t (Exists p.now) ≡ Flag b) }
+        ensures stands { stands_for self.new ≡ stands_for self.old }
+        ensures cause { HasCause (faults self.old) (faults self.new) result }
+        ensures counted { questions self.new ≡ one_more (questions self.old) }
+        ensures told { Tells (Exists p.now) result (told self.new) };
+
     /// The bytes of a file.
     fn read(&mut self, alloc: Global, p: &str) -> Result<Option<Bytes>, ReadError>
         requires { IsCleanPath p.now }
-        ensures reply { IfOk result (λ o. (t : Files) → IsTrue (stands_for self.old t) → reply t (Read p.now) ≡ Content o) }
+        ensures reply { IfOk result (λ o. (t : Files) → IsTrue (stands_for self.old t) → reply t (Read p.now) ≡ BytesReply o) }
         ensures stands { stands_for self.new ≡ stands_for self.old }
         ensures cause { HasCause (faults self.old) (faults self.new) result }
         ensures counted { questions self.new ≡ one_more (questions self.old) }
         ensures told { Tells (Read p.now) result (told self.new) };
+
+    /// The canonical name of a file.
+    fn canonical(&mut self, alloc: Global, p: &str) -> Result<Option<Text>, ReadError>
+        requires { IsCleanPath p.now }
+        ensures reply { IfOk result (λ o. (t : Files) → IsTrue (stands_for self.old t) → reply t (Canon p.now) ≡ Name o) }
+        ensures stands { stands_for self.new ≡ stands_for self.old }
+        ensures cause { HasCause (faults self.old) (faults self.new) result }
+        ensures counted { questions self.new ≡ one_more (questions self.old) }
+        ensures told { Tells (Canon p.now) result (told self.new) };
 }
