@@ -1,2 +1,5 @@
 pub mod Bools
 pub mod Paths
+pub mod Parts
+pub mod Below
+pub mod CleanTexts

@@ -6,7 +6,7 @@ use Rattle.std.proofs.lemmas.List.{append_cancel_right, take-append-drop, drop_m
 use Rattle.sugar_path.specs.Path.{Path, IsName, IsPath, has_no_slash, steps, with_byte, with_bytes, names_in, IsSteps}
 use Rattle.sugar_path.proofs.Bools.{and_left, and_right}
 
-with_bytes-append : (p : Path) (s t : List ℕ) → with_bytes p (s ++ t) ≡ with_bytes (with_bytes p s) t
+pub with_bytes-append : (p : Path) (s t : List ℕ) → with_bytes p (s ++ t) ≡ with_bytes (with_bytes p s) t
 with_bytes-append p [] t = refl
 with_bytes-append p (c ∷ s) t = with_bytes-append (with_byte p c) s t
 
@@ -23,7 +23,7 @@ slash-begins : (p : Path) → with_byte p 47 ≡ [] ∷ p
 slash-begins [] = refl
 slash-begins (n ∷ p) = refl
 
-no_slash-name : (n : List ℕ) → IsName n → has_no_slash n ≡ true
+pub no_slash-name : (n : List ℕ) → IsName n → has_no_slash n ≡ true
 no_slash-name n h = and_right (not (bytes_eq n []) && not (bytes_eq n (46 ∷ [])) && not (bytes_eq n (46 ∷ 46 ∷ []))) (has_no_slash n) h
 
 names_in-last : (t n : List ℕ) → has_no_slash n ≡ true → names_in (t ++ 47 ∷ n) ≡ n ∷ names_in t
@@ -75,3 +75,14 @@ names_in-none t h none = by_names (names_in t) h.text
     by_names : (p : Path) → t ≡ steps p → p ≡ []
     by_names [] is = refl
     by_names (n ∷ p) is = absurd (none (length (steps p)) (rw is (omega (arith, length-append (steps p) (47 ∷ n)))) (rw is (get_or-append_seam (steps p) 47 n 0)))
+
+-- the names in the text of a path are the path
+pub names_in-steps : (p : Path) → IsPath p → names_in (steps p) ≡ p
+names_in-steps [] h = refl
+names_in-steps (n ∷ p) h = names_in-child (steps p) n h.0 ∙ ap (λ q. n ∷ q) (names_in-steps p h.1)
+
+pub IsSteps-steps : (p : Path) → IsPath p → IsSteps (steps p)
+IsSteps-steps p h = record {
+  names = let P : Path → Type 0 = IsPath in subst P (sym (names_in-steps p h)) h;
+  text = ap steps (sym (names_in-steps p h));
+}

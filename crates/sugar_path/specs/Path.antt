@@ -68,6 +68,10 @@ is_absolute t = get_or t 0 0 == 47
 abbrev pub parts : List ℕ → List (List ℕ)
 parts t = slice_split (λ b. b == 47) t
 
+-- a part that is a name: neither empty, `.` nor `..`
+abbrev pub is_plain : List ℕ → Bool
+is_plain part = not (bytes_eq part []) && not (bytes_eq part (46 ∷ [])) && not (bytes_eq part (46 ∷ 46 ∷ []))
+
 -- a path read on by one part: an empty one and `.` stay, `..` goes to the folder above, where `/` stays, and a name goes to the child
 abbrev pub by_part : Path → List ℕ → Path
 by_part p part =

@@ -1,8 +1,12 @@
 // A clean absolute path, seen as the list of its names, the last one first.
-ghost use Rattle.std.specs.Prelude.{◌≡◌, [], ◌∷◌, IfOk, not};
-ghost use Rattle.sugar_path.specs.Path.{IsName, IsCleanPath, text_of, parent, is_root};
+ghost use Rattle.std.specs.Prelude.{◌≡◌, [], ◌∷◌, IfOk, IsTrue, OnOk, OnErr, cond, not};
+ghost use Rattle.sugar_path.specs.Path.{IsName, IsPath, IsCleanPath, has_no_slash, text_of, parent, is_root, is_absolute, by_part, by_parts, parts, path_in, path_eq, clean, below};
+ghost use Rattle.std.specs.Cmp.{partial_equiv_from_equiv};
+ghost use Rattle.sugar_path.specs.PathEq.{path_eq-equivalence};
 
+use crate::plain::Text;
 use std::alloc::{AllocError, Global};
+use std::fmt;
 use std::marker::Model;
 
 #[derive(Drop)]
@@ -34,9 +38,58 @@ impl CleanPath {
         }
     }
 
+    /// The path that a clean absolute text names.
+    pub fn of(alloc: Global, text: &str) -> Result<CleanPath, AllocError>
+        requires { IsCleanPath text.now }
+        ensures { IfOk result (λ p. p ≡ path_in text.now) }
+    {
+        let steps = if text == "/" { "" } else { text };
+        Ok(CleanPath {
+            steps: String::from_str(alloc, steps)?,
+        })
+    }
+
+    /// A text read from a folder, with `.`, `..` and separators resolved lexically. An absolute text is read from `/`.
+    #[tactic(auto, unfolding(crate::specs::Path::clean))]
+    pub fn read(alloc: Global, folder: &CleanPath, text: &str) -> Result<CleanPath, AllocError>
+        ensures { IfOk result (λ p. p ≡ clean folder.now text.now) }
+    {
+        if text.starts_with('/') {
+            return CleanPath::root(alloc).follow_all(text);
+        }
+        folder.try_clone(alloc)?.follow_all(text)
+    }
+
+    // Goes on by the parts of a text.
+    pub(crate) fn follow_all(mut self, text: &str) -> Result<CleanPath, AllocError>
+        ensures { IfOk result (λ p. p ≡ by_parts self (parts text.now)) }
+    {
+        for part in text.split('/') {
+            self.follow(part)?;
+        }
+        Ok(self)
+    }
+
+    // Goes on by one part of a text.
+    fn follow(&mut self, part: &str) -> Result<(), AllocError>
+        requires { IsTrue (has_no_slash part.now) }
+        ensures { OnOk result (self.new ≡ by_part self.old part.now) }
+    {
+        if part == "" || part == "." {
+            return Ok(());
+        }
+        if part == ".." {
+            let _ = self.go_up();
+            return Ok(());
+        }
+        self.go_down(part)
+    }
+
+    /// The path's text: `/`, or each name behind a `/`.
     pub fn as_str(&self) -> &str
         ensures text { result.now ≡ text_of self.now }
         ensures clean { IsCleanPath result.now }
+        ensures names { IsPath self.now }
     {
         if self.steps.is_empty() {
             "/"
@@ -45,6 +98,46 @@ impl CleanPath {
         }
     }
 
+    /// The path as its text.
+    pub fn into_text(self) -> Result<Text, AllocError>
+        ensures text { IfOk result (λ t. t ≡ text_of self) }
+        ensures clean { IfOk result IsCleanPath }
+    {
+        let CleanPath { mut steps } = self;
+        if steps.is_empty() {
+            steps.push_str("/")?;
+        }
+        Ok(Text::from(steps))
+    }
+
+    /// The path's text as a value of its own.
+    pub fn to_text(&self, alloc: Global) -> Result<Text, AllocError>
+        ensures text { IfOk result (λ t. t ≡ text_of self.now) }
+        ensures clean { IfOk result IsCleanPath }
+    {
+        let text = Text::of(alloc, self.as_str())?;
+        Ok(text)
+    }
+
+    /// Whether the path is `/`.
+    pub fn is_root(&self) -> bool
+        ensures { result ≡ is_root self.now }
+    {
+        self.steps.is_empty()
+    }
+
+    /// Whether the path is the location or stands somewhere below it.
+    pub fn is_below(&self, location: &CleanPath) -> bool
+        ensures { result ≡ below self.now location.now }
+    {
+        let steps = self.steps.as_str().as_bytes();
+        match steps.strip_prefix(location.steps.as_str().as_bytes()) {
+            None => false,
+            Some(rest) => rest.is_empty() || rest[0] == b'/',
+        }
+    }
+
+    /// The child of that name.
     pub fn child(&self, alloc: Global, name: &str) -> Result<CleanPath, AllocError>
         requires { IsName name.now }
         ensures { IfOk result (λ p. p ≡ name.now ∷ self.now) }
@@ -53,6 +146,18 @@ impl CleanPath {
         steps.push_str("/")?;
         steps.push_str(name)?;
         Ok(CleanPath { steps })
+    }
+
+    /// Goes to the child of that name.
+    pub fn go_down(&mut self, name: &str) -> Result<(), AllocError>
+        requires { IsName name.now }
+        ensures ok { OnOk result (self.new ≡ name.now ∷ self.old) }
+        ensures err { OnErr result (self.new ≡ self.old) }
+    {
+        self.steps.reserve(name.len() + 1)?;
+        self.steps.push_str("/")?;
+        self.steps.push_str(name)?;
+        Ok(())
     }
 
     /// Goes to the folder that it stands in, and tells whether there is one: `/` stays.
@@ -75,5 +180,25 @@ impl CleanPath {
         Ok(CleanPath {
             steps: String::from_str(alloc, self.steps.as_str())?,
         })
+    }
+}
+
+impl PartialEq for CleanPath {
+    ghost eq = { path_eq };
+
+    ghost laws = { partial_equiv_from_equiv path_eq-equivalence };
+
+    fn eq(&self, other: &Self) -> bool {
+        self.steps.as_str() == other.steps.as_str()
+    }
+}
+
+impl Eq for CleanPath {
+    ghost laws = { path_eq-equivalence };
+}
+
+impl fmt::Debug for CleanPath {
+    fn fmt<W: fmt::Write>(&self, f: &mut fmt::Formatter<W>) -> fmt::Result {
+        fmt::Debug::fmt(&self.as_str(), f)
     }
 }
