@@ -1,25 +1,38 @@
 -- The package name and the subpath of a bare specifier.
-use Rattle.std.specs.Prelude.{ℕ, Bool, ◌==◌, cond, List, [], ◌∷◌, ◌++◌, Option, Some, None, get_or, option_map}
+use Rattle.std.specs.Prelude.{◌≡◌, ℕ, Bool, ◌==◌, cond, List, [], ◌∷◌, ◌++◌, length, Option, Some, None, get_or, nat_lt}
+use Rattle.std.specs.List.{position_or_len, before_first, after_first}
+use Rattle.pnp_core.specs.declared.error.Error.{Error}
+use Rattle.pnp_core.specs.declared.error.Error.TheVariants.{BadSpecifier, FailedManifestHydration, TreeFault, NoMemory}
+use Rattle.pnp_core.specs.Wording.{bad_specifier}
 
--- what stands before the first `/`, and after it; none where there is no `/`
-abbrev pub cut_at_slash : List ℕ → Option (List ℕ × List ℕ)
-cut_at_slash [] = None
-cut_at_slash (c ∷ cs) = cond (c == 47) (Some ([], cs)) (option_map (λ cut. (c ∷ cut.0, cut.1)) (cut_at_slash cs))
+abbrev pub is_slash : ℕ → Bool
+is_slash c = c == 47
+
+abbrev pub has_slash : List ℕ → Bool
+has_slash t = nat_lt (position_or_len is_slash t) (length t)
 
 abbrev pub is_scoped : List ℕ → Bool
 is_scoped t = get_or t 0 0 == 64
 
--- a name up to the first `/` and what follows it
-abbrev pub split_at_slash : List ℕ → Option (List ℕ × List ℕ) → List ℕ × Option (List ℕ)
-split_at_slash t None = (t, None)
-split_at_slash t (Some cut) = (cut.0, Some cut.1)
+-- what stands before the first `/`, and all that follows it, where there is one
+abbrev pub split_unscoped : List ℕ → List ℕ × Option (List ℕ)
+split_unscoped t = (before_first is_slash t, cond (has_slash t) (Some (after_first is_slash t)) None)
 
--- a scope, a `/`, and then a name as without scope
-abbrev pub scoped : Option (List ℕ × List ℕ) → Option (List ℕ × Option (List ℕ))
-scoped None = None
-scoped (Some cut) = let rest = split_at_slash cut.1 (cut_at_slash cut.1) in Some (cut.0 ++ 47 ∷ rest.0, rest.1)
+-- a scope, a `/`, and then a name as one without scope
+abbrev pub behind_scope : List ℕ → List ℕ × Option (List ℕ) → List ℕ × Option (List ℕ)
+behind_scope scope rest = (scope ++ 47 ∷ rest.0, rest.1)
+
+abbrev pub split_scoped : List ℕ → Option (List ℕ × Option (List ℕ))
+split_scoped t = cond (has_slash t) (Some (behind_scope (before_first is_slash t) (split_unscoped (after_first is_slash t)))) None
 
 -- The name and the subpath: the name ends before the first `/`, or before the second where the text begins with `@`; the subpath is all that follows.
 -- None where the text begins with `@` and holds no `/`.
 abbrev pub split_bare : List ℕ → Option (List ℕ × Option (List ℕ))
-split_bare t = cond (is_scoped t) (scoped (cut_at_slash t)) (Some (split_at_slash t (cut_at_slash t)))
+split_bare t = cond (is_scoped t) (split_scoped t) (Some (split_unscoped t))
+
+-- the only refusal is that of a text that isn't split
+abbrev pub IsSplitRefusal : List ℕ → Error → Type 0
+IsSplitRefusal t (BadSpecifier refused) = (split_bare t ≡ None) × (refused ≡ bad_specifier t)
+IsSplitRefusal t (FailedManifestHydration refused) = ⊥
+IsSplitRefusal t TreeFault = ⊥
+IsSplitRefusal t NoMemory = Unit {0}

@@ -8,4 +8,5 @@ pub mod Located
 pub mod Binding
 pub mod Wording
 pub mod Refusal
+pub mod Nearest
 pub mod Loading

@@ -1,4 +1,6 @@
 // What the calls refuse.
+ghost use Rattle.std.specs.Prelude.{◌≡◌};
+
 use crate::PackageLocator;
 use std::alloc::AllocError;
 use sugar_path::Text;
@@ -66,4 +68,37 @@ pub enum ReadManifestError {
     BadJson,
     #[error("out of memory")]
     NoMemory,
+}
+
+impl From<AllocError> for Error {
+    ghost use Rattle.pnp_core.specs.declared.error.Error.TheVariants.{NoMemory};
+
+    ghost from_gives = { λ _ e. e ≡ NoMemory };
+
+    fn from(_: AllocError) -> Self {
+        Error::NoMemory
+    }
+}
+
+impl From<ReadError> for Error {
+    ghost use Rattle.pnp_core.specs.Refusal.{into};
+
+    ghost from_gives = { λ e raised. raised ≡ into e };
+
+    fn from(e: ReadError) -> Self {
+        match e {
+            ReadError::Fault => Error::TreeFault,
+            ReadError::NoMemory => Error::NoMemory,
+        }
+    }
+}
+
+impl From<AllocError> for ReadManifestError {
+    ghost use Rattle.pnp_core.specs.declared.error.ReadManifestError.TheVariants.{NoMemory};
+
+    ghost from_gives = { λ _ e. e ≡ NoMemory };
+
+    fn from(_: AllocError) -> Self {
+        ReadManifestError::NoMemory
+    }
 }

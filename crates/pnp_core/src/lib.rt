@@ -1,10 +1,12 @@
 //! Yarn's Plug'n'Play manifests: which file holds one, what it says, which package owns a path, and what a name is bound to.
 #![tactic(auto)]
 
+mod bare_identifier;
 mod error;
 mod manifest;
 mod trie;
 
+pub use bare_identifier::parse_bare_identifier;
 pub use error::{
     BadSpecifier, Error, FailedManifestHydration, HydrationCause, ReadManifestError,
     UndeclaredDependency,
