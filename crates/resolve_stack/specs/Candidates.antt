@@ -1,0 +1,86 @@
+-- File candidates: the paths at which the text of a specifier may be a file, in order, as bundlers and TypeScript's resolver try them.
+use Rattle.std.specs.Prelude.{ℕ, ◌==◌, ◌&&◌, ◌||◌, Bool, true, false, not, cond, List, [], ◌∷◌, ◌++◌, map, filter, Option, Some, None, bytes_eq, codes, drop}
+use Rattle.std.specs.List.{list_any, before_last, after_last, last_or}
+use Rattle.sugar_path.specs.Path.{Path, parts, clean}
+
+abbrev pub is_dot : ℕ → Bool
+is_dot c = c == 46
+
+-- a name has an extension where a dot stands in it behind its first byte
+abbrev pub has_extension : List ℕ → Bool
+has_extension n = list_any is_dot (drop 1 n)
+
+-- what follows the last dot of a name
+abbrev pub extension : List ℕ → List ℕ
+extension n = after_last is_dot n
+
+-- what stands before the last dot of a name
+abbrev pub stem : List ℕ → List ℕ
+stem n = before_last is_dot n
+
+-- the endings that a name is tried with, in order
+unfoldable pub endings : List (List ℕ)
+endings = codes ".ts" ∷ codes ".tsx" ∷ codes ".js" ∷ codes ".jsx" ∷ codes ".node" ∷ []
+
+-- the endings of the TypeScript source that a written extension may stand for
+unfoldable pub source_endings : List ℕ → List (List ℕ)
+source_endings e =
+    cond (bytes_eq e (codes "js") || bytes_eq e (codes "jsx")) (codes ".ts" ∷ codes ".tsx" ∷ [])
+    (cond (bytes_eq e (codes "mjs")) (codes ".mts" ∷ [])
+    (cond (bytes_eq e (codes "cjs")) (codes ".cts" ∷ []) []))
+
+abbrev pub with_endings : List ℕ → List (List ℕ) → List (List ℕ)
+with_endings n es = map (λ e. n ++ e) es
+
+-- the name itself, where the text is closed
+abbrev pub itself : Bool → List ℕ → List (List ℕ)
+itself closed n = cond closed (n ∷ []) []
+
+-- the names that are tried for a name with an extension: the name itself, the endings, and the sources that the extension stands for
+abbrev pub names_with_extension : List ℕ → Bool → List ℕ → List ℕ → List (List ℕ)
+names_with_extension n closed base e = itself closed n ++ (with_endings n endings ++ with_endings base (source_endings e))
+
+-- the names that are tried for a name without one: `.js` first
+abbrev pub names_without_extension : List ℕ → Bool → List (List ℕ)
+names_without_extension n closed = (n ++ codes ".js") ∷ (itself closed n ++ with_endings n endings)
+
+-- the names that are tried for a name, in order
+abbrev pub candidate_names : List ℕ → Bool → List (List ℕ)
+candidate_names n closed =
+    cond (has_extension n)
+    (names_with_extension n closed (stem n) (extension n))
+    (names_without_extension n closed)
+
+-- names in a folder
+abbrev pub in_folder : Path → List (List ℕ) → List Path
+in_folder d names = map (λ m. m ∷ d) names
+
+-- a part of a text that takes a step: it is neither empty nor `.`
+abbrev pub is_step : List ℕ → Bool
+is_step part = not (bytes_eq part []) && not (bytes_eq part (46 ∷ []))
+
+-- a step that is no `..` is a name
+abbrev pub is_named_by : Option (List ℕ) → Bool
+is_named_by None = false
+is_named_by (Some part) = not (bytes_eq part (46 ∷ 46 ∷ []))
+
+-- a text is named where its last component, with trailing `/` and `.` dropped, is a name
+abbrev pub is_named : List ℕ → Bool
+is_named t = is_named_by (last_or None (filter is_step (parts t)))
+
+-- a text is closed where what follows its last `/` is neither empty nor `.` nor `..`
+abbrev pub is_closed_by : Option (List ℕ) → Bool
+is_closed_by None = false
+is_closed_by (Some part) = is_step part && not (bytes_eq part (46 ∷ 46 ∷ []))
+
+abbrev pub is_closed : List ℕ → Bool
+is_closed t = is_closed_by (last_or None (parts t))
+
+-- the candidates for the last name of a path, each in that name's folder; `/` has none
+abbrev pub candidates_at : Path → Bool → List Path
+candidates_at [] closed = []
+candidates_at (n ∷ d) closed = in_folder d (candidate_names n closed)
+
+-- the file candidates of a text that is read from a folder, in order: a text that isn't named has none
+abbrev pub files : Path → List ℕ → List Path
+files cwd t = cond (is_named t) (candidates_at (clean cwd t) (is_closed t)) []

@@ -1,0 +1,14 @@
+-- What a project is known by, and when settings make none.
+use Rattle.std.specs.Prelude.{◌≡◌, ℕ, List, codes}
+use Rattle.sugar_path.specs.Path.{Path, IsCleanPath}
+use Rattle.resolve_stack.specs.declared.project.ProjectError.{ProjectError}
+use Rattle.resolve_stack.specs.declared.project.ProjectError.TheVariants.{SettingsFault, NoMemory}
+
+-- the settings of a project
+pub record Known : Type 0 where
+  pub cwd : Path
+
+-- why a working folder makes no project: it isn't a clean absolute path. Want of memory needs no cause
+abbrev pub IsFaultOf : List ℕ → ProjectError → Type 0
+IsFaultOf cwd (SettingsFault field) = (field ≡ codes "cwd") × ¬ IsCleanPath cwd
+IsFaultOf cwd NoMemory = Unit {0}

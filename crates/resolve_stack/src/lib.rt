@@ -1,0 +1,13 @@
+//! The file that a specifier means, asked from an importer, with the trail that decides it.
+#![tactic(auto)]
+
+mod candidates;
+mod project;
+mod resolution;
+mod search;
+mod shape;
+mod verdict;
+
+pub use project::{Project, ProjectError, Settings};
+pub use resolution::{FileName, Found, Resolution, Via};
+pub use verdict::{JoinRefusal, Outcome, Verdict};
