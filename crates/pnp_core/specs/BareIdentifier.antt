@@ -1,5 +1,5 @@
 -- The package name and the subpath of a bare specifier.
-use Rattle.std.specs.Prelude.{◌≡◌, ℕ, Bool, ◌==◌, cond, List, [], ◌∷◌, ◌++◌, length, Option, Some, None, get_or, nat_lt}
+use Rattle.std.specs.Prelude.{◌≡◌, ℕ, Bool, ◌==◌, cond, List, ◌∷◌, ◌++◌, length, Option, Some, None, get_or, nat_lt}
 use Rattle.std.specs.List.{position_or_len, before_first, after_first}
 use Rattle.pnp_core.specs.declared.error.Error.{Error}
 use Rattle.pnp_core.specs.declared.error.Error.TheVariants.{BadSpecifier, FailedManifestHydration, TreeFault, NoMemory}

@@ -1,9 +1,11 @@
 pub mod NormalizePath
+pub mod Slashed
 pub mod BareIdentifier
 pub mod Payload
 pub mod Manifest
 pub mod ManifestReading
 pub mod Owner
+pub mod Trie
 pub mod Located
 pub mod Binding
 pub mod Wording

@@ -1,10 +1,10 @@
 -- What a contract sees of a manifest, and what its locations hold.
 use Rattle.std.specs.Prelude.{◌≡◌, IsTrue, map}
-use Rattle.std.specs.Map.{lookup}
-use Rattle.sugar_path.specs.Path.{Path, is_absolute, path_eq}
+use Rattle.sugar_path.specs.Path.{Path, IsPath, is_absolute}
 use Rattle.pnp_core.specs.declared.manifest.Manifest.TheInside.{Inside}
 use Rattle.pnp_core.specs.Manifest.{Contents, rows}
 use Rattle.pnp_core.specs.Owner.{last_at}
+use Rattle.pnp_core.specs.Trie.{value_at}
 
 abbrev pub contents_of : Inside → Contents
 contents_of m = record {
@@ -20,4 +20,4 @@ contents_of m = record {
 
 -- once a manifest has its folder, its trie has the last row's locator at each location of its rows, and no other location
 abbrev pub HoldsLocations : Inside → Type 0
-HoldsLocations m = IsTrue (is_absolute m.manifest_dir) → (l : Path) → lookup (λ k. path_eq k l) m.location_trie ≡ last_at (rows (contents_of m).package_registry_data) l
+HoldsLocations m = IsTrue (is_absolute m.manifest_dir) → (l : Path) → IsPath l → value_at m.location_trie l ≡ last_at (rows (contents_of m).package_registry_data) l

@@ -1,5 +1,5 @@
 -- Which package owns a path.
-use Rattle.std.specs.Prelude.{◌≡◌, Bool, not, ◌&&◌, cond, IsTrue, IsSome, List, [], ◌∷◌, Option, Some, None}
+use Rattle.std.specs.Prelude.{◌≡◌, ℕ, Bool, not, ◌&&◌, cond, IsTrue, IsSome, List, [], ◌∷◌, Option, Some, None}
 use Rattle.std.specs.List.{AllByRecursion}
 use Rattle.sugar_path.specs.Path.{Path, IsCleanPath, is_absolute, path_eq, text_of}
 use Rattle.pnp_core.specs.declared.manifest.PackageLocator.{PackageLocator}
@@ -21,9 +21,12 @@ abbrev pub nearest_owner : List Row → Path → Option PackageLocator
 nearest_owner rs [] = last_at rs []
 nearest_owner rs (n ∷ p) = or_else (last_at rs (n ∷ p)) (nearest_owner rs p)
 
--- the owner of a path: its text is read as a manifest reads one, so `\` separates names
+-- the owner of the path that an absolute text names; `\` separates names there, as in a manifest
+abbrev pub owner_of_text : Contents → List ℕ → Option PackageLocator
+owner_of_text m t = nearest_owner (rows m.package_registry_data) (location_path t)
+
 abbrev pub owner : Contents → Path → Option PackageLocator
-owner m p = nearest_owner (rows m.package_registry_data) (location_path (text_of p))
+owner m p = owner_of_text m (text_of p)
 
 -- a row's location is an absolute text in normal form
 abbrev pub IsLocated : Row → Type 0

@@ -28,10 +28,7 @@ fn unscoped(alloc: Global, text: &str) -> Result<(Text, Option<Text>), AllocErro
 {
     match text.split_once('/') {
         None => Ok((Text::of(alloc, text)?, None)),
-        Some((name, subpath)) => Ok((
-            Text::of(alloc, name)?,
-            Some(Text::of(alloc, subpath)?),
-        )),
+        Some((name, subpath)) => Ok((Text::of(alloc, name)?, Some(Text::of(alloc, subpath)?))),
     }
 }
 

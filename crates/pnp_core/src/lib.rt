@@ -4,6 +4,7 @@
 mod bare_identifier;
 mod error;
 mod manifest;
+mod normalize;
 mod trie;
 
 pub use bare_identifier::parse_bare_identifier;
@@ -12,4 +13,5 @@ pub use error::{
     UndeclaredDependency,
 };
 pub use manifest::{Binding, Manifest, PackageDependency, PackageInformation, PackageLocator};
+pub use normalize::normalize_path;
 pub use trie::Trie;

@@ -1,0 +1,12 @@
+use Rattle.std.proofs.Common.{◌≡◌, ◌++◌, string_bytes, length}
+use denote.Text.{Utf8}
+use denote.Shadow.{shadow}
+use Rattle.pnp_core.specs.Slashed.{slashed}
+use Rattle.pnp_core.proofs.normalize.with_slashes.Given as goal
+
+-- what is written and what is left are the whole
+abbrev pub invariant-loop-front : goal.invariant-loop-front
+invariant-loop-front l = shadow (Utf8 l.rest) × (string_bytes l.slashed ++ slashed l.rest ≡ slashed l.text)
+
+abbrev pub decreases-loop-front : goal.decreases-loop-front
+decreases-loop-front l = length l.rest

@@ -1,0 +1,116 @@
+// The normal form of the paths in a manifest.
+ghost use Rattle.std.specs.Prelude.{◌≡◌, [], List, ℕ, IfOk, OnOk, IsTrue, string_bytes, map, reverse};
+ghost use Rattle.sugar_path.specs.Path.{parts};
+ghost use Rattle.pnp_core.specs.NormalizePath.{normalize_path, normal_names, location_path, by_relative_part, by_relative_parts, relative_names, joined, with_end};
+ghost use Rattle.pnp_core.specs.Slashed.{slashed, names_of};
+
+use std::alloc::{AllocError, Global};
+use sugar_path::{CleanPath, Text};
+
+/// A path's text with `.`, `..` and repeated separators resolved; `\` separates names as `/` does.
+/// A `/` at the end stays, and where nothing is left of a relative text, it is `.`.
+pub fn normalize_path(alloc: Global, text: &str) -> Result<Text, AllocError>
+    ensures { IfOk result (λ t. t ≡ normalize_path text.now) }
+{
+    let names = normal_names(alloc, text)?;
+    if names.is_empty() {
+        return Text::of(alloc, ".");
+    }
+    let ended = with_end(text, names)?;
+    Ok(Text::from(ended))
+}
+
+// Keeps the `/` at the end of a text.
+fn with_end(text: &str, mut names: String) -> Result<String, AllocError>
+    ensures { IfOk result (λ s. string_bytes s ≡ with_end text.now (string_bytes names)) }
+{
+    if !text.ends_with('/') {
+        return Ok(names);
+    }
+    if names.as_str().ends_with('/') {
+        return Ok(names);
+    }
+    names.push_str("/")?;
+    Ok(names)
+}
+
+// The names of a text behind its root, if it has one.
+fn normal_names(alloc: Global, text: &str) -> Result<String, AllocError>
+    ensures { IfOk result (λ s. string_bytes s ≡ normal_names text.now) }
+{
+    if text.starts_with('/') {
+        return Ok(String::from(location(alloc, text)?.into_text()?));
+    }
+    let slashed = with_slashes(alloc, text)?;
+    let names = relative_text(alloc, slashed.as_str())?;
+    Ok(names)
+}
+
+// The path that an absolute text names.
+pub(crate) fn location(alloc: Global, text: &str) -> Result<CleanPath, AllocError>
+    ensures { IfOk result (λ p. p ≡ location_path text.now) }
+{
+    let slashed = with_slashes(alloc, text)?;
+    let path = CleanPath::read(alloc, &CleanPath::root(alloc), slashed.as_str())?;
+    Ok(path)
+}
+
+// The text with `/` in place of `\`.
+fn with_slashes(alloc: Global, text: &str) -> Result<String, AllocError>
+    ensures { IfOk result (λ s. string_bytes s ≡ slashed text.now) }
+{
+    let mut slashed = String::new(alloc);
+    let mut rest = text;
+    while let Some((front, behind)) = rest.split_once('\\') {
+        slashed.push_str(front)?;
+        slashed.push_str("/")?;
+        rest = behind;
+    }
+    slashed.push_str(rest)?;
+    Ok(slashed)
+}
+
+// The names of a relative text, with a `/` between each two.
+fn relative_text(alloc: Global, text: &str) -> Result<String, AllocError>
+    ensures { IfOk result (λ s. string_bytes s ≡ joined (by_relative_parts [] (parts text.now))) }
+{
+    let mut names = Vec::new(alloc);
+    for part in text.split('/') {
+        follow_relative(&mut names, part)?;
+    }
+    let text = join_names(alloc, &names)?;
+    Ok(text)
+}
+
+// Goes on by one part of a relative text.
+fn follow_relative<'a>(names: &mut Vec<&'a str>, part: &'a str) -> Result<(), AllocError>
+    ensures { OnOk result (names_of names.new.items ≡ by_relative_part (names_of names.old.items) part.now) }
+{
+    if part == "" || part == "." {
+        return Ok(());
+    }
+    if part != ".." {
+        names.push(part)?;
+        return Ok(());
+    }
+    match names.last() {
+        Some(name) if *name != ".." => {
+            let _ = names.pop();
+        }
+        _ => names.push(part)?,
+    }
+    Ok(())
+}
+
+fn join_names(alloc: Global, names: &[&str]) -> Result<String, AllocError>
+    ensures { IfOk result (λ s. string_bytes s ≡ joined (names_of names.now)) }
+{
+    let mut text = String::new(alloc);
+    for (index, name) in names.iter().enumerate() {
+        if index > 0 {
+            text.push_str("/")?;
+        }
+        text.push_str(name)?;
+    }
+    Ok(text)
+}
