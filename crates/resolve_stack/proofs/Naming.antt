@@ -36,9 +36,13 @@ long_name a b c cs h = by_first (a == 46) (b == 46) refl refl
     by_first true false p q = rw (p, q) h
     by_first false y p q = rw p h
 
-is_false : (b : Bool) → not b ≡ true → b ≡ false
+pub is_false : (b : Bool) → not b ≡ true → b ≡ false
 is_false true h = cc
 is_false false h = refl
+
+pub is_true : (b : Bool) → not b ≡ false → b ≡ true
+is_true true h = refl
+is_true false h = cc
 
 -- a base without a slash with an ending is a name
 pub is_name-ending : (n e : List ℕ) → has_no_slash n ≡ true → is_ending e ≡ true → IsName (n ++ e)
