@@ -4,3 +4,4 @@ pub mod Plan
 pub mod Asks
 pub mod First
 pub mod Recorder
+pub mod Builtins

@@ -2,12 +2,14 @@
 #![tactic(auto)]
 
 mod asker;
+mod builtins;
 mod question;
 mod recorder;
 mod trail;
 mod tree;
 
 pub use asker::Asker;
+pub use builtins::{NODE_BUILTINS, is_node_builtin};
 pub use question::{Question, Reply};
 pub use recorder::Recorder;
 pub use trail::Trail;
