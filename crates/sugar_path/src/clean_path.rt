@@ -1,5 +1,5 @@
 // A clean absolute path, seen as the list of its names, the last one first.
-ghost use Rattle.std.specs.Prelude.{◌≡◌, [], ◌∷◌, IfOk, IsTrue, OnOk, OnErr, cond, not};
+ghost use Rattle.std.specs.Prelude.{◌≡◌, [], ◌∷◌, IfOk, IsTrue, MatchOption, OnOk, OnErr, cond, not};
 ghost use Rattle.sugar_path.specs.Path.{IsName, IsPath, IsCleanPath, has_no_slash, text_of, parent, is_root, is_absolute, by_part, by_parts, parts, path_in, path_eq, clean, below};
 ghost use Rattle.std.specs.Cmp.{partial_equiv_from_equiv};
 ghost use Rattle.sugar_path.specs.PathEq.{path_eq-equivalence};
@@ -124,6 +124,17 @@ impl CleanPath {
         ensures { result ≡ is_root self.now }
     {
         self.steps.is_empty()
+    }
+
+    /// The last name of the path. `/` has none.
+    pub fn last_name(&self) -> Option<&str>
+        ensures { MatchOption result (self.now ≡ []) (λ n. (self.now ≡ n.now ∷ parent self.now) × IsName n.now) }
+    {
+        let steps = self.steps.as_str();
+        match steps.rfind('/') {
+            None => None,
+            Some(at) => Some(&steps[at + 1..]),
+        }
     }
 
     /// Whether the path is the location or stands somewhere below it.
