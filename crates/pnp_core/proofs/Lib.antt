@@ -1,2 +1,4 @@
 pub mod Slashes
 pub mod Tries
+pub mod Owners
+pub mod Walking

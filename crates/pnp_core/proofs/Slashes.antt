@@ -2,10 +2,10 @@
 use Rattle.std.proofs.Common.{◌≡◌, ℕ, suc, ◌+◌, ◌-◌, ◌<◌, ◌==◌, ◌||◌, Bool, true, false, not, cond, List, [], ◌∷◌, ◌++◌, length, get_or, take, drop, map, reverse, refl, ap, subst, ◌∙◌, arith}
 use Rattle.std.specs.List.{onto_first, position_or_len, before_first, after_first}
 use Rattle.std.proofs.lemmas.List.{map-append, reverse-append}
-use Rattle.sugar_path.specs.Path.{Path, IsPath, parts, is_absolute, ends_in_slash, by_parts, clean}
+use Rattle.sugar_path.specs.Path.{Path, IsPath, IsCleanPath, parts, is_absolute, ends_in_slash, by_parts, clean}
 use Rattle.pnp_core.specs.NormalizePath.{pieces, location_path, by_relative_part, by_relative_parts, relative_names}
 use Rattle.pnp_core.specs.Slashed.{slashed, names_of}
-use Rattle.sugar_path.proofs.Parts.{IsPath-clean}
+use Rattle.sugar_path.proofs.Parts.{IsPath-clean, text_of-absolute}
 use denote.Ref.{Bor}
 
 -- a text without `\` stays
@@ -75,3 +75,7 @@ ends_in_slash-last (c ∷ d ∷ cs) = let next : length (c ∷ d ∷ cs) - 1 ≡
 -- what a text names is a path
 pub IsPath-location_path : (t : List ℕ) → IsPath (location_path t)
 IsPath-location_path t = let P : Path → Type 0 = IsPath in subst P (clean-slashed t) (IsPath-clean [] (slashed t) tt)
+
+-- a clean path's text is absolute
+pub clean-is_absolute : (t : List ℕ) → IsCleanPath t → is_absolute t ≡ true
+clean-is_absolute t h = rw h.2 (text_of-absolute h.0)

@@ -2,16 +2,24 @@
 #![tactic(auto)]
 
 mod bare_identifier;
+mod binding;
 mod error;
 mod manifest;
+mod nearest;
 mod normalize;
+mod owner;
+mod registry;
 mod trie;
 
 pub use bare_identifier::parse_bare_identifier;
+pub use binding::{binding_of, is_settled};
 pub use error::{
     BadSpecifier, Error, FailedManifestHydration, HydrationCause, ReadManifestError,
     UndeclaredDependency,
 };
 pub use manifest::{Binding, Manifest, PackageDependency, PackageInformation, PackageLocator};
+pub use nearest::closest_manifest;
 pub use normalize::normalize_path;
+pub use owner::find_locator;
+pub use registry::{get_package, has_package, is_dependency_tree_root, is_excluded_from_fallback};
 pub use trie::Trie;
