@@ -1,11 +1,15 @@
 //! The file that a specifier means, asked from an importer, with the trail that decides it.
 #![tactic(auto)]
 
+mod bound_search;
 mod candidates;
+mod join;
+mod location;
 mod project;
 mod resolution;
 mod search;
 mod shape;
+mod specifier;
 mod verdict;
 
 pub use project::{Project, ProjectError, Settings};
