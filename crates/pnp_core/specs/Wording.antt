@@ -1,6 +1,7 @@
 -- The messages, as texts.
 use Rattle.std.specs.Prelude.{ℕ, Bool, true, false, cond, List, [], ◌∷◌, ◌++◌, codes, bytes_eq}
 use Rattle.sugar_path.specs.Path.{Path, text_of}
+use Rattle.tree_core.specs.Builtins.{is_builtin}
 use Rattle.pnp_core.specs.declared.error.BadSpecifier.{BadSpecifier}
 use Rattle.pnp_core.specs.declared.error.FailedManifestHydration.{FailedManifestHydration}
 use Rattle.pnp_core.specs.declared.error.UndeclaredDependency.{UndeclaredDependency}
@@ -53,9 +54,9 @@ undeclared_message false false o specifier name path =
     ambiguous o.name name (codes "its") ++ required name specifier ++ o.name ++ codes "@" ++ o.reference ++ codes " (via " ++ path ++ codes ")"
 
 -- what is told of a name that its owner doesn't bind, asked by a specifier from a file
-abbrev pub undeclared_of : Bool → Contents → PackageLocator → List ℕ → List ℕ → List ℕ → UndeclaredDependency
-undeclared_of is_builtin m o specifier name path = record {
-  message = undeclared_message is_builtin (is_root m o) o specifier name path;
+abbrev pub undeclared : Contents → PackageLocator → List ℕ → List ℕ → List ℕ → UndeclaredDependency
+undeclared m o specifier name path = record {
+  message = undeclared_message (is_builtin specifier) (is_root m o) o specifier name path;
   request = specifier;
   dependency_name = name;
   issuer_locator = o;

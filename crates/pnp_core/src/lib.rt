@@ -10,6 +10,7 @@ mod normalize;
 mod owner;
 mod registry;
 mod trie;
+mod undeclared;
 
 pub use bare_identifier::parse_bare_identifier;
 pub use binding::{binding_of, is_settled};
@@ -23,3 +24,4 @@ pub use normalize::normalize_path;
 pub use owner::find_locator;
 pub use registry::{get_package, has_package, is_dependency_tree_root, is_excluded_from_fallback};
 pub use trie::Trie;
+pub use undeclared::undeclared_of;
