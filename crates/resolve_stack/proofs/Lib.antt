@@ -2,3 +2,4 @@ pub mod Naming
 pub mod Firsts
 pub mod Shapes
 pub mod Bounds
+pub mod Locations

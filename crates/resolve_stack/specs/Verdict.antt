@@ -13,7 +13,7 @@ use Rattle.pnp_core.specs.Binding.{bind, is_settled}
 use Rattle.pnp_core.specs.Refusal.{Refusal, NoIdentifier, NoManifest}
 use Rattle.pnp_core.specs.Loading.{loading}
 use Rattle.pnp_core.specs.Nearest.{nearest}
-use Rattle.pnp_core.specs.Wording.{undeclared_of}
+use Rattle.pnp_core.specs.Wording.{undeclared}
 use Rattle.tree_core.specs.Builtins.{is_builtin}
 use Rattle.resolve_stack.specs.declared.resolution.FileName.{FileName}
 use Rattle.resolve_stack.specs.declared.resolution.FileName.TheVariants.{Real, Custom, Anon}
@@ -99,7 +99,7 @@ at_location b subpath (Some location) = cond (is_plain location) (bound (via_of 
 -- what the asking package binds the name to
 abbrev pub by_binding : Contents → PackageLocator → List ℕ → List ℕ → Option (List ℕ) → List ℕ → Binding → Plan Verdict
 by_binding m o target name subpath issuer MissingPeer = not_built
-by_binding m o target name subpath issuer Undeclared = Done (Refused (UndeclaredDependency (undeclared_of (is_builtin target) m o target name issuer)))
+by_binding m o target name subpath issuer Undeclared = Done (Refused (UndeclaredDependency (undeclared m o target name issuer)))
 by_binding m o target name subpath issuer (Bound b) = at_location b subpath (location_of m b)
 
 -- the binding of the name that the target begins with. A name that only a fallback could serve isn't searched yet

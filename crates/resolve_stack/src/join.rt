@@ -12,19 +12,17 @@ use crate::specifier::is_node_module;
 use crate::{JoinRefusal, Verdict, Via};
 use pnp_core::{
     Binding, Error, Manifest, PackageLocator, binding_of, find_locator, get_package, has_package,
-    is_settled, parse_bare_identifier,
+    is_settled, parse_bare_identifier, undeclared_of,
 };
 use std::alloc::{AllocError, Global};
 use sugar_path::{CleanPath, Text};
 use tree_core::{Asker, ReadError};
 
-// What is asked for: the package that owns the importer, and the name and the subpath that the specifier has.
-struct Wanted<'a> {
-    owner: &'a PackageLocator,
+// A specifier, and the path of the file that asks for it.
+#[derive(Clone, Copy)]
+struct Asked<'a> {
     target: &'a str,
-    name: Text,
-    subpath: Option<Text>,
-    issuer: &'a CleanPath,
+    issuer: &'a str,
 }
 
 // The search at the location of a bound package's row.
@@ -52,4 +50,77 @@ fn search_package<R: Asker>(
         location: folder.to_text(alloc)?,
     };
     search_bound(alloc, tree, via, &folder, subpath)
+}
+
+// What the owner's row binds a name to.
+fn bind_name<R: Asker>(
+    alloc: Global,
+    tree: &mut R,
+    manifest: &Manifest,
+    owner: &PackageLocator,
+    asked: &Asked<'_>,
+    name: &Text,
+    subpath: &Option<Text>,
+) -> Result<Verdict, ReadError>
+    ensures { Asks (R.asking tree.old) (R.asking tree.new) result (by_identifier manifest.now owner.now asked.now.target.now asked.now.issuer.now (Some (name.now, subpath.now))) }
+{
+    if !is_settled(manifest, owner, name) {
+        return Ok(Verdict::Refused(JoinRefusal::NotBuilt));
+    }
+    match binding_of(alloc, manifest, owner, name.as_str())? {
+        Binding::Bound(bound) => search_package(alloc, tree, manifest, bound, subpath),
+        Binding::MissingPeer => Ok(Verdict::Refused(JoinRefusal::NotBuilt)),
+        Binding::Undeclared => {
+            let told = undeclared_of(
+                alloc,
+                manifest,
+                owner,
+                asked.target,
+                name.as_str(),
+                asked.issuer,
+            )?;
+            Ok(Verdict::Refused(JoinRefusal::UndeclaredDependency(told)))
+        }
+    }
+}
+
+// The package name that a specifier begins with, bound by the owner's row.
+fn bind_specifier<R: Asker>(
+    alloc: Global,
+    tree: &mut R,
+    manifest: &Manifest,
+    owner: &PackageLocator,
+    asked: &Asked<'_>,
+) -> Result<Verdict, ReadError>
+    ensures { Asks (R.asking tree.old) (R.asking tree.new) result (by_owner manifest.now asked.now.target.now asked.now.issuer.now (Some owner.now)) }
+{
+    if is_node_module(asked.target) {
+        return Ok(Verdict::Refused(JoinRefusal::NotBuilt));
+    }
+    match parse_bare_identifier(alloc, asked.target) {
+        Ok((name, subpath)) => bind_name(alloc, tree, manifest, owner, asked, &name, &subpath),
+        Err(Error::BadSpecifier(_)) => Ok(Verdict::Refused(JoinRefusal::NotBuilt)),
+        Err(_) => Err(ReadError::NoMemory),
+    }
+}
+
+/// The verdict by the manifest that is nearest to the importer.
+pub fn by_manifest<R: Asker>(
+    alloc: Global,
+    tree: &mut R,
+    manifest: &Manifest,
+    importer: &CleanPath,
+    target: &str,
+) -> Result<Verdict, ReadError>
+    requires { IsReady manifest.now }
+    ensures { Asks (R.asking tree.old) (R.asking tree.new) result (by_manifest importer.now target.now manifest.now) }
+{
+    if manifest.ignore_pattern_data.is_some() {
+        return Ok(Verdict::Refused(JoinRefusal::NotBuilt));
+    }
+    let issuer = importer.as_str();
+    match find_locator(alloc, manifest, issuer)? {
+        None => Ok(Verdict::Refused(JoinRefusal::NotBuilt)),
+        Some(owner) => bind_specifier(alloc, tree, manifest, owner, &Asked { target, issuer }),
+    }
 }

@@ -22,11 +22,7 @@ pub enum Searched {
 }
 
 // The first index file of a folder.
-fn index<R: Asker>(
-    alloc: Global,
-    tree: &mut R,
-    folder: &CleanPath,
-) -> Result<Searched, ReadError>
+fn index<R: Asker>(alloc: Global, tree: &mut R, folder: &CleanPath) -> Result<Searched, ReadError>
     ensures { Asks (R.asking tree.old) (R.asking tree.new) result (index_plan folder.now) }
 {
     match first_with_ending(alloc, tree, folder, "index", endings_of_files())? {

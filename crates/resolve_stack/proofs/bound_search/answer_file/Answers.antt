@@ -21,7 +21,7 @@ pub returns : goal.returns
 unfolding answered
 returns g c =
     let named = elim c.match-canonical-2.branch as (λ _. c.match-canonical-2.name ≡ spelled c.args.file c.in_ok-canonical.canonical) [
-        in-Some w ↦ rw w.in-Some.is w.name-is
+      | in-Some w ↦ rw w.in-Some.is w.name-is
       | in-None+in_ok-name-in-None w ↦ rw w.in-None.is (w.name-is ∙ w.in_ok-name-in-None.ensures ∙ c.in_ok-path.ensures.text)
-      ] in
+    ] in
     asks_then _ c.in_ok-canonical.ensures (asks_done (through-is c.args.via _ _ c.args.file c.in_ok-canonical.canonical c.in_ok-path.ensures.text named))

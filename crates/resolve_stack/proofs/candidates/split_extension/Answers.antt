@@ -11,10 +11,10 @@ returns-in-Some c =
 
 pub returns-in_default : goal.returns-in_default
 returns-in_default c = elim c.in_default.branch [
-    in_default-via-in-Some+else-dot-gt0 w ↦
+  | in_default-via-in-Some+else-dot-gt0 w ↦
       let dot = rw w.in-Some.is at (rfind_char 46 c.args.name.now c.rfind.result c.rfind.ensures.cases (omega arith)) in
       has_extension-none c.args.name.now (λ i pos lt. dot.2 i (omega arith) lt)
   | in_default-via-in_default w ↦
       let none = rw w.in_default.is at (rfind_char 46 c.args.name.now c.rfind.result c.rfind.ensures.cases (omega arith)) in
       has_extension-none c.args.name.now (λ i pos lt. none i lt)
-  ]
+]
