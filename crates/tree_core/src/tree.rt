@@ -35,6 +35,13 @@ impl From<(Question, Reply, AllocError)> for ReadError {
     }
 }
 
+/// A file of a tree: its bytes and its canonical name.
+#[derive(Drop)]
+pub struct TreeFile {
+    pub content: Bytes,
+    pub canonical: Text,
+}
+
 /// A tree that is asked on clean absolute paths.
 pub trait Tree {
     /// For which trees the object answers.
