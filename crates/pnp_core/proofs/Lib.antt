@@ -2,3 +2,4 @@ pub mod Slashes
 pub mod Tries
 pub mod Owners
 pub mod Walking
+pub mod Payloads

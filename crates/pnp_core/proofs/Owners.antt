@@ -1,5 +1,5 @@
 -- Owners, as the trie of locations finds them.
-use Rattle.std.proofs.Common.{◌≡◌, ℕ, Bool, true, false, cond, List, [], ◌∷◌, map, bytes_eq, refl, ap, ◌∙◌, Option, Some, None}
+use Rattle.std.proofs.Common.{◌≡◌, ℕ, Bool, true, false, cond, List, [], ◌∷◌, map, bytes_eq, refl, Some}
 use Rattle.std.specs.Prelude.{option_map}
 use Rattle.std.specs.Map.{lookup}
 use Rattle.sugar_path.specs.Path.{Path, IsPath}
@@ -8,7 +8,6 @@ use Rattle.std.specs.HashMap.{HashMap}
 use Rattle.std.specs.HashSet.{HashSet}
 use Rattle.pnp_core.specs.Manifest.{Row, Package, at}
 use Rattle.pnp_core.specs.Owner.{last_at, nearest_owner}
-use Rattle.pnp_core.specs.Payload.{or_else}
 use Rattle.pnp_core.specs.Trie.{Locations, value_at, nearest_value}
 
 -- a trie that has the last row's locator at each location finds the owner

@@ -15,10 +15,14 @@ abbrev pub after_blanks : List ℕ → List ℕ
 after_blanks [] = []
 after_blanks (c ∷ cs) = cond (is_blank c) (after_blanks cs) (c ∷ cs)
 
+-- what follows a blank
+abbrev pub after_blank : List ℕ → Option (List ℕ)
+after_blank [] = None
+after_blank (c ∷ cs) = cond (is_blank c) (Some cs) None
+
 -- one blank or more
 abbrev pub after_some_blanks : List ℕ → Option (List ℕ)
-after_some_blanks [] = None
-after_some_blanks (c ∷ cs) = cond (is_blank c) (Some (after_blanks cs)) None
+after_some_blanks t = option_map after_blanks (after_blank t)
 
 -- what follows a text that is there, and then the blanks
 abbrev pub then_word : List ℕ → List ℕ → Option (List ℕ)
@@ -49,10 +53,14 @@ after_leftmost [] = None
 after_leftmost (c ∷ cs) = or_else (after_opening (c ∷ cs)) (after_leftmost cs)
 
 -- up to the next `'` that no backslash takes, or to the end: a backslash is dropped, and the character after it is kept
-abbrev pub quoted : List ℕ → List ℕ
-quoted [] = []
-quoted (c ∷ []) = cond (c == 39 || c == 92) [] (c ∷ [])
-quoted (c ∷ d ∷ rest) = cond (c == 39) [] (cond (c == 92) (d ∷ quoted rest) (c ∷ quoted (d ∷ rest)))
+abbrev mutual
+  pub quoted : List ℕ → List ℕ
+  quoted [] = []
+  quoted (c ∷ cs) = cond (c == 39) [] (cond (c == 92) (kept cs) (c ∷ quoted cs))
+
+  pub kept : List ℕ → List ℕ
+  kept [] = []
+  kept (c ∷ cs) = c ∷ quoted cs
 
 -- the payload of a manifest's text
 abbrev pub payload : List ℕ → Option (List ℕ)

@@ -8,6 +8,7 @@ mod manifest;
 mod nearest;
 mod normalize;
 mod owner;
+mod payload;
 mod registry;
 mod trie;
 mod undeclared;
@@ -22,6 +23,7 @@ pub use manifest::{Binding, Manifest, PackageDependency, PackageInformation, Pac
 pub use nearest::closest_manifest;
 pub use normalize::normalize_path;
 pub use owner::find_locator;
+pub use payload::payload_of;
 pub use registry::{get_package, has_package, is_dependency_tree_root, is_excluded_from_fallback};
 pub use trie::Trie;
 pub use undeclared::undeclared_of;

@@ -1,5 +1,4 @@
-use Rattle.std.proofs.Common.{refl, ap, sym, ◌∙◌}
-use Rattle.std.specs.Prelude.{Some}
+use Rattle.std.proofs.Common.{refl}
 use Rattle.tree_core.proofs.Asking.{asks_as, asks_done, asks_fails, asks_starved, leads_self, leads_as}
 use Rattle.pnp_core.specs.Nearest.{manifest_file}
 use Rattle.pnp_core.proofs.Walking.{nearest-step, told, told_root, parent-shorter}

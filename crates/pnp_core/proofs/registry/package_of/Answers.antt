@@ -1,4 +1,4 @@
-use Rattle.std.proofs.Common.{refl, rules}
+use Rattle.std.proofs.Common.{rules}
 use Rattle.pnp_core.proofs.Owners.{at-registry}
 use Rattle.pnp_core.proofs.registry.package_of.Goals as goal
 

@@ -1,0 +1,117 @@
+// The JSON text inside a manifest's program file.
+ghost use Rattle.std.specs.Prelude.{◌≡◌, IfOk, option_map, string_bytes};
+ghost use Rattle.pnp_core.specs.Payload.{payload, quoted, after_leftmost, after_opening, after_constant, after_call, after_word, is_blank, after_blank, after_blanks};
+
+use std::alloc::{AllocError, Global};
+use sugar_path::Text;
+
+/// The payload of a manifest's text: what stands between the quotes behind the leftmost of the two openings that Yarn writes.
+pub fn payload_of(alloc: Global, text: &str) -> Result<Option<Text>, AllocError>
+    ensures { IfOk result (λ found. found ≡ payload text.now) }
+{
+    match after_leftmost(text) {
+        None => Ok(None),
+        Some(rest) => Ok(Some(Text::from(quoted(alloc, rest)?))),
+    }
+}
+
+// What follows the leftmost opening.
+fn after_leftmost(text: &str) -> Option<&str>
+    ensures { option_map (λ t. t.now) result ≡ after_leftmost text.now }
+{
+    let mut rest = text;
+    loop {
+        if let Some(quoted) = after_opening(rest) {
+            return Some(quoted);
+        }
+        let mut chars = rest.chars();
+        match chars.next() {
+            None => return None,
+            Some(_) => rest = chars.as_str(),
+        }
+    }
+}
+
+// What follows one of the two openings, where the text begins with it.
+fn after_opening(text: &str) -> Option<&str>
+    ensures { option_map (λ t. t.now) result ≡ after_opening text.now }
+{
+    match after_constant(text) {
+        Some(rest) => Some(rest),
+        None => after_word(text, "hydrateRuntimeState(JSON.parse('"),
+    }
+}
+
+#[tactic(auto, unfolding(crate::specs::Payload::after_constant))]
+fn after_constant(text: &str) -> Option<&str>
+    ensures { option_map (λ t. t.now) result ≡ after_constant text.now }
+{
+    let name = after_some_blanks(after_word(text, "const")?)?;
+    let sign = after_blanks(after_word(name, "RAW_RUNTIME_STATE")?);
+    let quote = after_blanks(after_word(sign, "=")?);
+    after_word(quote, "'")
+}
+
+fn after_word<'a>(text: &'a str, word: &str) -> Option<&'a str>
+    ensures { option_map (λ t. t.now) result ≡ after_word word.now text.now }
+{
+    text.strip_prefix(word)
+}
+
+fn after_some_blanks(text: &str) -> Option<&str>
+    ensures { option_map (λ t. t.now) result ≡ option_map after_blanks (after_blank text.now) }
+{
+    let rest = after_blank(text)?;
+    Some(after_blanks(rest))
+}
+
+fn after_blanks(text: &str) -> &str
+    ensures { result.now ≡ after_blanks text.now }
+{
+    let mut rest = text;
+    while let Some(behind) = after_blank(rest) {
+        rest = behind;
+    }
+    rest
+}
+
+// What follows a blank.
+fn after_blank(text: &str) -> Option<&str>
+    ensures { option_map (λ t. t.now) result ≡ after_blank text.now }
+{
+    let mut chars = text.chars();
+    let first = chars.next()?;
+    if is_blank(first) {
+        Some(chars.as_str())
+    } else {
+        None
+    }
+}
+
+fn is_blank(c: char) -> bool
+    ensures { result ≡ is_blank c }
+{
+    c == ' ' || c == '\r' || c == '\n'
+}
+
+// What stands up to the closing quote, with each escaped character in place of its escape.
+fn quoted(alloc: Global, text: &str) -> Result<String, AllocError>
+    ensures { IfOk result (λ s. string_bytes s ≡ quoted text.now) }
+{
+    let mut made = String::new(alloc);
+    let mut chars = text.chars();
+    while let Some(c) = chars.next() {
+        if c == '\'' {
+            return Ok(made);
+        }
+        if c == '\\' {
+            match chars.next() {
+                None => return Ok(made),
+                Some(escaped) => made.push(escaped)?,
+            }
+        } else {
+            made.push(c)?;
+        }
+    }
+    Ok(made)
+}
