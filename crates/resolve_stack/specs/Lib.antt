@@ -3,3 +3,5 @@ pub mod Candidates
 pub mod Search
 pub mod Settings
 pub mod Verdict
+pub mod OnTree
+pub mod Through
