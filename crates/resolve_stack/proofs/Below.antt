@@ -42,6 +42,7 @@ folder_below t d f is = by_test (is_key t (package_file d)) is
     by_found : (found : Option Path) → first_key t (index_files d) ≡ found → found_or_nothing found ≡ File f → below f d ≡ true
     by_found None none same = cc
     by_found (Some g) first same = let g_is : g ≡ f = cc in first_below t d (index_files d) f (all_below-in_folder d d _ (below-same d)) (first ∙ ap Some g_is)
+
     by_test : (b : Bool) → cond b Entry (found_or_nothing (first_key t (index_files d))) ≡ File f → below f d ≡ true
     by_test true same = cc
     by_test false same = by_found (first_key t (index_files d)) refl same
@@ -93,7 +94,7 @@ unfolding whole
 within-whole t v l =
     let P : Verdict → Type 0 = IsWithin v l in
     subst P (sym (answer-then t (folder l) (searched v (text_of l)) ∙ ap (λ found. answer t (searched v (text_of l) found)) (answer-folder t l)))
-      (within-searched t v l (text_of l) (folder_on t l) (folder_below t l))
+    (within-searched t v l (text_of l) (folder_on t l) (folder_below t l))
 
 within-inside : (t : Files) (v : Via) (l : Path) (text : List ℕ) → IsWithin v l (answer t (inside v l text))
 unfolding inside
@@ -103,7 +104,8 @@ within-inside t v l text = by_tests (path_eq (clean [] text) l) (below (clean []
     placed other within =
         let P : Verdict → Type 0 = IsWithin v l in
         subst P (sym (answer-then t (place [] text) (searched v text) ∙ ap (λ found. answer t (searched v text found)) (answer-place t [] text)))
-          (within-searched t v l text (place_on t [] text) (λ f is. place_below t l text f other within is))
+        (within-searched t v l text (place_on t [] text) (λ f is. place_below t l text f other within is))
+
     by_tests : (same within : Bool) → path_eq (clean [] text) l ≡ same → below (clean [] text) l ≡ within
         → IsWithin v l (answer t (cond same (whole v l) (cond within (place [] text >>= searched v text) not_built)))
     by_tests true within p q = within-whole t v l

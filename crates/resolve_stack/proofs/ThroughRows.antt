@@ -119,14 +119,14 @@ by_near t p s None is = refused t p s
 by_near t p s (Some manifest) is =
     let P : Verdict → Type 0 = IsFoundAs t p s in
     subst P (sym (answer-then t (loading manifest) (by_reading p s) ∙ ap (λ r. answer t (by_reading p s r)) (answer-loading t manifest)))
-      (by_result t p s manifest is (reading (content_on t manifest) manifest) refl)
+    (by_result t p s manifest is (reading (content_on t manifest) manifest) refl)
 
 found_from : (t : Files) (p : Path) (s : List ℕ) → IsFoundAs t p s (answer t (from_file p s))
 unfolding from_file
 found_from t p s =
     let P : Verdict → Type 0 = IsFoundAs t p s in
     subst P (sym (answer-then t (nearest p) (by_nearest p s) ∙ ap (λ near. answer t (by_nearest p s near)) (answer-nearest t p)))
-      (by_near t p s (nearest_on t p) refl)
+    (by_near t p s (nearest_on t p) refl)
 
 -- the verdict of the order was found as it says
 pub found : (t : Files) (cwd : Path) (importer : FileName) (s : List ℕ) → IsFound t cwd importer s (answer t (verdict cwd importer s))

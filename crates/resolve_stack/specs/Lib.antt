@@ -5,3 +5,4 @@ pub mod Settings
 pub mod Verdict
 pub mod OnTree
 pub mod Through
+pub mod ImportFault

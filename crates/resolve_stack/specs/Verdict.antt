@@ -131,8 +131,12 @@ by_nearest importer target (Some manifest) = loading manifest >>= by_reading imp
 unfoldable pub from_file : Path → List ℕ → Plan Verdict
 from_file importer target = nearest importer >>= by_nearest importer target
 
+-- a specifier from a path
+abbrev pub from_real : Path → List ℕ → List ℕ → Plan Verdict
+from_real cwd text specifier = cond (is_bare specifier) (from_file (clean cwd text) specifier) not_built
+
 -- the verdict of a request of a project with this working folder
 abbrev pub verdict : Path → FileName → List ℕ → Plan Verdict
-verdict cwd (Real text) specifier = cond (is_bare specifier) (from_file (clean cwd text) specifier) not_built
+verdict cwd (Real text) specifier = from_real cwd text specifier
 verdict cwd (Custom name) specifier = not_built
 verdict cwd Anon specifier = not_built

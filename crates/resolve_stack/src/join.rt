@@ -4,15 +4,16 @@ ghost use Rattle.sugar_path.specs.Path.{text_of};
 ghost use Rattle.tree_core.specs.Asks.{Asks};
 ghost use Rattle.pnp_core.specs.Manifest.{location_of};
 ghost use Rattle.pnp_core.specs.Owner.{IsReady};
-ghost use Rattle.resolve_stack.specs.Verdict.{at_location, by_binding, by_identifier, by_owner, by_manifest};
+ghost use Rattle.resolve_stack.specs.Verdict.{at_location, by_binding, by_identifier, by_owner, by_manifest, from_file, from_real, verdict};
 
 use crate::bound_search::search_bound;
 use crate::location::is_plain;
-use crate::specifier::is_node_module;
-use crate::{JoinRefusal, Verdict, Via};
+use crate::specifier::{is_bare, is_node_module};
+use crate::{FileName, JoinRefusal, Verdict, Via};
 use pnp_core::{
-    Binding, Error, Manifest, PackageLocator, binding_of, find_locator, get_package, has_package,
-    is_settled, parse_bare_identifier, undeclared_of,
+    Binding, Error, FailedManifestHydration, Manifest, PackageLocator, binding_of,
+    closest_manifest, find_locator, get_package, has_package, is_settled, loaded_manifest,
+    parse_bare_identifier, undeclared_of,
 };
 use std::alloc::{AllocError, Global};
 use sugar_path::{CleanPath, Text};
@@ -104,8 +105,8 @@ fn bind_specifier<R: Asker>(
     }
 }
 
-/// The verdict by the manifest that is nearest to the importer.
-pub fn by_manifest<R: Asker>(
+// The verdict by the manifest that is nearest to the importer.
+fn by_manifest<R: Asker>(
     alloc: Global,
     tree: &mut R,
     manifest: &Manifest,
@@ -122,5 +123,70 @@ pub fn by_manifest<R: Asker>(
     match find_locator(alloc, manifest, issuer)? {
         None => Ok(Verdict::Refused(JoinRefusal::NotBuilt)),
         Some(owner) => bind_specifier(alloc, tree, manifest, owner, &Asked { target, issuer }),
+    }
+}
+
+// The refusal of a manifest that can't be read.
+fn refused_manifest(failed: FailedManifestHydration) -> Verdict
+    ensures { result ≡ Verdict.Refused (JoinRefusal.FailedManifestHydration failed.cause failed.manifest_path) }
+{
+    Verdict::Refused(JoinRefusal::FailedManifestHydration {
+        cause: failed.cause,
+        manifest: failed.manifest_path,
+    })
+}
+
+// The verdict of a bare specifier from a file.
+fn from_file<R: Asker>(
+    alloc: Global,
+    tree: &mut R,
+    importer: &CleanPath,
+    target: &str,
+) -> Result<Verdict, ReadError>
+    ensures { Asks (R.asking tree.old) (R.asking tree.new) result (from_file importer.now target.now) }
+{
+    let Some(path) = closest_manifest(alloc, tree, importer)? else {
+        return Ok(Verdict::Refused(JoinRefusal::NotBuilt));
+    };
+    match loaded_manifest(alloc, tree, &path) {
+        Ok(manifest) => by_manifest(alloc, tree, &manifest, importer, target),
+        Err(Error::FailedManifestHydration(failed)) => Ok(refused_manifest(failed)),
+        Err(Error::BadSpecifier(_)) => Ok(Verdict::Refused(JoinRefusal::NotBuilt)),
+        Err(Error::TreeFault) => Err(ReadError::Fault),
+        Err(Error::NoMemory) => Err(ReadError::NoMemory),
+    }
+}
+
+// The verdict of a specifier from a path.
+fn from_real<R: Asker>(
+    alloc: Global,
+    tree: &mut R,
+    cwd: &CleanPath,
+    text: &str,
+    specifier: &str,
+) -> Result<Verdict, ReadError>
+    ensures { Asks (R.asking tree.old) (R.asking tree.new) result (from_real cwd.now text.now specifier.now) }
+{
+    if !is_bare(specifier) {
+        return Ok(Verdict::Refused(JoinRefusal::NotBuilt));
+    }
+    let importer = CleanPath::read(alloc, cwd, text)?;
+    from_file(alloc, tree, &importer, specifier)
+}
+
+/// The verdict of a request: a refusal is one too.
+pub fn decide<R: Asker>(
+    alloc: Global,
+    tree: &mut R,
+    cwd: &CleanPath,
+    importer: &FileName,
+    specifier: &str,
+) -> Result<Verdict, ReadError>
+    ensures { Asks (R.asking tree.old) (R.asking tree.new) result (verdict cwd.now importer.now specifier.now) }
+{
+    match importer {
+        FileName::Real(text) => from_real(alloc, tree, cwd, text.as_str(), specifier),
+        FileName::Custom(_) => Ok(Verdict::Refused(JoinRefusal::NotBuilt)),
+        FileName::Anon => Ok(Verdict::Refused(JoinRefusal::NotBuilt)),
     }
 }

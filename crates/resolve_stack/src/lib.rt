@@ -3,6 +3,7 @@
 
 mod bound_search;
 mod candidates;
+mod import;
 mod join;
 mod location;
 mod project;
@@ -12,6 +13,7 @@ mod shape;
 mod specifier;
 mod verdict;
 
+pub use import::{ImportError, resolve_import};
 pub use project::{Project, ProjectError, Settings};
 pub use resolution::{FileName, Found, Resolution, Via};
 pub use verdict::{JoinRefusal, Outcome, Verdict};
