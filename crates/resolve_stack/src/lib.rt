@@ -17,3 +17,6 @@ pub use import::{ImportError, resolve_import};
 pub use project::{Project, ProjectError, Settings};
 pub use resolution::{FileName, Found, Resolution, Via};
 pub use verdict::{JoinRefusal, Outcome, Verdict};
+
+#[cfg(test)]
+mod tests;
