@@ -1,5 +1,5 @@
 -- Two trees with the same entries are one, and what a tree in memory has at a path.
-use Rattle.std.proofs.Common.{◌≡◌, ℕ, cond, ◌&&◌, List, [], ◌∷◌, map, String, string_bytes, bytes_eq, refl, sym, ap, ◌∙◌, IsTrue, Some, None}
+use Rattle.std.proofs.Common.{◌≡◌, ℕ, Bool, cond, ◌&&◌, List, [], ◌∷◌, map, String, string_bytes, bytes_eq, refl, sym, ap, ◌∙◌, IsTrue, Some, None}
 use Rattle.std.specs.Bool.{Decides}
 use Rattle.std.proofs.lemmas.Slice.Eq.{bytes_eq-Decides, slice_eq-Decides}
 use Rattle.std.specs.Ordering.{nat_cmp}
@@ -35,6 +35,10 @@ same_files-is a b h = finite.same_entries_map a b ((slice_eq-Decides pair_eq _ _
 
 pub same_files-refl : (t : Files) → IsTrue (same_files t t)
 same_files-refl t = (slice_eq-Decides pair_eq (finite.entries t) (finite.entries t) (same_files t t) refl).1 refl
+
+-- trees in memory that stand for the same trees have the same files
+pub same_files-same : (a b : Files) → same_files a ≡ same_files b → a ≡ b
+same_files-same a b same = same_files-is a b (ap (λ (test : Files → Bool). test b) same ∙ same_files-refl b)
 
 -- what the map at a path has is what the entries have there
 pub get-files_of : (es : List (String Global × TreeFile)) (q : List ℕ) → finite.get (files_of es) q ≡ lookup (is_at (λ k. slice_cmp nat_cmp q (string_bytes k))) es

@@ -7,6 +7,8 @@ mod failing;
 mod memory;
 mod question;
 mod recorder;
+#[cfg(test)]
+mod tests;
 mod trail;
 mod tree;
 

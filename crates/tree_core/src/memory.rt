@@ -15,6 +15,7 @@ use std::collections::BTreeMap;
 use std::marker::Model;
 use std::ops::Bound;
 use sugar_path::{Bytes, List, Text, is_clean};
+use thiserror::Error;
 
 /// Files by their paths. Its questions are answered without memory, but for the copies of bytes and names.
 #[derive(Drop)]
@@ -40,12 +41,15 @@ impl Model for MemoryTree {
 }
 
 /// Why a file is refused.
-#[derive(Debug, Drop)]
+#[derive(Debug, Drop, Error)]
 pub enum PutError {
     /// The path or the canonical name isn't a clean absolute path other than `/`.
+    #[error("a path is not clean")]
     Unclean,
     /// Another file stands above or below the path: the first one in byte order.
+    #[error("the file {other} is in the way")]
     Conflict { other: Text },
+    #[error("no memory")]
     NoMemory,
 }
 
