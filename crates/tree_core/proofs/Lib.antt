@@ -2,3 +2,8 @@ pub mod Replies
 pub mod Recorded
 pub mod Asking
 pub mod Firsts
+pub mod Entries
+pub mod Prefixes
+pub mod Keys
+pub mod Above
+pub mod Conflicts

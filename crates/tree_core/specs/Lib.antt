@@ -5,3 +5,4 @@ pub mod Asks
 pub mod First
 pub mod Recorder
 pub mod Builtins
+pub mod Memory

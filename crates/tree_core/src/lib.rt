@@ -3,14 +3,20 @@
 
 mod asker;
 mod builtins;
+mod failing;
+mod memory;
 mod question;
 mod recorder;
+#[cfg(test)]
+mod tests;
 mod trail;
 mod tree;
 
 pub use asker::Asker;
 pub use builtins::{NODE_BUILTINS, is_node_builtin};
+pub use failing::FailingTree;
+pub use memory::{MemoryTree, PutError};
 pub use question::{Question, Reply};
 pub use recorder::Recorder;
 pub use trail::Trail;
-pub use tree::{ReadError, Tree};
+pub use tree::{ReadError, Tree, TreeFile};

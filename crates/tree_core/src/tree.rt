@@ -10,12 +10,15 @@ ghost use Rattle.tree_core.specs.declared.question.Reply.TheVariants.{Flag, Byte
 use crate::{Question, Reply};
 use std::alloc::{AllocError, Global};
 use sugar_path::{Bytes, Text};
+use thiserror::Error;
 
 /// Why a question was refused.
-#[derive(Clone, Copy, Debug, PartialEq, Eq)]
+#[derive(Clone, Copy, Debug, PartialEq, Eq, Error)]
 pub enum ReadError {
     /// The tree failed. Its count of faults rose, or stands at its last value.
+    #[error("the tree failed")]
     Fault,
+    #[error("no memory")]
     NoMemory,
 }
 
@@ -33,6 +36,13 @@ impl From<(Question, Reply, AllocError)> for ReadError {
     fn from(_: (Question, Reply, AllocError)) -> Self {
         ReadError::NoMemory
     }
+}
+
+/// A file of a tree: its bytes and its canonical name.
+#[derive(Drop)]
+pub struct TreeFile {
+    pub content: Bytes,
+    pub canonical: Text,
 }
 
 /// A tree that is asked on clean absolute paths.

@@ -1,4 +1,4 @@
-use Rattle.std.proofs.Common.{ap, sym, ◌∙◌, is_some}
+use Rattle.std.proofs.Common.{ap, ◌∙◌, is_some}
 use Rattle.tree_core.specs.Question.{reply_in}
 use Rattle.tree_core.proofs.Recorded.{new-push}
 use Rattle.tree_core.proofs.recorder.note.Goals as goal

@@ -1,0 +1,12 @@
+use Rattle.std.proofs.Common.{option_map, sym, ap, ◌∙◌}
+use Rattle.std.specs.FinMap as map
+use Rattle.tree_core.specs.Tree.{Files}
+use Rattle.tree_core.specs.Memory.{Memory, Failing}
+use Rattle.tree_core.specs.declared.question.Reply.TheVariants.{Bytes}
+use Rattle.tree_core.proofs.Entries.{same_files-is}
+use Rattle.tree_core.proofs.failing.FailingTreeTree.read.Goals as goal
+
+pub returns-clause-reply : goal.returns-clause-reply
+returns-clause-reply c = λ t stands.
+    let files = ap (λ (m : Failing). m.memory.files) c.self.view_is ∙ ap (λ (m : Memory). m.files) c.refuses.ensures.counted ∙ same_files-is c.args.self.now.memory.files t stands in
+    ap Bytes (ap (λ (f : Files). option_map (λ g. g.content) (map.get f c.args.p.now)) (sym files) ∙ sym c.in_ok-content_at.ensures)

@@ -1,0 +1,332 @@
+// A tree in memory, which stands for exactly its files.
+ghost use Rattle.std.specs.Prelude.{◌≡◌, ◌≢◌, ◌++◌, ◌∷◌, ◌+◌, ◌<◌, ◌≤◌, [], None, Some, Ok, OnOk, OnErr, IfOk, IfErr, IfNone, IsTrue, IfSome, ◌||◌, is_some, nat_eq, length, option_map, string_bytes, string_capacity};
+ghost use Rattle.std.specs.FinMap as map;
+ghost use Rattle.std.specs.List.{find, starts_with};
+ghost use Rattle.sugar_path.specs.Path.{IsCleanPath};
+ghost use Rattle.tree_core.specs.Memory.{files_of, conflict, refusal, with_file, NoneAbove};
+ghost use Rattle.tree_core.specs.declared.memory.PutError.TheVariants.{NoMemory};
+ghost use Rattle.tree_core.specs.Tree.{Files, IsValidTree, reply, HasCause, Tells, one_more, is_file, is_folder, is_file_path, stands_above};
+ghost use Rattle.tree_core.specs.declared.question.Question.TheVariants.{File, Dir, Exists, Read, Canon};
+ghost use Rattle.tree_core.specs.declared.question.Reply.TheVariants.{Flag, Bytes as BytesReply, Name};
+
+use crate::{FailingTree, ReadError, Tree, TreeFile};
+use std::alloc::{AllocError, AllocFailed, Global};
+use std::collections::BTreeMap;
+use std::marker::Model;
+use std::ops::Bound;
+use sugar_path::{Bytes, List, Text, is_clean};
+use thiserror::Error;
+
+/// Files by their paths. Its questions are answered without memory, but for the copies of bytes and names.
+#[derive(Drop)]
+pub struct MemoryTree {
+    alloc: Global,
+    files: BTreeMap<String, TreeFile>,
+    // holds a path and a `/`, for any path that has fewer bytes than a file's
+    prefix: String,
+    questions: u64,
+}
+
+impl Model for MemoryTree {
+    ghost use Rattle.std.specs.Prelude.{string_capacity};
+    ghost use Rattle.tree_core.specs.Memory.{Memory, memory_code, files_of, IsStore};
+
+    ghost Value = { Memory };
+
+    ghost coded = { memory_code };
+
+    ghost view = { λ m. record { files = files_of m.files.entries; questions = m.questions } };
+
+    ghost invariant = { λ m. IsStore (files_of m.files.entries) (string_capacity m.prefix) };
+}
+
+/// Why a file is refused.
+#[derive(Debug, Drop, Error)]
+pub enum PutError {
+    /// The path or the canonical name isn't a clean absolute path other than `/`.
+    #[error("a path is not clean")]
+    Unclean,
+    /// Another file stands above or below the path: the first one in byte order.
+    #[error("the file {other} is in the way")]
+    Conflict { other: Text },
+    #[error("no memory")]
+    NoMemory,
+}
+
+impl From<AllocError> for PutError {
+    ghost from_gives = { λ _ e. e ≡ NoMemory };
+
+    fn from(_: AllocError) -> Self {
+        PutError::NoMemory
+    }
+}
+
+impl<T: Drop> From<AllocFailed<T>> for PutError {
+    ghost from_gives = { λ _ e. e ≡ NoMemory };
+
+    fn from(_: AllocFailed<T>) -> Self {
+        PutError::NoMemory
+    }
+}
+
+impl MemoryTree {
+    /// The tree with no files.
+    pub fn new(alloc: Global) -> MemoryTree
+        ensures { result ≡ record { files = map.empty; questions = 0 } }
+    {
+        MemoryTree {
+            alloc,
+            files: BTreeMap::new(alloc),
+            prefix: String::new(alloc),
+            questions: 0,
+        }
+    }
+
+    /// How many questions were put.
+    pub fn questions(&self) -> u64
+        ensures { result ≡ self.now.questions }
+    {
+        self.questions
+    }
+
+    /// Puts a file, in place of an earlier one at the path.
+    pub fn put(&mut self, path: &str, bytes: &[u8], canonical: &str) -> Result<(), PutError>
+        ensures ok { OnOk result (self.new ≡ record self.old { files = with_file self.old.files path.now (record { content = bytes.now; canonical = canonical.now }) }) }
+        ensures fits { OnOk result (refusal self.old.files path.now canonical.now ≡ None) }
+        ensures refused { IfErr result (λ e. e ≢ NoMemory → refusal self.old.files path.now canonical.now ≡ Some e) }
+        ensures err { OnErr result (self.new ≡ self.old) }
+    {
+        if !is_file_path(path) || !is_file_path(canonical) {
+            return Err(PutError::Unclean);
+        }
+        let key = String::from_str(self.alloc, path)?;
+        let file = TreeFile {
+            content: Bytes::of(self.alloc, bytes)?,
+            canonical: Text::of(self.alloc, canonical)?,
+        };
+        fill(&mut self.prefix, path)?;
+        if let Some(other) = conflicting(&self.files, path, &self.prefix) {
+            return Err(PutError::Conflict {
+                other: Text::of(self.alloc, other)?,
+            });
+        }
+        put_at(&mut self.files, key, file)
+    }
+
+    /// Takes a file out, and tells whether it was there.
+    pub fn remove(&mut self, path: &str) -> bool
+        ensures was { result ≡ is_file self.old.files path.now }
+        ensures gone { self.new ≡ record self.old { files = map.remove self.old.files path.now } }
+    {
+        self.files.remove(path).is_some()
+    }
+
+    /// The same tree, but it refuses the questions with these numbers. The first question has the number 1.
+    pub fn fail_at(self, calls: List<u64>) -> FailingTree
+        ensures { result ≡ record { memory = self; calls = calls; faults = 0 } }
+    {
+        FailingTree::of(self, calls)
+    }
+
+    // Counts a question.
+    pub(crate) fn count(&mut self)
+        ensures { self.new ≡ record self.old { questions = one_more self.old.questions } }
+    {
+        self.questions = self.questions.saturating_add(1);
+    }
+
+    pub(crate) fn has_file(&self, p: &str) -> bool
+        ensures { result ≡ is_file self.now.files p.now }
+    {
+        self.files.contains_key(p)
+    }
+
+    pub(crate) fn has_folder(&mut self, p: &str) -> bool
+        ensures value { result ≡ is_folder self.old.files p.now }
+        ensures same { self.new ≡ self.old }
+    {
+        if p == "/" {
+            return true;
+        }
+        if fill(&mut self.prefix, p).is_err() {
+            // the path is no shorter than each file's
+            return false;
+        }
+        first_with_prefix(&self.files, &self.prefix).is_some()
+    }
+
+    pub(crate) fn has_path(&mut self, p: &str) -> bool
+        ensures value { result ≡ (is_file self.old.files p.now || is_folder self.old.files p.now) }
+        ensures same { self.new ≡ self.old }
+    {
+        self.has_file(p) || self.has_folder(p)
+    }
+
+    pub(crate) fn content_at(&self, alloc: Global, p: &str) -> Result<Option<Bytes>, AllocError>
+        ensures { IfOk result (λ o. o ≡ option_map (λ f. f.content) (map.get self.now.files p.now)) }
+    {
+        match self.files.get(p) {
+            None => Ok(None),
+            Some(file) => Ok(Some(file.content.try_clone(alloc)?)),
+        }
+    }
+
+    pub(crate) fn canonical_at(&self, alloc: Global, p: &str) -> Result<Option<Text>, AllocError>
+        ensures { IfOk result (λ o. o ≡ option_map (λ f. f.canonical) (map.get self.now.files p.now)) }
+    {
+        match self.files.get(p) {
+            None => Ok(None),
+            Some(file) => Ok(Some(file.canonical.try_clone(alloc)?)),
+        }
+    }
+}
+
+impl Tree for MemoryTree {
+    ghost use Rattle.std.specs.Prelude.{None};
+    ghost use Rattle.tree_core.specs.Memory.{same_files};
+
+    ghost stands_for = { λ m t. same_files m.files t };
+
+    ghost faults = { λ m. 0 };
+
+    ghost questions = { λ m. m.questions };
+
+    ghost told = { λ m. None };
+
+    fn is_file(&mut self, p: &str) -> Result<bool, ReadError>
+        requires { IsCleanPath p.now }
+        ensures reply { IfOk result (λ x. (t : Files) → IsTrue (same_files self.old.files t) → reply t (File p.now) ≡ Flag x) }
+        ensures stands { same_files self.new.files ≡ same_files self.old.files }
+        ensures cause { HasCause 0 0 result }
+        ensures counted { self.new.questions ≡ one_more self.old.questions }
+        ensures told { Tells (File p.now) result None }
+        ensures always { result ≡ Ok (is_file self.old.files p.now) }
+        ensures same { self.new ≡ record self.old { questions = one_more self.old.questions } }
+    {
+        self.count();
+        Ok(self.has_file(p))
+    }
+
+    fn is_dir(&mut self, p: &str) -> Result<bool, ReadError>
+        requires { IsCleanPath p.now }
+        ensures reply { IfOk result (λ x. (t : Files) → IsTrue (same_files self.old.files t) → reply t (Dir p.now) ≡ Flag x) }
+        ensures stands { same_files self.new.files ≡ same_files self.old.files }
+        ensures cause { HasCause 0 0 result }
+        ensures counted { self.new.questions ≡ one_more self.old.questions }
+        ensures told { Tells (Dir p.now) result None }
+        ensures always { result ≡ Ok (is_folder self.old.files p.now) }
+        ensures same { self.new ≡ record self.old { questions = one_more self.old.questions } }
+    {
+        self.count();
+        Ok(self.has_folder(p))
+    }
+
+    fn exists(&mut self, p: &str) -> Result<bool, ReadError>
+        requires { IsCleanPath p.now }
+        ensures reply { IfOk result (λ x. (t : Files) → IsTrue (same_files self.old.files t) → reply t (Exists p.now) ≡ Flag x) }
+        ensures stands { same_files self.new.files ≡ same_files self.old.files }
+        ensures cause { HasCause 0 0 result }
+        ensures counted { self.new.questions ≡ one_more self.old.questions }
+        ensures told { Tells (Exists p.now) result None }
+        ensures always { result ≡ Ok (is_file self.old.files p.now || is_folder self.old.files p.now) }
+        ensures same { self.new ≡ record self.old { questions = one_more self.old.questions } }
+    {
+        self.count();
+        Ok(self.has_path(p))
+    }
+
+    fn read(&mut self, alloc: Global, p: &str) -> Result<Option<Bytes>, ReadError> {
+        self.count();
+        Ok(self.content_at(alloc, p)?)
+    }
+
+    fn canonical(&mut self, alloc: Global, p: &str) -> Result<Option<Text>, ReadError> {
+        self.count();
+        Ok(self.canonical_at(alloc, p)?)
+    }
+}
+
+// Whether a text is a clean absolute path other than `/`.
+fn is_file_path(text: &str) -> bool
+    ensures { result ≡ is_file_path text.now }
+{
+    text != "/" && is_clean(text)
+}
+
+// Makes a text that of the paths below a path: the path and a `/`.
+fn fill(prefix: &mut String, path: &str) -> Result<(), AllocError>
+    ensures ok { OnOk result (string_bytes prefix.new ≡ path.now ++ 47 ∷ []) }
+    ensures room { OnOk result (length path.now < string_capacity prefix.new) }
+    ensures full { OnErr result (string_capacity prefix.old ≤ length path.now) }
+    ensures grows { string_capacity prefix.old ≤ string_capacity prefix.new }
+{
+    prefix.clear();
+    prefix.push_str(path)?;
+    prefix.push('/')?;
+    Ok(())
+}
+
+// Puts a file in the map.
+fn put_at(
+    files: &mut BTreeMap<String, TreeFile>,
+    path: String,
+    file: TreeFile,
+) -> Result<(), PutError>
+    ensures ok { OnOk result (files_of files.new.entries ≡ with_file (files_of files.old.entries) (string_bytes path) file) }
+    ensures err { OnErr result (files_of files.new.entries ≡ files_of files.old.entries) }
+    ensures memory { IfErr result (λ e. e ≡ NoMemory) }
+{
+    files.insert(path, file)?;
+    Ok(())
+}
+
+// The first path of a file, in byte order, that begins with a text.
+fn first_with_prefix<'a>(files: &'a BTreeMap<String, TreeFile>, prefix: &String) -> Option<&'a str>
+    ensures { option_map (λ p. p.now) result ≡ find (λ p. starts_with nat_eq p (string_bytes prefix.now)) (map.keys (files_of files.now.entries)) }
+{
+    match files
+        .range((Bound::Included(prefix), Bound::Unbounded))
+        .next()
+    {
+        None => None,
+        Some((path, _)) => {
+            if path.as_bytes().starts_with(prefix.as_bytes()) {
+                Some(path.as_str())
+            } else {
+                None
+            }
+        }
+    }
+}
+
+// The nearest file above a path.
+fn nearest_above<'a>(files: &BTreeMap<String, TreeFile>, path: &'a str) -> Option<&'a str>
+    ensures file { IfSome result (λ p. IsTrue (is_file (files_of files.now.entries) p.now)) }
+    ensures above { IfSome result (λ p. IsTrue (stands_above p.now path.now)) }
+    ensures none { IfNone result (NoneAbove (files_of files.now.entries) path.now) }
+{
+    let mut folder = path;
+    while let Some(at) = folder.rfind('/') {
+        folder = &folder[..at];
+        if files.contains_key(folder) {
+            return Some(folder);
+        }
+    }
+    None
+}
+
+// The first file in byte order that stands above or below a path, whose text before those below is given.
+fn conflicting<'a>(
+    files: &'a BTreeMap<String, TreeFile>,
+    path: &'a str,
+    prefix: &String,
+) -> Option<&'a str>
+    requires valid { IsValidTree (files_of files.now.entries) }
+    requires prefix { string_bytes prefix.now ≡ path.now ++ 47 ∷ [] }
+    ensures { option_map (λ p. p.now) result ≡ conflict (files_of files.now.entries) path.now }
+{
+    match nearest_above(files, path) {
+        Some(other) => Some(other),
+        None => first_with_prefix(files, prefix),
+    }
+}
