@@ -3,3 +3,5 @@ pub mod Paths
 pub mod Parts
 pub mod Below
 pub mod CleanTexts
+pub mod RouteTexts
+pub mod Placed

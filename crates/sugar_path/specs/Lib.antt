@@ -1,2 +1,5 @@
 pub mod Path
 pub mod PathEq
+pub mod PathTypes
+pub mod Reading
+pub mod Route

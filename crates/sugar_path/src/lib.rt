@@ -3,9 +3,17 @@
 
 mod clean;
 mod clean_path;
+mod joined;
+mod lexical;
+mod normal;
+mod path;
 mod plain;
 mod plain_traits;
+mod reading;
 
 pub use clean::{clean_text, is_clean};
 pub use clean_path::CleanPath;
+pub use joined::join;
+pub use lexical::SugarPath;
+pub use path::{Path, PathBuf, PathCow};
 pub use plain::{Bytes, List, Text};
