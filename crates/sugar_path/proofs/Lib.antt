@@ -5,3 +5,4 @@ pub mod Below
 pub mod CleanTexts
 pub mod RouteTexts
 pub mod Placed
+pub mod ParentEnds
