@@ -6,3 +6,4 @@ pub mod CleanTexts
 pub mod RouteTexts
 pub mod Placed
 pub mod ParentEnds
+pub mod Heres

@@ -3,13 +3,13 @@ use Rattle.std.proofs.Common.{◌==◌, ◌⊎◌, inl, inr, ◌≡◌, ◌≢�
 use denote.Ref.{Bor}
 use Rattle.std.specs.Prelude.{Option, Some, None}
 use Rattle.std.specs.List.{join_with_byte, AllByRecursion}
-use Rattle.std.proofs.lemmas.List.{take_more, take-append-drop, map-append, length-map, nil_from_length}
+use Rattle.std.proofs.lemmas.List.{map-append, length-map, nil_from_length}
 use Rattle.std.proofs.Math.Seq.{take-append_seam}
 use Rattle.std.proofs.lemmas.Bool.Decides.{eqb_tells}
 use Rattle.std.proofs.lemmas.List.Splits.{join_with_byte-slice_split}
 use Rattle.sugar_path.specs.Path.{parts, has_no_slash, is_absolute}
 use Rattle.sugar_path.proofs.Bools.{and_left}
-use Rattle.sugar_path.proofs.Parts.{HasNoSlash, parts-no_slash, parts-some as parts_nonempty}
+use Rattle.sugar_path.proofs.Parts.{seen-whole, HasNoSlash, parts-no_slash, parts-some as parts_nonempty}
 use Rattle.sugar_path.specs.Parent.{is_silent, is_nil, trimmed, but_last, end_by, parent_end, parent_by, parent_of_parts, parent_of, or_slash}
 
 -- how far the parts passed so far reach: the next part's place, the end of the last component, and the parent's end
@@ -79,10 +79,7 @@ join-front (x ∷ xs) ys =
 
 seen-reaches : (t : List ℕ) (seen : List (List ℕ)) (x : List ℕ) → seen ≡ take (length seen) (parts t) → (length seen < length (parts t)) × (x ≡ get_or (parts t) (length seen) x) → length (join_with_byte 47 (seen ++ x ∷ [])) ≤ length t
 seen-reaches t seen x so_far turn =
-    let more : seen ++ x ∷ [] ≡ take (length seen + 1) (parts t) =
-    ap (λ xs. xs ++ x ∷ []) so_far ∙ ap (λ y. take (length seen) (parts t) ++ y ∷ []) turn.1 ∙ sym (take_more (parts t) (length seen) x turn.0) in
-    let whole : parts t ≡ (seen ++ x ∷ []) ++ drop (length seen + 1) (parts t) = sym (take-append-drop (length seen + 1) (parts t)) ∙ ap (λ xs. xs ++ drop (length seen + 1) (parts t)) (sym more) in
-    omega (arith, join-front (seen ++ x ∷ []) (drop (length seen + 1) (parts t)), ap (λ xs. length (join_with_byte 47 xs)) whole, ap length (join_with_byte-slice_split 47 t))
+    omega (arith, join-front (seen ++ x ∷ []) (drop (length seen + 1) (parts t)), ap (λ xs. length (join_with_byte 47 xs)) (seen-whole (parts t) seen x so_far turn), ap length (join_with_byte-slice_split 47 t))
 
 ends-fit : (t : List ℕ) (seen : List (List ℕ)) (x : List ℕ) (at end : ℕ) (parent : Option ℕ) → HasEnds seen at end parent → seen ≡ take (length seen) (parts t) → (length seen < length (parts t)) × (x ≡ get_or (parts t) (length seen) x) → at + length x ≤ length t
 ends-fit t [] x at end parent h so_far turn = omega (arith, seen-reaches t [] x so_far turn, h.0)
