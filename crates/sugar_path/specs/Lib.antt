@@ -1,2 +1,6 @@
+pub mod Parent
 pub mod Path
 pub mod PathEq
+pub mod PathTypes
+pub mod Reading
+pub mod Route

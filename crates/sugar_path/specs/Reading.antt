@@ -1,0 +1,52 @@
+-- A path being read part by part.
+use Rattle.std.specs.Prelude.{◌≡◌, ◌≤◌, ℕ, ◌&&◌, Bool, true, false, cond, bytes_eq, suc, zero, List, [], ◌∷◌, ◌++◌, length}
+use Rattle.sugar_path.specs.declared.reading.Reading.{Reading}
+use Rattle.sugar_path.specs.Path.{Path, IsPath, with_slash, is_plain}
+use Rattle.sugar_path.specs.Route.{Route, Rooted, Relative}
+
+-- so many `..`, joined by `/`
+abbrev pub dots_text : ℕ → List ℕ
+dots_text zero = []
+dots_text (suc k) = with_slash (dots_text k) ++ 46 ∷ 46 ∷ []
+
+-- names behind a text, the last one first
+abbrev pub text_on : List ℕ → Path → List ℕ
+text_on base [] = base
+text_on base (n ∷ p) = with_slash (text_on base p) ++ n
+
+-- what stands before the names
+abbrev pub base_text : Route → List ℕ
+base_text (Rooted p) = 47 ∷ []
+base_text (Relative ups p) = dots_text ups
+
+abbrev pub is_rooted : Route → Bool
+is_rooted (Rooted p) = true
+is_rooted (Relative ups p) = false
+
+abbrev pub route_names : Route → Path
+route_names (Rooted p) = p
+route_names (Relative ups p) = p
+
+-- parts that a route's text may have: names, behind some `..` where `up` allows them
+abbrev pub are_steps : Bool → List (List ℕ) → Bool
+are_steps up [] = true
+are_steps up (part ∷ rest) = cond (is_plain part) (are_steps false rest) (up && bytes_eq part (46 ∷ 46 ∷ []) && are_steps up rest)
+
+-- the folder that a relative path is read from
+abbrev pub is_start : Route → Bool
+is_start (Rooted p) = false
+is_start (Relative zero []) = true
+is_start (Relative zero (n ∷ p)) = false
+is_start (Relative (suc k) p) = false
+
+-- what was read so far is the route
+pub record HasRead (r : Route) (reading : Reading) : Type 0 where
+  pub text : reading.text.items ≡ text_on (base_text r) (route_names r)
+  pub base : reading.base ≡ length (base_text r)
+  pub rooted : reading.rooted ≡ is_rooted r
+  pub names : IsPath (route_names r)
+
+-- the first bytes of a text that are kept: all of it, or its beginning where the text ends in a name
+pub record StandsOn (base : ℕ) (front : List ℕ) : Type 0 where
+  pub within : base ≤ length front
+  pub all : with_slash front ≡ front → base ≡ length front
