@@ -3,3 +3,4 @@ pub mod Tries
 pub mod Owners
 pub mod Walking
 pub mod Payloads
+pub mod Readings

@@ -1,7 +1,9 @@
 -- Owners, as the trie of locations finds them.
-use Rattle.std.proofs.Common.{◌≡◌, ℕ, Bool, true, false, cond, List, [], ◌∷◌, map, bytes_eq, refl, Some}
+use Rattle.std.proofs.Common.{◌≡◌, ap, ℕ, Bool, true, false, cond, List, [], ◌∷◌, ◌++◌, map, bytes_eq, refl, Some}
 use Rattle.std.specs.Prelude.{option_map}
 use Rattle.std.specs.Map.{lookup}
+use Rattle.indexmap.specs.IndexMap.{insert_entry, insert_all}
+use Rattle.pnp_core.specs.ManifestReading.{entries_of}
 use Rattle.sugar_path.specs.Path.{Path, IsPath}
 use Rattle.pnp_core.specs.declared.manifest.PackageLocator.{PackageLocator}
 use Rattle.std.specs.HashMap.{HashMap}
@@ -31,3 +33,27 @@ at-registry n es = lookup-map (bytes_eq n) (λ m. m.entries) es
 -- the references that are excluded under a name
 pub at-exclusions : {S : Type 0} (n : List ℕ) (es : List (List ℕ × HashSet (List ℕ) S)) → at n (map (λ e. (e.0, e.1.keys)) es) ≡ option_map (λ s. s.keys) (lookup (bytes_eq n) es)
 at-exclusions n es = lookup-map (bytes_eq n) (λ s. s.keys) es
+
+-- a value put at a key, with the values seen by f
+pub map-insert_entry : {K X Y : Type 0} (eq : K → K → Bool) (f : X → Y) (es : List (K × X)) (k : K) (v : X) → map (λ e. (e.0, f e.1)) (insert_entry eq es k v) ≡ insert_entry eq (map (λ e. (e.0, f e.1)) es) k (f v)
+map-insert_entry eq f [] k v = refl
+map-insert_entry eq f (e ∷ es) k v = by_test (eq k e.0) (map-insert_entry eq f es k v)
+  where
+    by_test : (b : Bool) → map (λ e. (e.0, f e.1)) (insert_entry eq es k v) ≡ insert_entry eq (map (λ e. (e.0, f e.1)) es) k (f v)
+        → map (λ e. (e.0, f e.1)) (cond b ((e.0, v) ∷ es) (e ∷ insert_entry eq es k v)) ≡ cond b ((e.0, f v) ∷ map (λ e. (e.0, f e.1)) es) ((e.0, f e.1) ∷ insert_entry eq (map (λ e. (e.0, f e.1)) es) k (f v))
+    by_test true rest = refl
+    by_test false rest = ap (λ s. (e.0, f e.1) ∷ s) rest
+
+pub map-insert-set : {S : Type 0} (es : List (List ℕ × HashSet (List ℕ) S)) (k : List ℕ) (v : HashSet (List ℕ) S) → map (λ e. (e.0, e.1.keys)) (insert_entry bytes_eq es k v) ≡ insert_entry bytes_eq (map (λ e. (e.0, e.1.keys)) es) k v.keys
+map-insert-set es k v = map-insert_entry bytes_eq (λ s. s.keys) es k v
+
+pub map-insert-rows : {S : Type 0} (es : List (List ℕ × HashMap (List ℕ) Package S)) (k : List ℕ) (v : HashMap (List ℕ) Package S) → map (λ e. (e.0, e.1.entries)) (insert_entry bytes_eq es k v) ≡ insert_entry bytes_eq (map (λ e. (e.0, e.1.entries)) es) k v.entries
+map-insert-rows es k v = map-insert_entry bytes_eq (λ m. m.entries) es k v
+
+insert_all-push : {A : Type 0} (es xs : List (List ℕ × A)) (k : List ℕ) (v : A) → insert_all bytes_eq es (xs ++ (k, v) ∷ []) ≡ insert_entry bytes_eq (insert_all bytes_eq es xs) k v
+insert_all-push es [] k v = refl
+insert_all-push es (x ∷ xs) k v = insert_all-push (insert_entry bytes_eq es x.0 x.1) xs k v
+
+-- one more pair is put behind those so far
+pub entries_of-push : {A : Type 0} (xs : List (List ℕ × A)) (k : List ℕ) (v : A) → entries_of (xs ++ (k, v) ∷ []) ≡ insert_entry bytes_eq (entries_of xs) k v
+entries_of-push xs k v = insert_all-push [] xs k v

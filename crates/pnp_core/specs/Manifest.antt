@@ -1,5 +1,5 @@
 -- What a manifest says, as lists in the order of its payload.
-use Rattle.std.specs.Prelude.{ℕ, Bool, false, cond, List, [], Option, Some, map, flat_map, bytes_eq, option_and_then, is_some}
+use Rattle.std.specs.Prelude.{ℕ, Bool, ◌&&◌, List, [], Option, Some, map, flat_map, bytes_eq, option_and_then, is_some}
 use Rattle.std.specs.Map.{lookup}
 use Rattle.pnp_core.specs.declared.manifest.PackageLocator.{PackageLocator}
 use Rattle.pnp_core.specs.declared.manifest.PackageDependency.{PackageDependency}
@@ -64,4 +64,4 @@ rows registry = flat_map rows_under registry
 
 -- two locators are one
 abbrev pub locator_eq : PackageLocator → PackageLocator → Bool
-locator_eq a b = cond (bytes_eq a.name b.name) (bytes_eq a.reference b.reference) false
+locator_eq a b = bytes_eq a.name b.name && bytes_eq a.reference b.reference

@@ -1,5 +1,5 @@
 -- The manifest that bytes are: the JSON of their payload, field by field.
-use Rattle.std.specs.Prelude.{ℕ, false, cond, List, [], ◌∷◌, ◌++◌, Option, Some, None, Result, Ok, Err, map, filter, codes, bytes_eq, is_none, option_map, option_and_then, unwrap_or}
+use Rattle.std.specs.Prelude.{◌≡◌, ℕ, false, cond, List, [], ◌∷◌, ◌++◌, Option, Some, None, Result, Ok, Err, map, filter, codes, bytes_eq, is_none, option_map, option_and_then, unwrap_or}
 use Rattle.std.specs.Str.{is_utf8}
 use Rattle.serde_json.specs.Data.{Data, null, boolean, number, string, array, object, Items, no_items, item}
 use Rattle.serde_json.specs.Find.{get, as_str, as_bool, as_array}
@@ -10,6 +10,8 @@ use Rattle.indexmap.specs.IndexSet as set
 use Rattle.sugar_path.specs.Path.{Path, parent, text_of, join}
 use Rattle.pnp_core.specs.declared.error.HydrationCause.{HydrationCause}
 use Rattle.pnp_core.specs.declared.error.HydrationCause.TheVariants.{NotText, NoPayload, BadJson, NoTopLevel}
+use Rattle.pnp_core.specs.declared.error.ReadManifestError.{ReadManifestError}
+use Rattle.pnp_core.specs.declared.error.ReadManifestError.TheVariants as refusal
 use Rattle.pnp_core.specs.declared.manifest.PackageLocator.{PackageLocator}
 use Rattle.pnp_core.specs.declared.manifest.PackageDependency.{PackageDependency}
 use Rattle.pnp_core.specs.declared.manifest.PackageDependency.TheVariants.{Reference, Alias}
@@ -20,6 +22,12 @@ use Rattle.pnp_core.specs.Manifest.{Dependencies, Package, Registry, Contents, l
 infixl 10 ◌>>=◌
 abbrev pub ◌>>=◌ : {A B : Type 0} → Option A → (A → Option B) → Option B
 found >>= next = option_and_then next found
+
+-- a reader answers what is read, and refuses where nothing is
+abbrev pub ReadsAs : {A : Type 0} → Result A ReadManifestError → Option A → Type 0
+ReadsAs (Ok a) o = o ≡ Some a
+ReadsAs (Err refusal.BadJson) o = o ≡ None
+ReadsAs (Err refusal.NoMemory) o = Unit {0}
 
 -- each member of a list, read
 abbrev pub items_by : {A : Type 0} → (Data → Option A) → Items → Option (List A)

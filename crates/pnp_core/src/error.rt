@@ -2,7 +2,7 @@
 ghost use Rattle.std.specs.Prelude.{◌≡◌};
 
 use crate::PackageLocator;
-use std::alloc::AllocError;
+use std::alloc::{AllocError, AllocFailed};
 use sugar_path::Text;
 use thiserror::Error;
 use tree_core::ReadError;
@@ -99,6 +99,16 @@ impl From<AllocError> for ReadManifestError {
     ghost from_gives = { λ _ e. e ≡ NoMemory };
 
     fn from(_: AllocError) -> Self {
+        ReadManifestError::NoMemory
+    }
+}
+
+impl<T: Drop> From<AllocFailed<T>> for ReadManifestError {
+    ghost use Rattle.pnp_core.specs.declared.error.ReadManifestError.TheVariants.{NoMemory};
+
+    ghost from_gives = { λ _ e. e ≡ NoMemory };
+
+    fn from(_: AllocFailed<T>) -> Self {
         ReadManifestError::NoMemory
     }
 }

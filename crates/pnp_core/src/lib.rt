@@ -3,12 +3,16 @@
 
 mod bare_identifier;
 mod binding;
+mod entries;
 mod error;
+mod floats;
+mod from_json;
 mod manifest;
 mod nearest;
 mod normalize;
 mod owner;
 mod payload;
+mod readers;
 mod registry;
 mod trie;
 mod undeclared;
@@ -24,6 +28,7 @@ pub use nearest::closest_manifest;
 pub use normalize::normalize_path;
 pub use owner::find_locator;
 pub use payload::payload_of;
+pub use readers::read_manifest;
 pub use registry::{get_package, has_package, is_dependency_tree_root, is_excluded_from_fallback};
 pub use trie::Trie;
 pub use undeclared::undeclared_of;

@@ -5,3 +5,5 @@ pub mod Below
 pub mod CleanTexts
 pub mod RouteTexts
 pub mod Placed
+pub mod ParentEnds
+pub mod Heres

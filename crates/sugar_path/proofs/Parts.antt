@@ -1,6 +1,7 @@
 -- The parts of a text, and the path that they lead to.
-use Rattle.std.proofs.Common.{◌≡◌, ◌≢◌, ◌==◌, ◌&&◌, ◌||◌, ◌⊎◌, inl, inr, ℕ, zero, suc, ◌<◌, length, get_or, arith, Bool, true, false, not, cond, List, [], ◌∷◌, ◌++◌, bytes_eq, refl, sym, ap, ◌∙◌}
+use Rattle.std.proofs.Common.{◌≡◌, ◌≢◌, ◌==◌, ◌&&◌, ◌||◌, ◌⊎◌, inl, inr, ℕ, zero, suc, ◌<◌, ◌+◌, length, get_or, take, drop, arith, Bool, true, false, not, cond, List, [], ◌∷◌, ◌++◌, bytes_eq, refl, sym, ap, ◌∙◌}
 use Rattle.std.specs.List.{onto_first, AllByRecursion}
+use Rattle.std.proofs.lemmas.List.{take_more, take-append-drop}
 use Rattle.sugar_path.specs.Path.{Path, IsName, IsPath, has_no_slash, parent, steps, text_of, is_absolute, parts, by_part, by_parts, path_in, clean, IsCleanPath, IsSteps, names_in}
 use Rattle.sugar_path.proofs.Bools.{and_left, and_right}
 use Rattle.sugar_path.proofs.Paths.{no_slash-name, names_in-steps, IsSteps-steps}
@@ -151,3 +152,10 @@ steps-clean t s (p, names, is) (inr (other, same)) = by_names p names is
     by_names : (p : Path) → IsPath p → t ≡ text_of p → IsSteps s × (names_in s ≡ path_in t)
     by_names [] h e = absurd (other e)
     by_names (n ∷ p) h e = rw (same, e) (IsSteps-steps (n ∷ p) h, names_in-steps (n ∷ p) h ∙ sym (path_in-text_of (n ∷ p) h))
+
+-- parts of which some were seen, and the next one is at hand
+pub seen-whole : (all seen : List (List ℕ)) (x : List ℕ) → seen ≡ take (length seen) all → (length seen < length all) × (x ≡ get_or all (length seen) x) → all ≡ (seen ++ x ∷ []) ++ drop (length seen + 1) all
+seen-whole all seen x so_far turn =
+    let more : seen ++ x ∷ [] ≡ take (length seen + 1) all =
+    ap (λ xs. xs ++ x ∷ []) so_far ∙ ap (λ y. take (length seen) all ++ y ∷ []) turn.1 ∙ sym (take_more all (length seen) x turn.0) in
+    sym (take-append-drop (length seen + 1) all) ∙ ap (λ xs. xs ++ drop (length seen + 1) all) (sym more)

@@ -20,7 +20,7 @@ route_parts (Rooted p) = reverse p
 route_parts (Relative ups p) = replicate ups (46 ∷ 46 ∷ []) ++ reverse p
 
 -- a plain part goes down
-route_by_part-plain : (r : Route) (part : List ℕ) → is_plain part ≡ true → route_by_part r part ≡ route_down r part
+pub route_by_part-plain : (r : Route) (part : List ℕ) → is_plain part ≡ true → route_by_part r part ≡ route_down r part
 route_by_part-plain r part h = by_tests (bytes_eq part []) (bytes_eq part (46 ∷ [])) (bytes_eq part (46 ∷ 46 ∷ [])) h
   where
     by_tests : (a b c : Bool) → (not a && not b && not c) ≡ true → cond (a || b) r (cond c (route_up r) (route_down r part)) ≡ route_down r part
@@ -93,7 +93,7 @@ place-rooted t h =
     let read = names-read (Rooted []) (parts t) h in
     ap or_dot (route_text-rooted (route_by_parts (Rooted []) (parts t)) read.1 ∙ ap (λ ys. 47 ∷ join_with_byte 47 ys) read.0 ∙ ap (λ x. 47 ∷ x) (join_with_byte-slice_split 47 t))
 
-start-loose : (t : List ℕ) → is_absolute t ≡ false → route_start t ≡ Relative 0 []
+pub start-loose : (t : List ℕ) → is_absolute t ≡ false → route_start t ≡ Relative 0 []
 start-loose t h = ap (λ b. cond b (Rooted []) (Relative 0 [])) h
 
 place-loose : (t : List ℕ) → is_absolute t ≡ false → are_steps true (parts t) ≡ true → place t ≡ t
@@ -113,7 +113,7 @@ dots-steps : (k : ℕ) (xs : List (List ℕ)) → AllByRecursion IsName xs → a
 dots-steps zero xs h = names-steps true xs h
 dots-steps (suc k) xs h = dots-steps k xs h
 
-AllByRecursion-reverse : (P : List ℕ → Type 0) (p : Path) → AllByRecursion P p → AllByRecursion P (reverse p)
+pub AllByRecursion-reverse : (P : List ℕ → Type 0) (p : Path) → AllByRecursion P p → AllByRecursion P (reverse p)
 AllByRecursion-reverse P [] h = tt
 AllByRecursion-reverse P (n ∷ p) h =
     let Q : List (List ℕ) → Type 0 = AllByRecursion P in

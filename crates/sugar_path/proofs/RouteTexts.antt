@@ -1,5 +1,5 @@
 -- The text of a path that is read part by part.
-use Rattle.std.proofs.Common.{◌≡◌, ◌≢◌, ◌==◌, ◌||◌, ◌⊎◌, inl, inr, ℕ, zero, suc, ◌+◌, ◌-◌, ◌<◌, ◌≤◌, Bool, true, false, not, cond, List, [], ◌∷◌, ◌++◌, length, get_or, take, max, map, bytes_eq, eqb, refl, sym, ap, ◌∙◌, subst, append_assoc, append-nil, arith, length-append, add-one, reverse, replicate}
+use Rattle.std.proofs.Common.{◌≡◌, ◌≢◌, ◌==◌, ◌||◌, ◌⊎◌, inl, inr, ℕ, zero, suc, ◌+◌, ◌-◌, ◌<◌, ◌≤◌, Bool, true, false, not, cond, List, [], ◌∷◌, ◌++◌, length, get_or, take, max, map, bytes_eq, refl, sym, ap, ◌∙◌, subst, append_assoc, append-nil, arith, length-append, add-one, reverse, replicate}
 use Rattle.std.specs.List.{join_with_byte, AllByRecursion}
 use denote.Ref.{Bor}
 use Rattle.std.proofs.lemmas.List.{map-append}
@@ -23,11 +23,11 @@ pub ends-last : (c : ℕ) (t : List ℕ) → ends_in_slash (c ∷ t) ≡ (get_or
 ends-last c [] = refl
 ends-last c (d ∷ t) = ends-last d t
 
-pub needs-last : (t : List ℕ) (x : ℕ) → length t ≢ 0 → x ≡ get_or t (length t - 1) 0 → not (eqb x 47) ≡ not (bytes_eq t [] || ends_in_slash t)
-needs-last [] x some is = absurd (some refl)
-needs-last (c ∷ t) x some is =
+pub ends-byte : (t : List ℕ) (x : ℕ) → length t ≢ 0 → x ≡ get_or t (length t - 1) 0 → (x == 47) ≡ ends_in_slash t
+ends-byte [] x some is = absurd (some refl)
+ends-byte (c ∷ t) x some is =
     let last : length (c ∷ t) - 1 ≡ length t = omega arith in
-    rw (is, last) (ap not (sym (ends-last c t)))
+    rw (is, last) (sym (ends-last c t))
 
 no_slash-get : (n : List ℕ) (i : ℕ) → has_no_slash n ≡ true → i < length n → get_or n i 0 ≡ 47 → ⊥
 no_slash-get [] i h lt is = absurd (omega arith)

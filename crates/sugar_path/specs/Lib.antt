@@ -1,3 +1,4 @@
+pub mod Parent
 pub mod Path
 pub mod PathEq
 pub mod PathTypes

@@ -32,6 +32,13 @@ abbrev pub are_steps : Bool → List (List ℕ) → Bool
 are_steps up [] = true
 are_steps up (part ∷ rest) = cond (is_plain part) (are_steps false rest) (up && bytes_eq part (46 ∷ 46 ∷ []) && are_steps up rest)
 
+-- the folder that a relative path is read from
+abbrev pub is_start : Route → Bool
+is_start (Rooted p) = false
+is_start (Relative zero []) = true
+is_start (Relative zero (n ∷ p)) = false
+is_start (Relative (suc k) p) = false
+
 -- what was read so far is the route
 pub record HasRead (r : Route) (reading : Reading) : Type 0 where
   pub text : reading.text.items ≡ text_on (base_text r) (route_names r)

@@ -1,12 +1,15 @@
 // A clean absolute path, seen as the list of its names, the last one first.
 ghost use Rattle.std.specs.Prelude.{◌≡◌, [], ◌∷◌, IfOk, IsTrue, MatchOption, OnOk, OnErr, cond, not};
-ghost use Rattle.sugar_path.specs.Path.{IsName, IsPath, IsCleanPath, has_no_slash, text_of, parent, is_root, is_absolute, by_part, by_parts, parts, path_in, path_eq, clean, below};
+ghost use Rattle.sugar_path.specs.Path.{IsName, IsPath, IsCleanPath, has_no_slash, steps, text_of, parent, is_root, is_absolute, by_part, by_parts, parts, path_in, path_eq, clean, below};
 ghost use Rattle.std.specs.Cmp.{partial_equiv_from_equiv};
-ghost use Rattle.sugar_path.specs.PathEq.{path_eq-equivalence};
+ghost use Rattle.std.specs.Hash as fed;
+ghost use Rattle.std.specs.Hash.{same_Alike};
+ghost use Rattle.sugar_path.specs.PathEq.{path_eq-Decides, path_eq-equivalence};
 
 use crate::plain::Text;
 use std::alloc::{AllocError, Global};
 use std::fmt;
+use std::hash::{Hash, Hasher};
 use std::marker::Model;
 
 #[derive(Drop)]
@@ -206,6 +209,16 @@ impl PartialEq for CleanPath {
 
 impl Eq for CleanPath {
     ghost laws = { path_eq-equivalence };
+}
+
+impl Hash for CleanPath {
+    ghost hash_input = { λ p. fed.str (steps p) };
+
+    ghost respects_eq = { (same_Alike (λ p. fed.str (steps p)) path_eq-Decides).fed };
+
+    fn hash<H: Hasher>(&self, state: &mut H) {
+        self.steps.as_str().hash(state);
+    }
 }
 
 impl fmt::Debug for CleanPath {

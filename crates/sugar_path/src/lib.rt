@@ -3,17 +3,24 @@
 
 mod clean;
 mod clean_path;
+mod faults;
 mod joined;
 mod lexical;
+mod lexical_buf;
 mod normal;
+mod parents;
 mod path;
 mod plain;
 mod plain_traits;
 mod reading;
+mod sealed;
 
 pub use clean::{clean_text, is_clean};
 pub use clean_path::CleanPath;
+pub use faults::TryError;
 pub use joined::join;
 pub use lexical::SugarPath;
-pub use path::{Path, PathBuf, PathCow};
+pub use lexical_buf::SugarPathBuf;
+pub use parents::parent;
+pub use path::{CwdAnswer, Path, PathBuf, PathCow};
 pub use plain::{Bytes, List, Text};

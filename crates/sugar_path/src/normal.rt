@@ -1,8 +1,10 @@
 // Tests that a path is in order as it stands, so that nothing is copied.
-ghost use Rattle.std.specs.Prelude.{◌≡◌, bytes_eq, false};
+ghost use Rattle.std.specs.Prelude.{◌≡◌, ◌∷◌, [], bytes_eq};
 ghost use Rattle.sugar_path.specs.Path.{parts, is_plain};
-ghost use Rattle.sugar_path.specs.Route.{place, normal};
-ghost use Rattle.sugar_path.specs.Reading.{are_steps};
+ghost use Rattle.sugar_path.specs.Route.{route_of, place, normal};
+ghost use Rattle.sugar_path.specs.Reading.{are_steps, is_start};
+
+use crate::reading::{ends_in_slash, is_absolute};
 
 /// Whether a path is its own normal form.
 pub(crate) fn is_normal(path: &[u8]) -> bool
@@ -22,6 +24,34 @@ pub(crate) fn is_place(path: &[u8]) -> bool
         None => path == b".".as_slice() || are_steps(path, true),
         Some(names) => names.is_empty() || are_steps(names, false),
     }
+}
+
+/// Whether the normal form of a path is `.`.
+pub(crate) fn is_here(path: &[u8]) -> bool
+    ensures { result ≡ bytes_eq (normal path.now) (46 ∷ []) }
+{
+    !ends_in_slash(path) && leads_back(path)
+}
+
+// Whether a path leads back to the folder that it is read from.
+fn leads_back(path: &[u8]) -> bool
+    ensures { result ≡ is_start (route_of path.now) }
+{
+    if is_absolute(path) {
+        return false;
+    }
+    let mut depth = 0usize;
+    for part in path.split(|b| *b == b'/') {
+        if is_plain(part) {
+            depth += 1;
+        } else if part == b"..".as_slice() {
+            if depth == 0 {
+                return false;
+            }
+            depth -= 1;
+        }
+    }
+    depth == 0
 }
 
 // Whether the parts of a path are names, behind some `..` where the path may go up.

@@ -107,3 +107,10 @@ impl<'a> PathCow<'a> {
         }
     }
 }
+
+/// The answer to a question for the process's working folder.
+#[derive(Drop)]
+pub enum CwdAnswer {
+    Known(PathBuf),
+    Unknown,
+}

@@ -1,7 +1,7 @@
 // A path read part by part, its text edited in place.
 ghost use Rattle.std.specs.Prelude.{◌≡◌, ◌++◌, [], ◌||◌, List, ℕ, IfOk, OnOk, IsTrue, bytes_eq, cond, false, not};
 ghost use Rattle.sugar_path.specs.Path.{has_no_slash, ends_in_slash, with_slash, is_absolute, parts, join, IsName};
-ghost use Rattle.sugar_path.specs.Route.{Route, Rooted, Relative, route_by_part, route_by_parts, route_text, or_dot, place};
+ghost use Rattle.sugar_path.specs.Route.{Route, Rooted, Relative, route_by_part, route_by_parts, route_text, or_dot, place, normal};
 ghost use Rattle.sugar_path.specs.Reading.{HasRead, StandsOn};
 
 use memchr::memrchr;
@@ -83,6 +83,18 @@ pub(crate) fn place_of(alloc: Global, path: &[u8]) -> Result<Vec<u8>, AllocError
     reading.into_place()
 }
 
+/// The normal form of a path.
+#[tactic(auto, unfolding(crate::specs::Route::normal))]
+pub(crate) fn normal_of(alloc: Global, path: &[u8]) -> Result<Vec<u8>, AllocError>
+    ensures { IfOk result (λ v. v.items ≡ normal path.now) }
+{
+    let mut text = place_of(alloc, path)?;
+    if ends_in_slash(path) && text.as_slice() != b"/".as_slice() {
+        text.push(b'/')?;
+    }
+    Ok(text)
+}
+
 /// The place of a relative path that is read from a folder.
 pub(crate) fn place_below(alloc: Global, folder: &[u8], path: &[u8]) -> Result<Vec<u8>, AllocError>
     requires { is_absolute path.now ≡ false }
@@ -115,9 +127,16 @@ pub(crate) fn push_part(text: &mut Vec<u8>, part: &[u8]) -> Result<(), AllocErro
 fn needs_slash(text: &[u8]) -> bool
     ensures { result ≡ not (bytes_eq text.now [] || ends_in_slash text.now) }
 {
-    match text.last() {
+    !text.is_empty() && !ends_in_slash(text)
+}
+
+/// Whether the last byte of a path is a separator.
+pub(crate) fn ends_in_slash(path: &[u8]) -> bool
+    ensures { result ≡ ends_in_slash path.now }
+{
+    match path.last() {
         None => false,
-        Some(last) => *last != b'/',
+        Some(last) => *last == b'/',
     }
 }
 

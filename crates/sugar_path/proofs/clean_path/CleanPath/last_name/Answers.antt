@@ -1,6 +1,6 @@
 use Rattle.std.proofs.Common.{◌≡◌, ◌∷◌, ◌+◌, List, ℕ, drop, sym, ap, ◌∙◌, subst, arith}
 use Rattle.std.proofs.lemmas.Str.Pattern.{rfind_char}
-use Rattle.sugar_path.specs.Path.{Path, IsPath, IsName, parent, names_in}
+use Rattle.sugar_path.specs.Path.{Path, IsPath, IsName, parent}
 use Rattle.sugar_path.proofs.Paths.{names_in-up, names_in-none}
 use Rattle.sugar_path.proofs.clean_path.CleanPath.last_name.Goals as goal
 

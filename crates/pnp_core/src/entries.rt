@@ -1,0 +1,137 @@
+// A payload's lists of pairs as maps, and its lists of names as sets: a repeated name keeps its place, and takes the last value.
+ghost use Rattle.std.specs.Prelude.{◌≡◌, IfOk, map, []};
+ghost use Rattle.pnp_core.specs.ManifestReading.{entries_of, named};
+ghost use Rattle.indexmap.specs.IndexSet as set;
+
+use crate::ReadManifestError;
+use crate::from_json::FromJson;
+use indexmap::{IndexMap, IndexSet};
+use serde_json::Value;
+use std::alloc::{AllocError, Global};
+use std::hash::Hash;
+use std::marker::Model;
+use sugar_path::{List, Text};
+
+/// Values by name, seen as the list of pairs.
+#[derive(Drop)]
+pub(crate) struct Entries<V> {
+    pub(crate) map: IndexMap<Text, V>,
+}
+
+impl<V> Model for Entries<V> {
+    ghost use Rattle.std.specs.Prelude as prelude;
+
+    ghost Value = { prelude.List (prelude.List prelude.ℕ × V) };
+
+    ghost view = { λ e. e.map.entries };
+}
+
+impl<V: FromJson> FromJson for Entries<V> {
+    ghost use Rattle.std.specs.Prelude.{option_map};
+    ghost use Rattle.serde_json.specs.Find.{as_str};
+    ghost use Rattle.pnp_core.specs.ManifestReading.{entries_of, list_by, pair_by};
+
+    ghost reads = { λ d. option_map entries_of (list_by (pair_by as_str V.reads) d) };
+
+    fn from_json(alloc: Global, value: &Value) -> Result<Self, ReadManifestError> {
+        let pairs = List::<(Text, V)>::from_json(alloc, value)?;
+        let entries = collected(alloc, pairs.into())?;
+        Ok(entries)
+    }
+}
+
+/// Values by a name that may be null, which stands for the empty text.
+#[derive(Drop)]
+pub(crate) struct NullableEntries<V> {
+    pub(crate) map: IndexMap<Text, V>,
+}
+
+impl<V> Model for NullableEntries<V> {
+    ghost use Rattle.std.specs.Prelude as prelude;
+
+    ghost Value = { prelude.List (prelude.List prelude.ℕ × V) };
+
+    ghost view = { λ e. e.map.entries };
+}
+
+impl<V: FromJson> FromJson for NullableEntries<V> {
+    ghost use Rattle.std.specs.Prelude.{option_map, map};
+    ghost use Rattle.serde_json.specs.Find.{as_str};
+    ghost use Rattle.pnp_core.specs.ManifestReading.{entries_of, list_by, pair_by, nullable_by, named};
+
+    ghost reads = { λ d. option_map (λ pairs. entries_of (map named pairs)) (list_by (pair_by (nullable_by as_str) V.reads) d) };
+
+    fn from_json(alloc: Global, value: &Value) -> Result<Self, ReadManifestError> {
+        let pairs = List::<(Option<Text>, V)>::from_json(alloc, value)?;
+        let Entries { map } = collected(alloc, named(alloc, pairs.into())?)?;
+        Ok(NullableEntries { map })
+    }
+}
+
+/// Members, each once, seen as their list.
+#[derive(Drop)]
+pub(crate) struct Members<T: Eq + Hash> {
+    pub(crate) set: IndexSet<T>,
+}
+
+impl<T: Eq + Hash> Model for Members<T> {
+    ghost use Rattle.std.specs.Prelude as prelude;
+
+    ghost Value = { prelude.List T };
+
+    ghost view = { λ m. m.set.keys };
+}
+
+impl<T: FromJson + Eq + Hash> FromJson for Members<T> {
+    ghost use Rattle.std.specs.Prelude.{option_map, []};
+    ghost use Rattle.indexmap.specs.IndexSet as set;
+    ghost use Rattle.pnp_core.specs.ManifestReading.{list_by};
+
+    ghost reads = { λ d. option_map (set.insert_all T.eq []) (list_by T.reads d) };
+
+    fn from_json(alloc: Global, value: &Value) -> Result<Self, ReadManifestError> {
+        let members = List::<T>::from_json(alloc, value)?;
+        let members = distinct(alloc, members.into())?;
+        Ok(members)
+    }
+}
+
+// The map of a list of pairs.
+fn collected<V: Drop>(alloc: Global, pairs: Vec<(Text, V)>) -> Result<Entries<V>, AllocError>
+    ensures { IfOk result (λ entries. entries ≡ entries_of pairs.items) }
+{
+    let mut map = IndexMap::new(alloc);
+    for (name, value) in pairs {
+        map.insert(name, value)?;
+    }
+    Ok(Entries { map })
+}
+
+// The pairs, with the empty text for null.
+pub(crate) fn named<V: Drop>(
+    alloc: Global,
+    pairs: Vec<(Option<Text>, V)>,
+) -> Result<Vec<(Text, V)>, AllocError>
+    ensures { IfOk result (λ read. read.items ≡ map named pairs.items) }
+{
+    let mut read = Vec::new(alloc);
+    for (name, value) in pairs {
+        let name = match name {
+            Some(name) => name,
+            None => Text::from(String::new(alloc)),
+        };
+        read.push((name, value))?;
+    }
+    Ok(read)
+}
+
+// The set of a list.
+fn distinct<T: Eq + Hash + Drop>(alloc: Global, members: Vec<T>) -> Result<Members<T>, AllocError>
+    ensures { IfOk result (λ read. read ≡ set.insert_all T.eq [] members.items) }
+{
+    let mut set = IndexSet::new(alloc);
+    for member in members {
+        set.insert(member)?;
+    }
+    Ok(Members { set })
+}

@@ -1,0 +1,186 @@
+// A manifest read from the value of its payload.
+ghost use Rattle.std.specs.Prelude.{◌≡◌, IfOk, map};
+ghost use Rattle.serde_json.specs.View.{view};
+ghost use Rattle.pnp_core.specs.ManifestReading.{ReadsAs, entries_of, manifest_in, fields_in};
+
+use crate::entries::{Entries, Members, NullableEntries, named};
+use crate::floats::holds_float;
+use crate::from_json::{FromJson, field, field_or};
+use crate::{
+    Manifest, PackageDependency, PackageInformation, PackageLocator, ReadManifestError, Trie,
+};
+use indexmap::{IndexMap, IndexSet};
+use serde_json::Value;
+use std::alloc::{AllocError, Global};
+use std::marker::Model;
+use sugar_path::{List, Text};
+
+/// The manifest that a JSON value says. It has no folder and no path yet, and its locations are as they were written.
+/// `BadJson` comes for a value of another kind and for one that holds a float.
+pub fn read_manifest(alloc: Global, value: &Value) -> Result<Manifest, ReadManifestError>
+    ensures { ReadsAs result (manifest_in (view value.now)) }
+{
+    if holds_float(value) {
+        return Err(ReadManifestError::BadJson);
+    }
+    fields(alloc, value)
+}
+
+// The fields of a manifest; others are passed over.
+fn fields(alloc: Global, value: &Value) -> Result<Manifest, ReadManifestError>
+    ensures { ReadsAs result (fields_in (view value.now)) }
+{
+    let enable_top_level_fallback: bool = field(alloc, value, "enableTopLevelFallback")?;
+    let ignore_pattern_data: Option<Text> = field_or(alloc, value, "ignorePatternData", None)?;
+    let roots: Members<PackageLocator> = field(alloc, value, "dependencyTreeRoots")?;
+    let pool: Entries<Option<PackageDependency>> = field(alloc, value, "fallbackPool")?;
+    let exclusions: Exclusions = field(alloc, value, "fallbackExclusionList")?;
+    let registry: Registry = field(alloc, value, "packageRegistryData")?;
+    Ok(Manifest {
+        manifest_dir: Text::from(String::new(alloc)),
+        manifest_path: Text::from(String::new(alloc)),
+        location_trie: Trie::new(alloc),
+        enable_top_level_fallback,
+        ignore_pattern_data,
+        dependency_tree_roots: roots.set,
+        fallback_pool: pool.map,
+        fallback_exclusion_list: exclusions.map,
+        package_registry_data: registry.map,
+    })
+}
+
+impl FromJson for PackageLocator {
+    ghost use Rattle.pnp_core.specs.ManifestReading.{locator_in};
+
+    ghost reads = { locator_in };
+
+    fn from_json(alloc: Global, value: &Value) -> Result<Self, ReadManifestError> {
+        let name: Text = field(alloc, value, "name")?;
+        let reference: Text = field(alloc, value, "reference")?;
+        Ok(PackageLocator { name, reference })
+    }
+}
+
+impl FromJson for PackageDependency {
+    ghost use Rattle.pnp_core.specs.ManifestReading.{dependency_in};
+
+    ghost reads = { dependency_in };
+
+    fn from_json(alloc: Global, value: &Value) -> Result<Self, ReadManifestError> {
+        match value {
+            Value::String(reference) => Ok(PackageDependency::Reference(Text::of(
+                alloc,
+                reference.as_str(),
+            )?)),
+            _ => {
+                let (name, reference) = <(Text, Text)>::from_json(alloc, value)?;
+                Ok(PackageDependency::Alias(name, reference))
+            }
+        }
+    }
+}
+
+impl FromJson for PackageInformation {
+    ghost use Rattle.pnp_core.specs.ManifestReading.{package_in};
+
+    ghost reads = { package_in };
+
+    fn from_json(alloc: Global, value: &Value) -> Result<Self, ReadManifestError> {
+        let package_location: Text = field(alloc, value, "packageLocation")?;
+        let discard_from_lookup: bool = field_or(alloc, value, "discardFromLookup", false)?;
+        let dependencies: Entries<Option<PackageDependency>> = field(
+            alloc,
+            value,
+            "packageDependencies",
+        )?;
+        Ok(PackageInformation {
+            package_location,
+            discard_from_lookup,
+            package_dependencies: dependencies.map,
+        })
+    }
+}
+
+// References by name, seen as lists.
+#[derive(Drop)]
+struct Exclusions {
+    map: IndexMap<Text, IndexSet<Text>>,
+}
+
+impl Model for Exclusions {
+    ghost use Rattle.std.specs.Prelude as prelude;
+
+    ghost Value = { prelude.List (prelude.List prelude.ℕ × prelude.List (prelude.List prelude.ℕ)) };
+
+    ghost view = { λ e. prelude.map (λ named. (named.0, named.1.keys)) e.map.entries };
+}
+
+impl FromJson for Exclusions {
+    ghost use Rattle.pnp_core.specs.ManifestReading.{exclusions_in};
+
+    ghost reads = { exclusions_in };
+
+    fn from_json(alloc: Global, value: &Value) -> Result<Self, ReadManifestError> {
+        let pairs = List::<(Text, Members<Text>)>::from_json(alloc, value)?;
+        let exclusions = collect_exclusions(alloc, pairs.into())?;
+        Ok(exclusions)
+    }
+}
+
+fn collect_exclusions(
+    alloc: Global,
+    pairs: Vec<(Text, Members<Text>)>,
+) -> Result<Exclusions, AllocError>
+    ensures { IfOk result (λ read. read ≡ entries_of pairs.items) }
+{
+    let mut map = IndexMap::new(alloc);
+    for (name, references) in pairs {
+        let Members { set } = references;
+        map.insert(name, set)?;
+    }
+    Ok(Exclusions { map })
+}
+
+// Rows by reference by name, seen as lists.
+#[derive(Drop)]
+struct Registry {
+    map: IndexMap<Text, IndexMap<Text, PackageInformation>>,
+}
+
+impl Model for Registry {
+    ghost use Rattle.std.specs.Prelude as prelude;
+    ghost use Rattle.pnp_core.specs.Manifest as manifest;
+
+    ghost Value = { manifest.Registry };
+
+    ghost view = { λ r. prelude.map (λ named. (named.0, named.1.entries)) r.map.entries };
+}
+
+impl FromJson for Registry {
+    ghost use Rattle.pnp_core.specs.ManifestReading.{registry_in};
+
+    ghost reads = { registry_in };
+
+    fn from_json(alloc: Global, value: &Value) -> Result<Self, ReadManifestError> {
+        let pairs = List::<(Option<Text>, NullableEntries<PackageInformation>)>::from_json(
+            alloc, value,
+        )?;
+        let rows = named(alloc, pairs.into())?;
+        let registry = collect_registry(alloc, rows)?;
+        Ok(registry)
+    }
+}
+
+fn collect_registry(
+    alloc: Global,
+    rows: Vec<(Text, NullableEntries<PackageInformation>)>,
+) -> Result<Registry, AllocError>
+    ensures { IfOk result (λ read. read ≡ entries_of rows.items) }
+{
+    let mut map = IndexMap::new(alloc);
+    for (name, references) in rows {
+        let NullableEntries { map: packages } = references;
+        map.insert(name, packages)?;
+    }
+    Ok(Registry { map })
+}
