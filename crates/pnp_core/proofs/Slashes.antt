@@ -1,11 +1,12 @@
 -- A text with `/` in place of `\`, and names in the order of a text.
-use Rattle.std.proofs.Common.{◌≡◌, ℕ, suc, ◌+◌, ◌-◌, ◌<◌, ◌==◌, ◌||◌, Bool, true, false, not, cond, List, [], ◌∷◌, ◌++◌, length, get_or, take, drop, map, reverse, refl, ap, subst, ◌∙◌, arith}
+use Rattle.std.proofs.Common.{sym, bytes_eq, inr, inl, ◌⊎◌, ◌≢◌, ◌≡◌, ℕ, suc, ◌+◌, ◌-◌, ◌<◌, ◌==◌, ◌||◌, Bool, true, false, not, cond, List, [], ◌∷◌, ◌++◌, length, get_or, take, drop, map, reverse, refl, ap, subst, ◌∙◌, arith}
 use Rattle.std.specs.List.{onto_first, position_or_len, before_first, after_first}
 use Rattle.std.proofs.lemmas.List.{map-append, reverse-append}
 use Rattle.sugar_path.specs.Path.{Path, IsPath, IsCleanPath, parts, is_absolute, ends_in_slash, by_parts, clean}
 use Rattle.pnp_core.specs.NormalizePath.{pieces, location_path, by_relative_part, by_relative_parts, relative_names}
 use Rattle.pnp_core.specs.Slashed.{slashed, names_of}
 use Rattle.sugar_path.proofs.Parts.{IsPath-clean, text_of-absolute}
+use Rattle.std.proofs.lemmas.Bool.Decides.{eqb_tells}
 use denote.Ref.{Bor}
 
 -- a text without `\` stays
@@ -79,3 +80,12 @@ IsPath-location_path t = let P : Path → Type 0 = IsPath in subst P (clean-slas
 -- a clean path's text is absolute
 pub clean-is_absolute : (t : List ℕ) → IsCleanPath t → is_absolute t ≡ true
 clean-is_absolute t h = rw h.2 (text_of-absolute h.0)
+
+-- a text is empty where its length is 0
+pub bytes_eq-nil : (t : List ℕ) → bytes_eq t [] ≡ (length t == 0)
+bytes_eq-nil [] = refl
+bytes_eq-nil (c ∷ cs) = by_test (eqb_tells (length (c ∷ cs)) 0)
+  where
+    by_test : ((length (c ∷ cs) == 0) ≡ true) × (length (c ∷ cs) ≡ 0) ⊎ ((length (c ∷ cs) == 0) ≡ false) × (length (c ∷ cs) ≢ 0) → false ≡ (length (c ∷ cs) == 0)
+    by_test (inl w) = absurd (omega arith)
+    by_test (inr w) = sym w.0

@@ -9,6 +9,8 @@ pub mod Trie
 pub mod Located
 pub mod Binding
 pub mod Wording
+pub mod Relocated
 pub mod Refusal
 pub mod Nearest
+pub mod Hydration
 pub mod Loading

@@ -146,12 +146,15 @@ manifest_in d = cond (has_float d) None (fields_in d)
 abbrev pub located : List ℕ → Package → Package
 located dir p = record p { package_location = normalize_path (join dir p.package_location) }
 
+abbrev pub located_rows : List ℕ → List (List ℕ × Package) → List (List ℕ × Package)
+located_rows dir references = map (λ row. (row.0, located dir row.1)) references
+
 abbrev pub located_registry : List ℕ → Registry → Registry
-located_registry dir registry = map (λ named. (named.0, map (λ row. (row.0, located dir row.1)) named.1)) registry
+located_registry dir registry = map (λ named. (named.0, located_rows dir named.1)) registry
 
 -- the pool, and behind it the top-level row's bindings of names that the pool lacks, nulls too
 abbrev pub filled : Dependencies → Dependencies → Dependencies
-filled pool own = pool ++ filter (λ bound. is_none (at bound.0 pool)) own
+filled pool own = insert_all bytes_eq pool (filter (λ bound. is_none (at bound.0 pool)) own)
 
 abbrev pub filled_by : Dependencies → Option Package → Dependencies
 filled_by pool None = pool

@@ -7,6 +7,8 @@ mod entries;
 mod error;
 mod floats;
 mod from_json;
+mod initialize;
+mod loading;
 mod manifest;
 mod nearest;
 mod normalize;
@@ -23,6 +25,8 @@ pub use error::{
     BadSpecifier, Error, FailedManifestHydration, HydrationCause, ReadManifestError,
     UndeclaredDependency,
 };
+pub use initialize::init_pnp_manifest;
+pub use loading::loaded_manifest;
 pub use manifest::{Binding, Manifest, PackageDependency, PackageInformation, PackageLocator};
 pub use nearest::closest_manifest;
 pub use normalize::normalize_path;

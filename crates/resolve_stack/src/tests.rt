@@ -62,5 +62,10 @@ fn bare_names_are_answered(rt: HostRuntime) -> Result<(), Fail> {
 
 #[test]
 fn a_working_folder_has_to_be_clean(rt: HostRuntime) {
-    assert!(rt; matches!(project(rt.alloc(), "w"), Err(ProjectError::SettingsFault { .. })));
+    assert!(rt;
+        matches!(
+            project(rt.alloc(), "w"),
+            Err(ProjectError::SettingsFault { .. })
+        )
+    );
 }

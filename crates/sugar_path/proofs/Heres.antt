@@ -1,38 +1,37 @@
 -- Paths that lead back to where they begin.
-use Rattle.std.proofs.Common.{◌≡◌, ◌≢◌, ◌==◌, ◌&&◌, ◌||◌, ◌⊎◌, inl, inr, ℕ, zero, suc, ◌+◌, ◌-◌, ◌<◌, Bool, true, false, not, cond, List, [], ◌∷◌, ◌++◌, length, map, get_or, bytes_eq, refl, sym, ap, ◌∙◌, subst, reverse, replicate, take, drop, add-one, arith, length-append}
+use mathlib.Core.Bool.{beq}
+use Rattle.std.proofs.Common.{eqb, ◌≡◌, ◌≢◌, ◌==◌, ◌&&◌, ◌||◌, ◌⊎◌, inl, inr, ℕ, zero, suc, ◌+◌, ◌-◌, Bool, true, false, not, cond, List, [], ◌∷◌, ◌++◌, length, map, bytes_eq, refl, sym, ap, ◌∙◌, subst, reverse, replicate, arith, length-append}
 use denote.Ref.{Bor}
 use Rattle.std.specs.List.{join_with_byte, AllByRecursion}
 use Rattle.std.proofs.lemmas.Bool.Decides.{eqb_tells}
-use Rattle.std.proofs.lemmas.List.{map-append, length-map}
+use Rattle.std.proofs.lemmas.List.{map-append}
 use Rattle.std.proofs.lemmas.Slice.Eq.{bytes_eq-Decides}
+use Rattle.sugar_path.specs.declared.normal.Climb.{Climb}
+use Rattle.sugar_path.specs.Relative.{same_start, needs_folder}
 use Rattle.sugar_path.specs.Path.{IsName, IsPath, is_plain, is_absolute, ends_in_slash, parts}
-use Rattle.sugar_path.specs.Route.{Route, Rooted, Relative, route_up, route_down, route_by_part, route_by_parts, route_of, route_text, or_dot, place, normal}
-use Rattle.sugar_path.specs.Reading.{is_start, is_rooted, route_names}
+use Rattle.sugar_path.specs.Route.{Route, Rooted, Relative, route_up, route_down, route_by_part, route_by_parts, route_of, route_names, is_rooted, route_text, or_dot, place, normal}
+use Rattle.sugar_path.specs.Reading.{HasClimb, is_start, ups_of}
 use Rattle.sugar_path.proofs.RouteTexts.{route_by_parts-append}
 use Rattle.std.proofs.lemmas.Grind.{reverse_onto}
-use Rattle.sugar_path.proofs.Parts.{seen-whole}
 use Rattle.sugar_path.proofs.Placed.{route_by_part-plain, AllByRecursion-reverse, IsPath-route_of, route_of-rooted, normal-open, start-loose}
 
--- a relative route that goes up no folder, and down so many
-abbrev pub HasDepth : Route → ℕ → Type 0
-HasDepth (Rooted p) depth = ⊥
-HasDepth (Relative zero p) depth = length p ≡ depth
-HasDepth (Relative (suc k) p) depth = ⊥
-
--- what one more part does to it
-HasDepth-plain : (r : Route) (d : ℕ) (x : List ℕ) → HasDepth r d → is_plain x ≡ true → HasDepth (route_by_part r x) (d + 1)
-HasDepth-plain r d x h plain = rw (route_by_part-plain r x plain) (by_route r h)
+-- what one more part does to a climb
+HasClimb-plain : (r : Route) (a b : Climb) (x : List ℕ) → HasClimb r a → is_plain x ≡ true → b.ups ≡ a.ups → b.depth ≡ a.depth + 1 → HasClimb (route_by_part r x) b
+HasClimb-plain r a b x h plain ups depth = rw (route_by_part-plain r x plain) (by_route r h)
   where
-    by_route : (r : Route) → HasDepth r d → HasDepth (route_down r x) (d + 1)
+    by_route : (r : Route) → HasClimb r a → HasClimb (route_down r x) b
     by_route (Rooted p) h = absurd h
-    by_route (Relative zero p) h = omega arith
-    by_route (Relative (suc k) p) h = absurd h
+    by_route (Relative k p) h = (ups ∙ h.0, omega (arith, h.1, depth))
 
-HasDepth-up : (r : Route) (d : ℕ) → HasDepth r d → d ≢ 0 → HasDepth (route_up r) (d - 1)
-HasDepth-up (Rooted p) d h some = absurd h
-HasDepth-up (Relative zero []) d h some = absurd (some (sym h))
-HasDepth-up (Relative zero (n ∷ p)) d h some = omega arith
-HasDepth-up (Relative (suc k) p) d h some = absurd h
+HasClimb-back : (r : Route) (a b : Climb) → HasClimb r a → a.depth ≢ 0 → b.ups ≡ a.ups → b.depth ≡ a.depth - 1 → HasClimb (route_up r) b
+HasClimb-back (Rooted p) a b h some ups depth = absurd h
+HasClimb-back (Relative k []) a b h some ups depth = absurd (some h.1)
+HasClimb-back (Relative k (n ∷ p)) a b h some ups depth = (ups ∙ h.0, omega (arith, h.1, depth))
+
+HasClimb-up : (r : Route) (a b : Climb) → HasClimb r a → a.depth ≡ 0 → b.ups ≡ a.ups + 1 → b.depth ≡ a.depth → HasClimb (route_up r) b
+HasClimb-up (Rooted p) a b h none ups depth = absurd h
+HasClimb-up (Relative k []) a b h none ups depth = (omega (arith, h.0, ups), omega (arith, h.1, depth))
+HasClimb-up (Relative k (n ∷ p)) a b h none ups depth = absurd (omega (arith, h.1, none))
 
 route_by_part-silent : (r : Route) (x : List ℕ) → is_plain x ≡ false → bytes_eq x (46 ∷ 46 ∷ []) ≡ false → route_by_part r x ≡ r
 route_by_part-silent r x plain dots = by_tests (bytes_eq x []) (bytes_eq x (46 ∷ [])) (bytes_eq x (46 ∷ 46 ∷ [])) plain dots
@@ -43,43 +42,6 @@ route_by_part-silent r x plain dots = by_tests (bytes_eq x []) (bytes_eq x (46 �
     by_tests false false true p d = cc
     by_tests false false false p d = cc
 
--- a route that goes up some folder goes up it from then on
-abbrev IsAbove : Route → Type 0
-IsAbove (Rooted p) = ⊥
-IsAbove (Relative zero p) = ⊥
-IsAbove (Relative (suc k) p) = Unit {0}
-
-IsAbove-up : (r : Route) → IsAbove r → IsAbove (route_up r)
-IsAbove-up (Rooted p) h = absurd h
-IsAbove-up (Relative zero p) h = absurd h
-IsAbove-up (Relative (suc k) []) h = let P : ℕ → Type 0 = λ n. IsAbove (Relative n []) in subst P (sym (add-one (suc k))) tt
-IsAbove-up (Relative (suc k) (n ∷ p)) h = tt
-
-IsAbove-down : (r : Route) (x : List ℕ) → IsAbove r → IsAbove (route_down r x)
-IsAbove-down (Rooted p) x h = absurd h
-IsAbove-down (Relative zero p) x h = absurd h
-IsAbove-down (Relative (suc k) p) x h = tt
-
-IsAbove-parts : (r : Route) (xs : List (List ℕ)) → IsAbove r → IsAbove (route_by_parts r xs)
-IsAbove-parts r [] h = h
-IsAbove-parts r (x ∷ xs) h = IsAbove-parts (route_by_part r x) xs (by_tests (bytes_eq x [] || bytes_eq x (46 ∷ [])) (bytes_eq x (46 ∷ 46 ∷ [])))
-  where
-    by_tests : (a b : Bool) → IsAbove (cond a r (cond b (route_up r) (route_down r x)))
-    by_tests true b = h
-    by_tests false true = IsAbove-up r h
-    by_tests false false = IsAbove-down r x h
-
-above-start : (r : Route) → IsAbove r → is_start r ≡ false
-above-start (Rooted p) h = refl
-above-start (Relative zero p) h = absurd h
-above-start (Relative (suc k) p) h = refl
-
-above-first : (r : Route) → HasDepth r 0 → IsAbove (route_up r)
-above-first (Rooted p) h = absurd h
-above-first (Relative zero []) h = tt
-above-first (Relative zero (n ∷ p)) h = absurd (omega (arith, h))
-above-first (Relative (suc k) p) h = absurd h
-
 -- ---- the same at the parts that a loop passed
 abbrev pub seen_route : List (Bor (List ℕ)) → Route
 seen_route seen = route_by_parts (Relative 0 []) (map (λ x. x.now) seen)
@@ -87,43 +49,66 @@ seen_route seen = route_by_parts (Relative 0 []) (map (λ x. x.now) seen)
 seen-push : (seen : List (Bor (List ℕ))) (x : Bor (List ℕ)) → seen_route (seen ++ x ∷ []) ≡ route_by_part (seen_route seen) x.now
 seen-push seen x = ap (route_by_parts (Relative 0 [])) (map-append (λ y. y.now) seen (x ∷ [])) ∙ route_by_parts-append (Relative 0 []) (map (λ y. y.now) seen) (x.now ∷ [])
 
-pub seen-plain : (seen : List (Bor (List ℕ))) (x : Bor (List ℕ)) (d : ℕ) → HasDepth (seen_route seen) d → is_plain x.now ≡ true → HasDepth (seen_route (seen ++ x ∷ [])) (d + 1)
-seen-plain seen x d h plain = rw seen-push (HasDepth-plain (seen_route seen) d x.now h plain)
+pub seen-plain : (seen : List (Bor (List ℕ))) (x : Bor (List ℕ)) (a b : Climb) → HasClimb (seen_route seen) a → is_plain x.now ≡ true → b.ups ≡ a.ups → b.depth ≡ a.depth + 1 → HasClimb (seen_route (seen ++ x ∷ [])) b
+seen-plain seen x a b h plain ups depth = rw seen-push (HasClimb-plain (seen_route seen) a b x.now h plain ups depth)
 
-pub seen-up : (seen : List (Bor (List ℕ))) (x : Bor (List ℕ)) (d : ℕ) → HasDepth (seen_route seen) d → x.now ≡ 46 ∷ 46 ∷ [] → d ≢ 0 → HasDepth (seen_route (seen ++ x ∷ [])) (d - 1)
-seen-up seen x d h dots some =
-    let P : Route → Type 0 = λ r. HasDepth r (d - 1) in
-    let up : seen_route (seen ++ x ∷ []) ≡ route_up (seen_route seen) = seen-push seen x ∙ ap (route_by_part (seen_route seen)) dots in
-    subst P (sym up) (HasDepth-up (seen_route seen) d h some)
+pub seen-back : (seen : List (Bor (List ℕ))) (x : Bor (List ℕ)) (a b : Climb) → HasClimb (seen_route seen) a → x.now ≡ 46 ∷ 46 ∷ [] → a.depth ≢ 0 → b.ups ≡ a.ups → b.depth ≡ a.depth - 1 → HasClimb (seen_route (seen ++ x ∷ [])) b
+seen-back seen x a b h dots some ups depth =
+    let P : Route → Type 0 = λ r. HasClimb r b in
+    subst P (sym (seen-push seen x ∙ ap (route_by_part (seen_route seen)) dots)) (HasClimb-back (seen_route seen) a b h some ups depth)
 
-pub seen-silent : (seen : List (Bor (List ℕ))) (x : Bor (List ℕ)) (d : ℕ) → HasDepth (seen_route seen) d → is_plain x.now ≡ false → bytes_eq x.now (46 ∷ 46 ∷ []) ≡ false → HasDepth (seen_route (seen ++ x ∷ [])) d
-seen-silent seen x d h plain dots =
-    let P : Route → Type 0 = λ r. HasDepth r d in
+pub seen-up : (seen : List (Bor (List ℕ))) (x : Bor (List ℕ)) (a b : Climb) → HasClimb (seen_route seen) a → x.now ≡ 46 ∷ 46 ∷ [] → a.depth ≡ 0 → b.ups ≡ a.ups + 1 → b.depth ≡ a.depth → HasClimb (seen_route (seen ++ x ∷ [])) b
+seen-up seen x a b h dots none ups depth =
+    let P : Route → Type 0 = λ r. HasClimb r b in
+    subst P (sym (seen-push seen x ∙ ap (route_by_part (seen_route seen)) dots)) (HasClimb-up (seen_route seen) a b h none ups depth)
+
+pub seen-silent : (seen : List (Bor (List ℕ))) (x : Bor (List ℕ)) (a : Climb) → HasClimb (seen_route seen) a → is_plain x.now ≡ false → bytes_eq x.now (46 ∷ 46 ∷ []) ≡ false → HasClimb (seen_route (seen ++ x ∷ [])) a
+seen-silent seen x a h plain dots =
+    let P : Route → Type 0 = λ r. HasClimb r a in
     subst P (sym (seen-push seen x ∙ route_by_part-silent (seen_route seen) x.now plain dots)) h
 
--- a `..` where no name is left
-pub seen-above : (all : List (List ℕ)) (seen : List (Bor (List ℕ))) (x : Bor (List ℕ)) (d : ℕ) → HasDepth (seen_route seen) d → d ≡ 0 → x.now ≡ 46 ∷ 46 ∷ [] → map (λ y. y.now) seen ≡ take (length seen) all → (length seen < length all) × (x.now ≡ get_or all (length seen) x.now) → is_start (route_by_parts (Relative 0 []) all) ≡ false
-seen-above all seen x d h none dots so_far turn =
-    let long : length (map (λ (y : Bor (List ℕ)). y.now) seen) ≡ length seen = length-map seen (λ y. y.now) in
-    let whole = seen-whole all (map (λ y. y.now) seen) x.now (rw long so_far) (rw long turn) in
-    let P : ℕ → Type 0 = HasDepth (seen_route seen) in
-    let up = above-first (seen_route seen) (subst P none h) in
-    let later = drop (length (map (λ (y : Bor (List ℕ)). y.now) seen) + 1) all in
-    let routes : route_by_parts (Relative 0 []) all ≡ route_by_parts (route_up (seen_route seen)) later =
-    ap (route_by_parts (Relative 0 [])) whole
-    ∙ route_by_parts-append (Relative 0 []) (map (λ y. y.now) seen ++ x.now ∷ []) later
-    ∙ ap (λ r. route_by_parts r later) (route_by_parts-append (Relative 0 []) (map (λ y. y.now) seen) (x.now ∷ []) ∙ ap (route_by_part (seen_route seen)) dots) in
-    ap is_start routes ∙ above-start (route_by_parts (route_up (seen_route seen)) later) (IsAbove-parts (route_up (seen_route seen)) later up)
-
-pub depth-start : (r : Route) (d : ℕ) → HasDepth r d → (d == 0) ≡ is_start r
-depth-start (Rooted p) d h = absurd h
-depth-start (Relative zero []) d h = rw (← h) refl
-depth-start (Relative zero (n ∷ p)) d h = by_test (eqb_tells d 0)
+-- what a climb tells of its route
+climb-depth : (r : Route) (a : Climb) → HasClimb r a → a.ups ≡ 0 → (a.depth == 0) ≡ is_start r
+climb-depth (Rooted p) a h none = absurd h
+climb-depth (Relative zero []) a h none = rw h.1 refl
+climb-depth (Relative zero (n ∷ p)) a h none = by_test (eqb_tells a.depth 0)
   where
-    by_test : (((d == 0) ≡ true) × (d ≡ 0)) ⊎ (((d == 0) ≡ false) × (d ≢ 0)) → (d == 0) ≡ false
-    by_test (inl w) = absurd (omega (arith, h, w.1))
+    by_test : (((a.depth == 0) ≡ true) × (a.depth ≡ 0)) ⊎ (((a.depth == 0) ≡ false) × (a.depth ≢ 0)) → (a.depth == 0) ≡ false
+    by_test (inl w) = absurd (omega (arith, h.1, w.1))
     by_test (inr w) = w.0
-depth-start (Relative (suc k) p) d h = absurd h
+climb-depth (Relative (suc k) p) a h none = absurd (omega (arith, h.0, none))
+
+climb-above : (r : Route) (a : Climb) → HasClimb r a → a.ups ≢ 0 → (a.ups == 0) ≡ is_start r
+climb-above (Rooted p) a h some = absurd h
+climb-above (Relative zero p) a h some = absurd (some h.0)
+climb-above (Relative (suc k) p) a h some = by_test (eqb_tells a.ups 0)
+  where
+    by_test : (((a.ups == 0) ≡ true) × (a.ups ≡ 0)) ⊎ (((a.ups == 0) ≡ false) × (a.ups ≢ 0)) → (a.ups == 0) ≡ false
+    by_test (inl w) = absurd (some w.1)
+    by_test (inr w) = w.0
+
+climb-ups : (r : Route) (a : Climb) → HasClimb r a → a.ups ≡ ups_of r
+climb-ups (Rooted p) a h = absurd h
+climb-ups (Relative k p) a h = h.0
+
+pub loose-depth : (t : List ℕ) (a : Climb) → is_absolute t ≡ false → HasClimb (route_by_parts (Relative 0 []) (parts t)) a → a.ups ≡ 0 → (a.depth == 0) ≡ is_start (route_of t)
+unfolding route_of
+loose-depth t a loose h none = climb-depth (route_by_parts (Relative 0 []) (parts t)) a h none ∙ ap (λ r. is_start (route_by_parts r (parts t))) (sym (start-loose t loose))
+
+pub loose-above : (t : List ℕ) (a : Climb) → is_absolute t ≡ false → HasClimb (route_by_parts (Relative 0 []) (parts t)) a → a.ups ≢ 0 → (a.ups == 0) ≡ is_start (route_of t)
+unfolding route_of
+loose-above t a loose h some = climb-above (route_by_parts (Relative 0 []) (parts t)) a h some ∙ ap (λ r. is_start (route_by_parts r (parts t))) (sym (start-loose t loose))
+
+pub loose-ups : (t : List ℕ) (a : Climb) → is_absolute t ≡ false → HasClimb (route_by_parts (Relative 0 []) (parts t)) a → a.ups ≡ ups_of (route_of t)
+unfolding route_of
+loose-ups t a loose h = climb-ups (route_by_parts (Relative 0 []) (parts t)) a h ∙ ap (λ r. ups_of (route_by_parts r (parts t))) (sym (start-loose t loose))
+
+pub rooted-ups : (t : List ℕ) → is_absolute t ≡ true → 0 ≡ ups_of (route_of t)
+rooted-ups t h = by_route (route_of t) (route_of-rooted t ∙ h)
+  where
+    by_route : (r : Route) → is_rooted r ≡ true → 0 ≡ ups_of r
+    by_route (Rooted p) e = refl
+    by_route (Relative k p) e = cc
 
 -- ---- the text of a route is `.` exactly where the route stays
 not-dot : (xs : List (List ℕ)) → AllByRecursion IsName xs → xs ≢ [] → or_dot (join_with_byte 47 xs) ≢ 46 ∷ []
@@ -186,6 +171,25 @@ rooted-start t h = by_route (route_of t) (route_of-rooted t ∙ h)
     by_route (Rooted p) e = refl
     by_route (Relative k p) e = cc
 
-pub loose-start : (t : List ℕ) (b : Bool) → is_absolute t ≡ false → b ≡ is_start (route_by_parts (Relative 0 []) (parts t)) → b ≡ is_start (route_of t)
-unfolding route_of
-loose-start t b loose told = told ∙ ap (λ r. is_start (route_by_parts r (parts t))) (sym (start-loose t loose))
+-- ---- whether two paths begin at one folder
+routes-differ : (r s : Route) → not (beq (is_rooted r) (is_rooted s)) ≡ true → not (same_start r s) ≡ true
+routes-differ (Rooted p) (Rooted q) h = cc
+routes-differ (Rooted p) (Relative k q) h = refl
+routes-differ (Relative k p) (Rooted q) h = refl
+routes-differ (Relative k p) (Relative m q) h = cc
+
+routes-alike : (r s : Route) → not (beq (is_rooted r) (is_rooted s)) ≡ false → not (ups_of r == ups_of s) ≡ not (same_start r s)
+routes-alike (Rooted p) (Rooted q) h = refl
+routes-alike (Rooted p) (Relative k q) h = cc
+routes-alike (Relative k p) (Rooted q) h = cc
+routes-alike (Relative k p) (Relative m q) h = refl
+
+roots : (base target : List ℕ) (a b : Bool) → a ≡ is_absolute target → b ≡ is_absolute base → not (beq (is_rooted (route_of target)) (is_rooted (route_of base))) ≡ not (beq a b)
+roots base target a b e f = ap (λ x. not (beq x (is_rooted (route_of base)))) (route_of-rooted target ∙ sym e) ∙ ap (λ x. not (beq a x)) (route_of-rooted base ∙ sym f)
+
+pub folder-roots : (base target : List ℕ) (a b : Bool) → a ≡ is_absolute target → b ≡ is_absolute base → not (beq a b) ≡ true → not (beq a b) ≡ needs_folder base target
+folder-roots base target a b e f differ = differ ∙ sym (routes-differ (route_of target) (route_of base) (roots base target a b e f ∙ differ))
+
+pub folder-ups : (base target : List ℕ) (a b : Bool) (k m : ℕ) → a ≡ is_absolute target → b ≡ is_absolute base → not (beq a b) ≡ false → k ≡ ups_of (route_of target) → m ≡ ups_of (route_of base) → not (eqb k m) ≡ needs_folder base target
+folder-ups base target a b k m e f alike up down =
+    ap (λ x. not (eqb x m)) up ∙ ap (λ x. not (eqb (ups_of (route_of target)) x)) down ∙ routes-alike (route_of target) (route_of base) (roots base target a b e f ∙ alike)

@@ -7,3 +7,5 @@ pub mod RouteTexts
 pub mod Placed
 pub mod ParentEnds
 pub mod Heres
+pub mod StepParts
+pub mod WayParts

@@ -7,17 +7,12 @@ use Rattle.std.proofs.lemmas.Grind.{reverse_onto}
 use Rattle.std.proofs.lemmas.List.{replicate_more, at_drop_more, at_drop_all, append_cancel_right}
 use Rattle.std.proofs.lemmas.List.Splits.{join_with_byte-slice_split}
 use Rattle.sugar_path.specs.Path.{Path, IsName, IsPath, is_plain, has_no_slash, ends_in_slash, is_absolute, parts}
-use Rattle.sugar_path.specs.Route.{Route, Rooted, Relative, route_up, route_down, route_by_part, route_by_parts, route_start, route_of, route_text, or_dot, place, normal}
-use Rattle.sugar_path.specs.Reading.{are_steps, route_names, is_rooted}
+use Rattle.sugar_path.specs.Route.{Route, Rooted, Relative, route_up, route_down, route_by_part, route_by_parts, route_start, route_of, route_names, route_parts, is_rooted, route_text, or_dot, place, normal}
+use Rattle.sugar_path.specs.Reading.{are_steps}
 use Rattle.sugar_path.proofs.Bools.{and_left, and_right, or_right}
 use Rattle.sugar_path.proofs.Paths.{no_slash-name}
 use Rattle.sugar_path.proofs.Parts.{HasNoSlash, parts-no_slash, parts-name, parts-slash}
 use Rattle.sugar_path.proofs.RouteTexts.{ends-append, ends-split, route_by_parts-append}
-
--- the parts of a route's text
-abbrev pub route_parts : Route → List (List ℕ)
-route_parts (Rooted p) = reverse p
-route_parts (Relative ups p) = replicate ups (46 ∷ 46 ∷ []) ++ reverse p
 
 -- a plain part goes down
 pub route_by_part-plain : (r : Route) (part : List ℕ) → is_plain part ≡ true → route_by_part r part ≡ route_down r part
@@ -29,11 +24,11 @@ route_by_part-plain r part h = by_tests (bytes_eq part []) (bytes_eq part (46 �
     by_tests false false true h = cc
     by_tests false false false h = refl
 
-route_parts-down : (r : Route) (n : List ℕ) → route_parts (route_down r n) ≡ route_parts r ++ n ∷ []
+pub route_parts-down : (r : Route) (n : List ℕ) → route_parts (route_down r n) ≡ route_parts r ++ n ∷ []
 route_parts-down (Rooted p) n = reverse_onto p n []
 route_parts-down (Relative k p) n = ap (λ ys. replicate k (46 ∷ 46 ∷ []) ++ ys) (reverse_onto p n []) ∙ sym (append_assoc (replicate k (46 ∷ 46 ∷ [])) (reverse p) (n ∷ []))
 
-is_rooted-down : (r : Route) (n : List ℕ) → is_rooted (route_down r n) ≡ is_rooted r
+pub is_rooted-down : (r : Route) (n : List ℕ) → is_rooted (route_down r n) ≡ is_rooted r
 is_rooted-down (Rooted p) n = refl
 is_rooted-down (Relative k p) n = refl
 
@@ -232,7 +227,7 @@ route_of-rooted t = route_by_parts-rooted (route_start t) (parts t) ∙ by_test 
     by_test true = refl
     by_test false = refl
 
-IsPath-route_by_part : (r : Route) (part : List ℕ) → IsPath (route_names r) → HasNoSlash part → IsPath (route_names (route_by_part r part))
+pub IsPath-route_by_part : (r : Route) (part : List ℕ) → IsPath (route_names r) → HasNoSlash part → IsPath (route_names (route_by_part r part))
 IsPath-route_by_part r part h slash = by_tests (bytes_eq part []) (bytes_eq part (46 ∷ [])) (bytes_eq part (46 ∷ 46 ∷ [])) refl refl refl
   where
     up : (r : Route) → IsPath (route_names r) → IsPath (route_names (route_up r))

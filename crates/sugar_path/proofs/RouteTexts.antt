@@ -12,8 +12,8 @@ use Rattle.std.proofs.Math.Seq.{get_or-append_seam, take-append_seam}
 use Rattle.memchr.specs.Find.{IsLastByte, is_byte}
 use Rattle.sugar_path.specs.declared.reading.Reading.{Reading}
 use Rattle.sugar_path.specs.Path.{Path, IsName, IsPath, has_no_slash, ends_in_slash, with_slash, is_absolute, parts, join}
-use Rattle.sugar_path.specs.Route.{Route, Rooted, Relative, route_up, route_by_part, route_by_parts, route_start, route_of, route_text, or_dot}
-use Rattle.sugar_path.specs.Reading.{text_on, dots_text, base_text, route_names, HasRead, StandsOn}
+use Rattle.sugar_path.specs.Route.{Route, Rooted, Relative, route_up, route_by_part, route_by_parts, route_start, route_of, route_names, route_text, or_dot}
+use Rattle.sugar_path.specs.Reading.{text_on, dots_text, base_text, IsPart, HasRead, StandsOn}
 use Rattle.sugar_path.proofs.Bools.{and_left, and_right}
 use Rattle.sugar_path.proofs.Paths.{no_slash-name}
 use Rattle.sugar_path.proofs.Parts.{parts-slash}
@@ -187,12 +187,7 @@ told-other part word literal b told differs is = ap (bytes_eq part) (sym is) ∙
 pub HasRead-dots : (r : Route) (part : List ℕ) (t : Reading) → part ≡ 46 ∷ 46 ∷ [] → HasRead (route_up r) t → HasRead (route_by_part r part) t
 HasRead-dots r part t is h = rw is h
 
--- a part of a route's text: not empty, and no slash in it
-abbrev pub IsPart : List ℕ → Type 0
-IsPart [] = ⊥
-IsPart (c ∷ n) = has_no_slash (c ∷ n) ≡ true
-
-IsPart-name : (n : List ℕ) → IsName n → IsPart n
+pub IsPart-name : (n : List ℕ) → IsName n → IsPart n
 IsPart-name [] h = cc
 IsPart-name (c ∷ n) h = no_slash-name (c ∷ n) h
 
@@ -212,7 +207,7 @@ join-push a [] x = refl
 join-push a (b ∷ xs) x = ap (λ t. a ++ 47 ∷ t) (join-push b xs x) ∙ sym (append_assoc a (47 ∷ join_with_byte 47 (b ∷ xs)) (47 ∷ x))
 
 -- one more part behind a base and parts joined by slashes; the base is empty or ends in a slash
-joined-push : (s : List ℕ) (xs : List (List ℕ)) (x : List ℕ) → AllByRecursion IsPart xs → with_slash s ≡ s → s ++ join_with_byte 47 (xs ++ x ∷ []) ≡ with_slash (s ++ join_with_byte 47 xs) ++ x
+pub joined-push : (s : List ℕ) (xs : List (List ℕ)) (x : List ℕ) → AllByRecursion IsPart xs → with_slash s ≡ s → s ++ join_with_byte 47 (xs ++ x ∷ []) ≡ with_slash (s ++ join_with_byte 47 xs) ++ x
 joined-push s [] x h bare = rw (append-nil s, bare) refl
 joined-push s (a ∷ xs) x h bare =
     ap (λ t. s ++ t) (join-push a xs x)
@@ -220,17 +215,17 @@ joined-push s (a ∷ xs) x h bare =
     ∙ sym (append_assoc (s ++ join_with_byte 47 (a ∷ xs)) (47 ∷ []) x)
     ∙ ap (λ t. t ++ x) (sym (with_slash-joined s a xs h))
 
-AllByRecursion-append : (xs ys : List (List ℕ)) → AllByRecursion IsPart xs → AllByRecursion IsPart ys → AllByRecursion IsPart (xs ++ ys)
+pub AllByRecursion-append : (xs ys : List (List ℕ)) → AllByRecursion IsPart xs → AllByRecursion IsPart ys → AllByRecursion IsPart (xs ++ ys)
 AllByRecursion-append [] ys h k = k
 AllByRecursion-append (x ∷ xs) ys h k = (h.0, AllByRecursion-append xs ys h.1 k)
 
-reverse-names : (p : Path) → IsPath p → AllByRecursion IsPart (reverse p)
+pub reverse-names : (p : Path) → IsPath p → AllByRecursion IsPart (reverse p)
 reverse-names [] h = tt
 reverse-names (n ∷ p) h =
     let P : List (List ℕ) → Type 0 = AllByRecursion IsPart in
     subst P (sym (reverse_onto p n [])) (AllByRecursion-append (reverse p) (n ∷ []) (reverse-names p h.1) (IsPart-name n h.0, tt))
 
-replicate-dots : (k : ℕ) → AllByRecursion IsPart (replicate k (46 ∷ 46 ∷ []))
+pub replicate-dots : (k : ℕ) → AllByRecursion IsPart (replicate k (46 ∷ 46 ∷ []))
 replicate-dots zero = tt
 replicate-dots (suc k) = (refl, replicate-dots k)
 

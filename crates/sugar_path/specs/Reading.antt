@@ -1,8 +1,10 @@
 -- A path being read part by part.
-use Rattle.std.specs.Prelude.{◌≡◌, ◌≤◌, ℕ, ◌&&◌, Bool, true, false, cond, bytes_eq, suc, zero, List, [], ◌∷◌, ◌++◌, length}
+use Rattle.std.specs.Prelude.{◌≡◌, ◌≤◌, ℕ, ◌&&◌, Bool, true, false, cond, bytes_eq, suc, zero, List, [], ◌∷◌, ◌++◌, length, map}
 use Rattle.sugar_path.specs.declared.reading.Reading.{Reading}
-use Rattle.sugar_path.specs.Path.{Path, IsPath, with_slash, is_plain}
-use Rattle.sugar_path.specs.Route.{Route, Rooted, Relative}
+use Rattle.sugar_path.specs.declared.steps.Steps.{Steps}
+use Rattle.sugar_path.specs.declared.normal.Climb.{Climb}
+use Rattle.sugar_path.specs.Path.{Path, IsPath, with_slash, is_plain, has_no_slash}
+use Rattle.sugar_path.specs.Route.{Route, Rooted, Relative, route_names, route_parts, is_rooted}
 
 -- so many `..`, joined by `/`
 abbrev pub dots_text : ℕ → List ℕ
@@ -19,14 +21,6 @@ abbrev pub base_text : Route → List ℕ
 base_text (Rooted p) = 47 ∷ []
 base_text (Relative ups p) = dots_text ups
 
-abbrev pub is_rooted : Route → Bool
-is_rooted (Rooted p) = true
-is_rooted (Relative ups p) = false
-
-abbrev pub route_names : Route → Path
-route_names (Rooted p) = p
-route_names (Relative ups p) = p
-
 -- parts that a route's text may have: names, behind some `..` where `up` allows them
 abbrev pub are_steps : Bool → List (List ℕ) → Bool
 are_steps up [] = true
@@ -39,6 +33,11 @@ is_start (Relative zero []) = true
 is_start (Relative zero (n ∷ p)) = false
 is_start (Relative (suc k) p) = false
 
+-- a part of a route's text: not empty, and no slash in it
+abbrev pub IsPart : List ℕ → Type 0
+IsPart [] = ⊥
+IsPart (c ∷ n) = has_no_slash (c ∷ n) ≡ true
+
 -- what was read so far is the route
 pub record HasRead (r : Route) (reading : Reading) : Type 0 where
   pub text : reading.text.items ≡ text_on (base_text r) (route_names r)
@@ -50,3 +49,20 @@ pub record HasRead (r : Route) (reading : Reading) : Type 0 where
 pub record StandsOn (base : ℕ) (front : List ℕ) : Type 0 where
   pub within : base ≤ length front
   pub all : with_slash front ≡ front → base ≡ length front
+
+-- the `..` that no later one takes away
+abbrev pub ups_of : Route → ℕ
+ups_of (Rooted p) = 0
+ups_of (Relative ups p) = ups
+
+-- the parts that were kept so far are the route's
+pub record HasKept (r : Route) (steps : Steps) : Type 0 where
+  pub parts : map (λ part. part.now) steps.parts.items ≡ route_parts r
+  pub base : steps.base ≡ ups_of r
+  pub rooted : steps.rooted ≡ is_rooted r
+  pub names : IsPath (route_names r)
+
+-- a relative path goes up, and then down, so many folders
+abbrev pub HasClimb : Route → Climb → Type 0
+HasClimb (Rooted p) climb = ⊥
+HasClimb (Relative k p) climb = (climb.ups ≡ k) × (climb.depth ≡ length p)

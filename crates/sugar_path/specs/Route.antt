@@ -1,5 +1,5 @@
 -- What a path says, absolute or not: its root, the folders that it first goes up, and its names.
-use Rattle.std.specs.Prelude.{ℕ, ◌+◌, ◌&&◌, ◌||◌, not, cond, List, [], ◌∷◌, ◌++◌, bytes_eq, reverse, replicate}
+use Rattle.std.specs.Prelude.{Bool, true, false, ℕ, ◌+◌, ◌&&◌, ◌||◌, not, cond, List, [], ◌∷◌, ◌++◌, bytes_eq, reverse, replicate}
 use Rattle.std.specs.List.{join_with_byte}
 use Rattle.sugar_path.specs.Path.{Path, parent, is_absolute, parts, ends_in_slash, join}
 
@@ -17,6 +17,19 @@ route_up (Relative ups (n ∷ p)) = Relative ups p
 abbrev pub route_down : Route → List ℕ → Route
 route_down (Rooted p) n = Rooted (n ∷ p)
 route_down (Relative ups p) n = Relative ups (n ∷ p)
+
+abbrev pub route_names : Route → Path
+route_names (Rooted p) = p
+route_names (Relative ups p) = p
+
+abbrev pub is_rooted : Route → Bool
+is_rooted (Rooted p) = true
+is_rooted (Relative ups p) = false
+
+-- the parts of a route in the order of reading: the `..`, and then the names
+abbrev pub route_parts : Route → List (List ℕ)
+route_parts (Rooted p) = reverse p
+route_parts (Relative ups p) = replicate ups (46 ∷ 46 ∷ []) ++ reverse p
 
 -- a route read on by one part: an empty one and `.` stay, `..` goes up, and a name goes down
 abbrev pub route_by_part : Route → List ℕ → Route
@@ -39,8 +52,8 @@ route_of t = route_by_parts (route_start t) (parts t)
 
 -- the text of a route: the root, if any, and the parts joined by `/`
 unfoldable pub route_text : Route → List ℕ
-route_text (Rooted p) = 47 ∷ join_with_byte 47 (reverse p)
-route_text (Relative ups p) = join_with_byte 47 (replicate ups (46 ∷ 46 ∷ []) ++ reverse p)
+route_text (Rooted p) = 47 ∷ join_with_byte 47 (route_parts (Rooted p))
+route_text (Relative ups p) = join_with_byte 47 (route_parts (Relative ups p))
 
 -- where no part is left, the text is `.`
 abbrev pub or_dot : List ℕ → List ℕ

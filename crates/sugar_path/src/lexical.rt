@@ -5,13 +5,15 @@ ghost use Rattle.std.specs.Str.Lossy.{utf8_lossy};
 ghost use Rattle.std.specs.Cow.{cow_str_bytes, IsBorrowedStr};
 ghost use Rattle.sugar_path.specs.Path.{is_absolute};
 ghost use Rattle.sugar_path.specs.Route.{place, normal, from_folder};
+ghost use Rattle.sugar_path.specs.Relative.{needs_folder, relative_from};
 ghost use Rattle.sugar_path.specs.PathTypes.{path_bytes, cow_bytes, is_borrowed, folder_of, is_known, absolute_if_known};
 
 use crate::faults::TryError;
-use crate::normal::{is_here, is_normal, is_place};
+use crate::normal::{is_here, is_normal, is_place, needs_folder};
 use crate::path::{CwdAnswer, Path, PathBuf, PathCow};
 use crate::reading::{is_absolute, normal_of, place_below, place_of};
 use crate::sealed::Sealed;
+use crate::ways::relative_of;
 use std::alloc::{AllocError, Global};
 use std::borrow::CowStr;
 
@@ -43,6 +45,40 @@ pub trait SugarPath<'a>: Sealed {
         ensures path { IfOk result (λ p. cow_bytes p ≡ from_folder (folder_of cwd.now) (bytes self)) }
         ensures borrowed { IfOk result (λ p. IsTrue (is_borrowed p) ↔ (IsTrue (is_absolute (bytes self)) × IsUtf8 (bytes self) × (place (bytes self) ≡ bytes self))) }
         ensures no_cwd { (result ≡ Err TryError.NoCwd) ↔ (IsTrue (not (is_absolute (bytes self))) × IsTrue (not (is_known cwd.now))) };
+
+    /// The path from `base` to this one: `..` out of the folders of `base`, and then the names. Two paths of one place have the empty path between them.
+    fn relative_with(
+        self,
+        alloc: Global,
+        base: Path<'_>,
+        cwd: Path<'_>,
+    ) -> Result<PathCow<'a>, AllocError>
+        requires { IsTrue (not (needs_folder (path_bytes base) (bytes self)) || is_absolute (path_bytes cwd)) }
+        ensures path { IfOk result (λ p. cow_bytes p ≡ relative_from (path_bytes cwd.entry) (path_bytes base.entry) (bytes self)) }
+        ensures owned { IfOk result (λ p. IsTrue (not (is_borrowed p))) };
+
+    /// As `relative_with`, where the working folder is known if it is needed.
+    fn relative(
+        self,
+        alloc: Global,
+        base: Path<'_>,
+        cwd: &CwdAnswer,
+    ) -> Result<PathCow<'a>, AllocError>
+        requires { IsTrue (not (needs_folder (path_bytes base) (bytes self)) || is_absolute (folder_of cwd.now)) }
+        ensures path { IfOk result (λ p. cow_bytes p ≡ relative_from (folder_of cwd.now) (path_bytes base.entry) (bytes self)) }
+        ensures owned { IfOk result (λ p. IsTrue (not (is_borrowed p))) };
+
+    /// As `relative_with`, with a fault where the working folder is needed and unknown.
+    fn try_relative(
+        self,
+        alloc: Global,
+        base: Path<'_>,
+        cwd: &CwdAnswer,
+    ) -> Result<PathCow<'a>, TryError>
+        requires { IsTrue (absolute_if_known cwd.now) }
+        ensures path { IfOk result (λ p. cow_bytes p ≡ relative_from (folder_of cwd.now) (path_bytes base.entry) (bytes self)) }
+        ensures owned { IfOk result (λ p. IsTrue (not (is_borrowed p))) }
+        ensures no_cwd { (result ≡ Err TryError.NoCwd) ↔ (IsTrue (needs_folder (path_bytes base.entry) (bytes self)) × IsTrue (not (is_known cwd.now))) };
 
     /// The path as text.
     fn to_slash(self) -> &'a str
@@ -102,6 +138,41 @@ impl<'a> SugarPath<'a> for Path<'a> {
             CwdAnswer::Known(folder) => Ok(self.absolutize_with(alloc, folder.as_path())?),
             CwdAnswer::Unknown if !is_absolute(self.bytes()) => Err(TryError::NoCwd),
             CwdAnswer::Unknown => Ok(self.absolutize_with(alloc, Path::of_bytes(b""))?),
+        }
+    }
+
+    fn relative_with(
+        self,
+        alloc: Global,
+        base: Path<'_>,
+        cwd: Path<'_>,
+    ) -> Result<PathCow<'a>, AllocError> {
+        let way = relative_of(alloc, cwd.bytes(), base.bytes(), self.bytes())?;
+        Ok(PathCow::Owned(PathBuf::from(way)))
+    }
+
+    fn relative(
+        self,
+        alloc: Global,
+        base: Path<'_>,
+        cwd: &CwdAnswer,
+    ) -> Result<PathCow<'a>, AllocError> {
+        match cwd {
+            CwdAnswer::Known(folder) => self.relative_with(alloc, base, folder.as_path()),
+            CwdAnswer::Unknown => self.relative_with(alloc, base, Path::of_bytes(b"")),
+        }
+    }
+
+    fn try_relative(
+        self,
+        alloc: Global,
+        base: Path<'_>,
+        cwd: &CwdAnswer,
+    ) -> Result<PathCow<'a>, TryError> {
+        match cwd {
+            CwdAnswer::Known(folder) => Ok(self.relative_with(alloc, base, folder.as_path())?),
+            CwdAnswer::Unknown if needs_folder(base.bytes(), self.bytes()) => Err(TryError::NoCwd),
+            CwdAnswer::Unknown => Ok(self.relative_with(alloc, base, Path::of_bytes(b""))?),
         }
     }
 

@@ -14,6 +14,8 @@ mod plain;
 mod plain_traits;
 mod reading;
 mod sealed;
+mod steps;
+mod ways;
 
 pub use clean::{clean_text, is_clean};
 pub use clean_path::CleanPath;
@@ -24,3 +26,4 @@ pub use lexical_buf::SugarPathBuf;
 pub use parents::parent;
 pub use path::{CwdAnswer, Path, PathBuf, PathCow};
 pub use plain::{Bytes, List, Text};
+pub use ways::common_prefix_len;

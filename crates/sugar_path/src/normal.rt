@@ -1,8 +1,9 @@
 // Tests that a path is in order as it stands, so that nothing is copied.
 ghost use Rattle.std.specs.Prelude.{◌≡◌, ◌∷◌, [], bytes_eq};
 ghost use Rattle.sugar_path.specs.Path.{parts, is_plain};
-ghost use Rattle.sugar_path.specs.Route.{route_of, place, normal};
-ghost use Rattle.sugar_path.specs.Reading.{are_steps, is_start};
+ghost use Rattle.sugar_path.specs.Route.{Relative, route_by_parts, route_of, place, normal};
+ghost use Rattle.sugar_path.specs.Reading.{HasClimb, are_steps, is_start, ups_of};
+ghost use Rattle.sugar_path.specs.Relative.{needs_folder};
 
 use crate::reading::{ends_in_slash, is_absolute};
 
@@ -40,18 +41,50 @@ fn leads_back(path: &[u8]) -> bool
     if is_absolute(path) {
         return false;
     }
-    let mut depth = 0usize;
+    let climb = climb_of(path);
+    climb.ups == 0 && climb.depth == 0
+}
+
+/// Whether two paths begin at different folders, so that only a working folder tells the way between them.
+pub(crate) fn needs_folder(base: &[u8], target: &[u8]) -> bool
+    ensures { result ≡ needs_folder base.now target.now }
+{
+    is_absolute(target) != is_absolute(base) || ups_of(target) != ups_of(base)
+}
+
+// How many folders a path first goes up.
+fn ups_of(path: &[u8]) -> usize
+    ensures { result ≡ ups_of (route_of path.now) }
+{
+    if is_absolute(path) {
+        return 0;
+    }
+    climb_of(path).ups
+}
+
+/// How many folders a relative path goes up, and then down.
+#[derive(Clone, Copy)]
+struct Climb {
+    ups: usize,
+    depth: usize,
+}
+
+fn climb_of(path: &[u8]) -> Climb
+    ensures { HasClimb (route_by_parts (Relative 0 []) (parts path.now)) result }
+{
+    let mut climb = Climb { ups: 0, depth: 0 };
     for part in path.split(|b| *b == b'/') {
         if is_plain(part) {
-            depth += 1;
-        } else if part == b"..".as_slice() {
-            if depth == 0 {
-                return false;
-            }
-            depth -= 1;
+            climb.depth += 1;
+        } else if part != b"..".as_slice() {
+            continue;
+        } else if climb.depth > 0 {
+            climb.depth -= 1;
+        } else {
+            climb.ups += 1;
         }
     }
-    depth == 0
+    climb
 }
 
 // Whether the parts of a path are names, behind some `..` where the path may go up.

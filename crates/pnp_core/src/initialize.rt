@@ -1,0 +1,268 @@
+// A manifest gets its folder, and its rows the locations that they have from there.
+ghost use Rattle.std.specs.Prelude.{◌≡◌, ◌≤◌, ◌∷◌, [], IfOk, OnOk, OnErr, IsTrue, map, filter, is_none, bytes_eq, string_bytes, vec_len};
+ghost use Rattle.indexmap.specs.IndexMap.{insert_all, spare};
+ghost use Rattle.sugar_path.specs.Path.{Path, IsPath, IsCleanPath, path_in, is_absolute, join, with_slash};
+ghost use Rattle.pnp_core.specs.NormalizePath.{normalize_path};
+ghost use Rattle.pnp_core.specs.Manifest.{at, locator, rows, rows_under, top_level, has_row, package_at};
+ghost use Rattle.pnp_core.specs.ManifestReading.{initialized, located, located_registry, located_rows};
+ghost use Rattle.pnp_core.specs.Owner.{IsReady};
+ghost use Rattle.pnp_core.specs.Relocated.{changed, placed, locations_of, all_locations, overlaid, missing_of};
+ghost use Rattle.pnp_core.specs.Trie.{value_at};
+
+use crate::normalize::normalize_path;
+use crate::registry::package_of;
+use crate::{Manifest, PackageDependency, PackageInformation, PackageLocator, Trie};
+use indexmap::IndexMap;
+use std::alloc::{AllocError, Global};
+use sugar_path::{CleanPath, Text};
+
+/// Gives a manifest that was read the path of its file: sets its folder and its path, reads its locations from the folder,
+/// fills its pool, and makes the trie of its locations. Where no memory is found, the manifest is as before.
+pub fn init_pnp_manifest(alloc: Global, manifest: &mut Manifest, p: &str) -> Result<(), AllocError>
+    requires clean { IsCleanPath p.now }
+    requires top_level_row { IsTrue (has_row manifest.old top_level) }
+    ensures ok { OnOk result (manifest.new ≡ initialized (path_in p.now) manifest.old) }
+    ensures ready { OnOk result (IsReady manifest.new) }
+    ensures err { OnErr result (manifest.new ≡ manifest.old) }
+{
+    let mut folder = CleanPath::of(alloc, p)?;
+    let manifest_path = folder.to_text(alloc)?;
+    let _ = folder.go_up();
+    let manifest_dir = folder.to_text(alloc)?;
+    let locations = locations_from(
+        alloc,
+        manifest_dir.as_str(),
+        &manifest.package_registry_data,
+    )?;
+    let trie = located_trie(
+        alloc,
+        manifest_dir.as_str(),
+        &manifest.package_registry_data,
+    )?;
+    let missing = missing_bindings(alloc, manifest)?;
+    manifest.fallback_pool.reserve(missing.len())?;
+
+    fill(&mut manifest.fallback_pool, missing);
+    place_all(&mut manifest.package_registry_data, locations);
+    manifest.location_trie = trie;
+    manifest.manifest_dir = manifest_dir;
+    manifest.manifest_path = manifest_path;
+    Ok(())
+}
+
+// Where each row's package stands, by name.
+fn locations_from(
+    alloc: Global,
+    folder: &str,
+    registry: &IndexMap<Text, IndexMap<Text, PackageInformation>>,
+) -> Result<Vec<Vec<Text>>, AllocError>
+    ensures { IfOk result (λ found. map (λ locations. locations.items) found.items ≡ all_locations folder.now (map (λ named. (named.0, named.1.entries)) registry.now.entries)) }
+{
+    let mut found = Vec::new(alloc);
+    for (_name, references) in registry.iter() {
+        found.push(locations_under(alloc, folder, references)?)?;
+    }
+    Ok(found)
+}
+
+// Where the packages of one name stand.
+fn locations_under(
+    alloc: Global,
+    folder: &str,
+    references: &IndexMap<Text, PackageInformation>,
+) -> Result<Vec<Text>, AllocError>
+    ensures { IfOk result (λ found. found.items ≡ locations_of folder.now references.now.entries) }
+{
+    let mut found = Vec::new(alloc);
+    for (_reference, package) in references.iter() {
+        let joined = joined_texts(alloc, folder, package.package_location.as_str())?;
+        found.push(normalize_path(alloc, joined.as_str())?)?;
+    }
+    Ok(found)
+}
+
+// One text behind another, as a path behind a folder.
+fn joined_texts(alloc: Global, folder: &str, text: &str) -> Result<String, AllocError>
+    ensures { IfOk result (λ s. string_bytes s ≡ join folder.now text.now) }
+{
+    if text.starts_with('/') {
+        let joined = String::from_str(alloc, text)?;
+        return Ok(joined);
+    }
+    let mut joined = with_slash(alloc, folder)?;
+    joined.push_str(text)?;
+    Ok(joined)
+}
+
+// A folder with a `/` at its end, unless it is empty.
+fn with_slash(alloc: Global, folder: &str) -> Result<String, AllocError>
+    ensures { IfOk result (λ s. string_bytes s ≡ with_slash folder.now) }
+{
+    let mut text = String::from_str(alloc, folder)?;
+    if folder.is_empty() {
+        return Ok(text);
+    }
+    if folder.ends_with('/') {
+        return Ok(text);
+    }
+    text.push_str("/")?;
+    Ok(text)
+}
+
+// The locator of the last row at each location, of those that aren't discarded.
+fn located_trie(
+    alloc: Global,
+    folder: &str,
+    registry: &IndexMap<Text, IndexMap<Text, PackageInformation>>,
+) -> Result<Trie<PackageLocator>, AllocError>
+    requires { IsTrue (is_absolute folder.now) }
+    ensures { IfOk result (λ trie. (l : Path) → IsPath l → value_at trie l ≡ overlaid (rows (located_registry folder.now (map (λ named. (named.0, named.1.entries)) registry.now.entries))) [] l) }
+{
+    let mut trie = Trie::new(alloc);
+    for (name, references) in registry.iter() {
+        put_rows(alloc, &mut trie, folder, name, references)?;
+    }
+    Ok(trie)
+}
+
+// Puts the rows of one name at their locations.
+fn put_rows(
+    alloc: Global,
+    trie: &mut Trie<PackageLocator>,
+    folder: &str,
+    name: &Text,
+    references: &IndexMap<Text, PackageInformation>,
+) -> Result<(), AllocError>
+    requires { IsTrue (is_absolute folder.now) }
+    ensures { OnOk result ((l : Path) → IsPath l → value_at trie.new l ≡ overlaid (rows_under (name.now, located_rows folder.now references.now.entries)) trie.old l) }
+{
+    for (reference, package) in references.iter() {
+        put_row(alloc, trie, folder, name, reference, package)?;
+    }
+    Ok(())
+}
+
+// Puts a row at its location, unless it is discarded.
+fn put_row(
+    alloc: Global,
+    trie: &mut Trie<PackageLocator>,
+    folder: &str,
+    name: &Text,
+    reference: &Text,
+    row: &PackageInformation,
+) -> Result<(), AllocError>
+    requires { IsTrue (is_absolute folder.now) }
+    ensures { OnOk result ((l : Path) → IsPath l → value_at trie.new l ≡ overlaid ((locator name.now reference.now, located folder.now row.now) ∷ []) trie.old l) }
+{
+    if row.discard_from_lookup {
+        return Ok(());
+    }
+    let location = joined_texts(alloc, folder, row.package_location.as_str())?;
+    let locator = PackageLocator {
+        name: name.try_clone(alloc)?,
+        reference: reference.try_clone(alloc)?,
+    };
+    match trie.insert(location.as_str(), locator) {
+        Ok(()) => Ok(()),
+        Err((_, e)) => Err(e),
+    }
+}
+
+// The top-level row's bindings of names that the pool lacks.
+fn missing_bindings(
+    alloc: Global,
+    manifest: &Manifest,
+) -> Result<Vec<(Text, Option<PackageDependency>)>, AllocError>
+    ensures { IfOk result (λ missing. missing.items ≡ missing_of manifest.now) }
+{
+    let top_level = PackageLocator {
+        name: Text::from(String::new(alloc)),
+        reference: Text::from(String::new(alloc)),
+    };
+    match package_of(manifest, &top_level) {
+        None => Ok(Vec::new(alloc)),
+        Some(package) => missing_from(
+            alloc,
+            &manifest.fallback_pool,
+            &package.package_dependencies,
+        ),
+    }
+}
+
+fn missing_from(
+    alloc: Global,
+    pool: &IndexMap<Text, Option<PackageDependency>>,
+    own: &IndexMap<Text, Option<PackageDependency>>,
+) -> Result<Vec<(Text, Option<PackageDependency>)>, AllocError>
+    ensures { IfOk result (λ missing. missing.items ≡ filter (λ bound. is_none (at bound.0 pool.now.entries)) own.now.entries) }
+{
+    let mut missing = Vec::new(alloc);
+    for (name, dependency) in own.iter() {
+        if !pool.contains_key(name) {
+            let name = name.try_clone(alloc)?;
+            let dependency = copy_of(alloc, dependency)?;
+            missing.push((name, dependency))?;
+        }
+    }
+    Ok(missing)
+}
+
+fn copy_of(
+    alloc: Global,
+    dependency: &Option<PackageDependency>,
+) -> Result<Option<PackageDependency>, AllocError>
+    ensures { IfOk result (λ copy. copy ≡ dependency.now) }
+{
+    match dependency {
+        None => Ok(None),
+        Some(PackageDependency::Reference(reference)) => Ok(Some(PackageDependency::Reference(
+            reference.try_clone(alloc)?,
+        ))),
+        Some(PackageDependency::Alias(name, reference)) => {
+            let name = name.try_clone(alloc)?;
+            let reference = reference.try_clone(alloc)?;
+            Ok(Some(PackageDependency::Alias(name, reference)))
+        }
+    }
+}
+
+// Puts bindings into the pool, which has room for them.
+fn fill(
+    pool: &mut IndexMap<Text, Option<PackageDependency>>,
+    missing: Vec<(Text, Option<PackageDependency>)>,
+)
+    requires { vec_len missing ≤ spare pool.old }
+    ensures { pool.new.entries ≡ insert_all bytes_eq pool.old.entries missing.items }
+{
+    for (name, dependency) in missing {
+        match pool.insert(name, dependency) {
+            Ok(_) => {}
+            Err(_) => unreachable!(),
+        }
+    }
+}
+
+// Sets the locations of all rows.
+fn place_all(
+    registry: &mut IndexMap<Text, IndexMap<Text, PackageInformation>>,
+    mut locations: Vec<Vec<Text>>,
+)
+    ensures { map (λ named. (named.0, named.1.entries)) registry.new.entries ≡ changed (changed placed) (map (λ named. (named.0, named.1.entries)) registry.old.entries) (map (λ found. found.items) locations.items) }
+{
+    while let Some(found) = locations.pop() {
+        if let Some(references) = registry.get_index_mut(locations.len()) {
+            place(references, found);
+        }
+    }
+}
+
+// Sets the locations of the rows of one name.
+fn place(references: &mut IndexMap<Text, PackageInformation>, mut locations: Vec<Text>)
+    ensures { references.new.entries ≡ changed placed references.old.entries locations.items }
+{
+    while let Some(location) = locations.pop() {
+        if let Some(package) = references.get_index_mut(locations.len()) {
+            package.package_location = location;
+        }
+    }
+}

@@ -1,0 +1,49 @@
+use Rattle.std.proofs.Common.{◌==◌, ◌∷◌, [], List, ℕ, refl, sym, ◌∙◌, subst, rules, arith}
+use Rattle.std.proofs.lemmas.Iterator.Consumers.{YieldsList-end, YieldsList-at}
+use Rattle.std.proofs.lemmas.Iterator.Splits.{YieldsList-from_slice_split}
+use Rattle.std.proofs.lemmas.List.{length_push}
+use Rattle.sugar_path.specs.Route.{Relative, route_by_parts}
+use Rattle.sugar_path.specs.Reading.{HasClimb}
+use Rattle.sugar_path.proofs.RouteTexts.{told-same, told-other}
+use Rattle.sugar_path.proofs.Heres.{seen-plain, seen-back, seen-up, seen-silent}
+use Rattle.sugar_path.proofs.normal.climb_of.Goals as goal
+
+pub loop-part-preserved-then-is_plain : goal.loop-part-preserved-then-is_plain
+loop-part-preserved-then-is_plain c = (
+  search rules,
+  search rules,
+  seen-plain c.loop-part.yielded c.in-Some.part c.loop-part.climb _ c.loop-part.invariant.2 (sym c.is_plain.ensures ∙ c.if-is_plain.true) refl refl,
+  omega (arith, length_push c.loop-part.yielded c.in-Some.part),
+)
+
+pub loop-part-preserved-then-ne : goal.loop-part-preserved-then-ne
+loop-part-preserved-then-ne c = (
+  search rules,
+  search rules,
+  seen-silent c.loop-part.yielded c.in-Some.part c.loop-part.climb c.loop-part.invariant.2 (sym c.is_plain.ensures ∙ c.if-is_plain.false)
+      (told-other c.in-Some.part.now c.as_slice.result.now (46 ∷ 46 ∷ []) c.ne.result c.ne.ensures c.if-ne.true c.as_slice.ensures),
+  omega (arith, length_push c.loop-part.yielded c.in-Some.part),
+)
+
+pub loop-part-preserved-then-climb-gt0 : goal.loop-part-preserved-then-climb-gt0
+loop-part-preserved-then-climb-gt0 c = (
+  search rules,
+  search rules,
+  seen-back c.loop-part.yielded c.in-Some.part c.loop-part.climb _ c.loop-part.invariant.2 (told-same c.in-Some.part.now c.as_slice.result.now (46 ∷ 46 ∷ []) c.ne.result c.ne.ensures c.if-ne.false c.as_slice.ensures) (λ e. omega arith) refl refl,
+  omega (arith, length_push c.loop-part.yielded c.in-Some.part),
+)
+
+pub loop-part-preserved : goal.loop-part-preserved
+loop-part-preserved c = (
+  search rules,
+  search rules,
+  seen-up c.loop-part.yielded c.in-Some.part c.loop-part.climb _ c.loop-part.invariant.2 (told-same c.in-Some.part.now c.as_slice.result.now (46 ∷ 46 ∷ []) c.ne.result c.ne.ensures c.if-ne.false c.as_slice.ensures) (omega arith) refl refl,
+  omega (arith, length_push c.loop-part.yielded c.in-Some.part),
+)
+
+pub returns : goal.returns
+returns c =
+    let all = YieldsList-end (YieldsList-at c.into_iter-part-iterator.ensures.into_iter_gives (YieldsList-from_slice_split _ (λ b. b == 47) c.args.path.now c.split-part-items.ensures.rest c.split-part-items.ensures.done c.split-part-items.ensures.closure (λ x b q k. search rules)))
+    c.loop-part.yielded _ c.loop-part.yielded_by _ _ c.in-None.is c.next.ensures.steps in
+    let P : List (List ℕ) → Type 0 = λ xs. HasClimb (route_by_parts (Relative 0 []) xs) c.loop-part.climb in
+    subst P all.0 c.loop-part.invariant.2
