@@ -1,0 +1,47 @@
+-- Reading the items of a list one after the other.
+use Rattle.std.proofs.Common.{◌≡◌, ◌↔◌, ℕ, Bool, true, false, IsTrue, List, [], ◌∷◌, ◌++◌, length, Option, Some, None, option_map, option_and_then, Ok, refl, ap, sym, ◌∙◌, append_assoc, rules, String}
+use Rattle.std.specs.declared.alloc.Global.{Global}
+use Rattle.std.specs.List.{list_all}
+use Rattle.hex.specs.Hex.{decode_of}
+use Rattle.serde_json.specs.Data.{Data, null, boolean, number, string, array, object, no_members, member}
+use Rattle.serde_json.specs.Find.{as_object}
+use Rattle.serde_json.specs.View.{view, items_view, members_view}
+use Rattle.serde_json.specs.declared.value.Value.{Value}
+use Rattle.resolve_cli.specs.Fields.{each, hex_bytes, is_empty, is_lower_hex_digit}
+
+-- what was read of the items stands in front of what the others give
+pub record Read {X : Type 0} (gives : Data → Option X) (done : List X) (rest all : List Value) : Type 0 where
+  pub whole : each gives (items_view all) ≡ option_map (λ xs. done ++ xs) (each gives (items_view rest))
+
+cons_behind : {X : Type 0} (done : List X) (x : X) (o : Option (List X)) → option_map (λ xs. done ++ xs) (option_map (λ xs. x ∷ xs) o) ≡ option_map (λ xs. (done ++ x ∷ []) ++ xs) o
+cons_behind done x None = refl
+cons_behind done x (Some xs) = ap Some (sym (append_assoc done (x ∷ []) xs))
+
+-- after an item that gives something
+pub read_more : {X : Type 0} (gives : Data → Option X) (done : List X) (x : X) (v : Value) (rest all : List Value) → Read gives done (v ∷ rest) all → gives (view v) ≡ Some x → Read gives (done ++ x ∷ []) rest all
+read_more gives done x v rest all r is = record {
+  whole =
+      r.whole ∙ ap (λ o. option_map (λ xs. done ++ xs) (option_and_then (λ y. option_map (λ xs. y ∷ xs) (each gives (items_view rest))) o)) is ∙ cons_behind done x (each gives (items_view rest));
+}
+
+-- at an item that gives nothing
+pub read_none : {X : Type 0} (gives : Data → Option X) (done : List X) (v : Value) (rest all : List Value) → Read gives done (v ∷ rest) all → gives (view v) ≡ None → each gives (items_view all) ≡ None
+read_none gives done v rest all r is = r.whole ∙ ap (λ o. option_map (λ xs. done ++ xs) (option_and_then (λ y. option_map (λ xs. y ∷ xs) (each gives (items_view rest))) o)) is
+
+-- an object has no members where its map is empty
+pub no_members-tested : (tested : Bool) (d : Data) (entries : List (String Global × Value)) → Some (members_view entries) ≡ as_object d → (IsTrue tested ↔ (length entries ≡ 0)) → tested ≡ is_empty (Some d)
+no_members-tested true (object no_members) entries is h = refl
+no_members-tested false (object no_members) [] is h = let empty : IsTrue false = h.1 refl in search (rules, empty)
+no_members-tested false (object no_members) (e ∷ es) is h = cc
+no_members-tested tested (object (member k e ms)) [] is h = cc
+no_members-tested true (object (member k e ms)) (f ∷ fs) is h = let none : length (f ∷ fs) ≡ 0 = h.0 (search rules) in search (rules, none)
+no_members-tested false (object (member k e ms)) (f ∷ fs) is h = refl
+no_members-tested tested null entries is h = cc
+no_members-tested tested (boolean b) entries is h = cc
+no_members-tested tested (number n) entries is h = cc
+no_members-tested tested (string s) entries is h = cc
+no_members-tested tested (array ds) entries is h = cc
+
+-- the bytes of a hex text in lower case
+pub hex_read : (t bytes : List ℕ) → list_all is_lower_hex_digit t ≡ true → decode_of t ≡ Ok bytes → Some bytes ≡ hex_bytes t
+hex_read t bytes lower decoded = rw (lower, decoded)

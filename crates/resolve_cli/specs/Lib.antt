@@ -1,0 +1,10 @@
+pub mod Cause
+pub mod Document
+pub mod Fields
+pub mod Json
+pub mod MemoryStreams
+pub mod Reading
+pub mod Report
+pub mod Run
+pub mod Streams
+pub mod Writing
