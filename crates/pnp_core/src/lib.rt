@@ -26,9 +26,9 @@ pub use error::{
     UndeclaredDependency,
 };
 pub use initialize::init_pnp_manifest;
-pub use loading::loaded_manifest;
+pub use loading::{load_pnp_manifest, loaded_manifest};
 pub use manifest::{Binding, Manifest, PackageDependency, PackageInformation, PackageLocator};
-pub use nearest::closest_manifest;
+pub use nearest::{closest_manifest, find_closest_pnp_manifest_path};
 pub use normalize::normalize_path;
 pub use owner::find_locator;
 pub use payload::payload_of;
@@ -36,3 +36,6 @@ pub use readers::read_manifest;
 pub use registry::{get_package, has_package, is_dependency_tree_root, is_excluded_from_fallback};
 pub use trie::Trie;
 pub use undeclared::undeclared_of;
+
+#[cfg(test)]
+mod tests;

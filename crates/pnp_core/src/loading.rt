@@ -1,6 +1,7 @@
 // The manifest that a file of a tree is.
 ghost use Rattle.std.specs.Prelude.{◌≡◌, Some, Ok, Err, IfOk};
 ghost use Rattle.serde_json.specs.View.{view};
+ghost use Rattle.sugar_path.specs.Path.{IsCleanPath, path_in};
 ghost use Rattle.tree_core.specs.Asks.{Asks, seen};
 ghost use Rattle.pnp_core.specs.Hydration.{IsRefusedFor, IsHydrated};
 ghost use Rattle.pnp_core.specs.Loading.{loading};
@@ -9,6 +10,7 @@ ghost use Rattle.pnp_core.specs.ManifestReading.{reading, from_text, from_payloa
 ghost use Rattle.pnp_core.specs.Owner.{IsReady};
 ghost use Rattle.pnp_core.specs.Refusal.{pnp};
 ghost use Rattle.pnp_core.specs.Wording.{cause_message};
+ghost use Rattle.pnp_core.specs.Wording as wording;
 
 use crate::{
     Error, FailedManifestHydration, HydrationCause, Manifest, PackageLocator, ReadManifestError,
@@ -17,7 +19,7 @@ use crate::{
 use serde_json::Value;
 use std::alloc::{AllocError, Global};
 use sugar_path::{Bytes, CleanPath, Text};
-use tree_core::Asker;
+use tree_core::{Asker, Recorder, Tree};
 
 /// The manifest that the file at a path is: a ready one, or a refusal with its cause. Its bytes are read from the tree.
 pub fn loaded_manifest<R: Asker>(
@@ -30,6 +32,21 @@ pub fn loaded_manifest<R: Asker>(
 {
     let content = tree.read(manifest)?;
     manifest_of_content(alloc, &content, manifest)
+}
+
+/// The manifest that the file at a path is: a ready one, or `FailedManifestHydration` with its cause.
+/// The path is a clean absolute text.
+pub fn load_pnp_manifest<'t, T: Tree>(
+    alloc: Global,
+    tree: &mut Recorder<'t, T>,
+    p: &str,
+) -> Result<Manifest, Error>
+    requires { IsCleanPath p.now }
+    ensures asks { Asks (⟦<Recorder<'t, T> as Asker>⟧.asking tree.old) (⟦<Recorder<'t, T> as Asker>⟧.asking tree.new) (seen pnp result) (loading (path_in p.now)) }
+    ensures ready { IfOk result IsReady }
+{
+    let path = CleanPath::of(alloc, p)?;
+    loaded_manifest(alloc, tree, &path)
 }
 
 // The manifest that the content of a file is.
@@ -148,5 +165,3 @@ fn message_of(cause: HydrationCause) -> &'static str
         HydrationCause::NoTopLevel => "The PnP data payload has no top-level row.",
     }
 }
-
-ghost use Rattle.pnp_core.specs.Wording as wording;
