@@ -5,9 +5,12 @@ use std::test::Fail;
 use sugar_path::Text;
 use tree_core::MemoryTree;
 
-const MANIFEST: &str = r#"const RAW_RUNTIME_STATE =
+// A manifest whose top-level package binds `foo`.
+fn manifest() -> &'static str {
+    r#"const RAW_RUNTIME_STATE =
 '{"dependencyTreeRoots":[],"enableTopLevelFallback":false,"ignorePatternData":null,"fallbackExclusionList":[],"fallbackPool":[],"packageRegistryData":[[null,[[null,{"packageLocation":"./","packageDependencies":[["foo","npm:1.0.0"]]}]]],["foo",[["npm:1.0.0",{"packageLocation":"./lib/foo/","packageDependencies":[]}]]]]}';
-"#;
+"#
+}
 
 fn project(alloc: Global, cwd: &str) -> Result<Project, ProjectError> {
     Project::new(
@@ -20,7 +23,7 @@ fn project(alloc: Global, cwd: &str) -> Result<Project, ProjectError> {
 
 fn tree(alloc: Global) -> Result<MemoryTree, Fail> {
     let mut tree = MemoryTree::new(alloc);
-    tree.put("/w/.pnp.cjs", MANIFEST.as_bytes(), "/w/.pnp.cjs")?;
+    tree.put("/w/.pnp.cjs", manifest().as_bytes(), "/w/.pnp.cjs")?;
     tree.put("/w/a.js", b"", "/w/a.js")?;
     tree.put("/w/lib/foo/index.js", b"", "/real/foo.js")?;
     tree.put("/w/lib/foo/sub/part.mts", b"", "/w/lib/foo/sub/part.mts")?;
