@@ -215,7 +215,8 @@ fn read_content(
     text: Option<&Value>,
     hex: Option<&Value>,
 ) -> Result<Option<Bytes>, AllocError>
-    ensures { IfOk result (λ content. content ≡ content_of (option_map (λ v. view v.now) text.entry) (option_map (λ v. view v.now) hex.entry)) }
+    ensures { IfOk result (λ content. content
+        ≡ content_of (option_map (λ v. view v.now) text.entry) (option_map (λ v. view v.now) hex.entry)) }
 {
     match (text, hex) {
         (Some(text), None) => match text.as_str() {

@@ -162,7 +162,10 @@ impl Sink for BytesSink {
     /// Refuses exactly the calls whose numbers are listed, and else takes all of the piece or as much as there is room for.
     fn write(&mut self, piece: &[u8]) -> Result<usize, SinkFault>
         ensures fails { is_err result ≡ is_listed self.old.fail_at (one_more self.old.calls) }
-        ensures after_fault { OnErr result (self.new ≡ record self.old { calls = one_more self.old.calls; faults = one_more self.old.faults }) }
+        ensures after_fault { OnErr result (self.new ≡ record self.old {
+          calls = one_more self.old.calls;
+          faults = one_more self.old.faults;
+        }) }
         ensures fills { IfOk result (λ n. n ≡ min (length piece.now) (self.old.room - length self.old.written)) }
         ensures after { IfOk result (λ n. self.new ≡ record self.old {
           written = self.old.written ++ take n piece.now;

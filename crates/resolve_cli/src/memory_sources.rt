@@ -131,12 +131,19 @@ impl Source for BytesSource {
 
     ghost faults = { λ s. s.faults };
 
-    /// Refuses exactly the calls whose numbers are listed, and else gives as many of the next bytes as the buffer holds or are left.
+    /// Refuses exactly the calls whose numbers are listed, and else gives as many of the next bytes as
+    /// the buffer holds or are left.
     fn read(&mut self, buffer: &mut [u8]) -> Result<usize, SourceFault>
         ensures fails { is_err result ≡ is_listed self.old.fail_at (one_more self.old.calls) }
-        ensures after_fault { OnErr result (self.new ≡ record self.old { calls = one_more self.old.calls; faults = one_more self.old.faults }) }
+        ensures after_fault { OnErr result (self.new ≡ record self.old {
+          calls = one_more self.old.calls;
+          faults = one_more self.old.faults;
+        }) }
         ensures fills { IfOk result (λ n. n ≡ min (length self.old.left) (length buffer.new)) }
-        ensures after { IfOk result (λ n. self.new ≡ record self.old { left = drop n self.old.left; calls = one_more self.old.calls }) }
+        ensures after { IfOk result (λ n. self.new ≡ record self.old {
+          left = drop n self.old.left;
+          calls = one_more self.old.calls;
+        }) }
         ensures front { IfOk result (λ n. take n buffer.new ≡ take n self.old.left) }
 
         // What every source owes.

@@ -50,7 +50,8 @@ impl From<AllocError> for ReadAllError {
 
 /// All that a source has left. It reads on only while it has taken at most `LONGEST` bytes.
 pub fn read_all<S: Source>(alloc: Global, source: &mut S) -> Result<Vec<u8>, ReadAllError>
-    ensures all { IfOk result (λ v. ForSome (S.left source.old) (λ bytes. (v.items ≡ bytes) × (S.left source.new ≡ Some []))) }
+    ensures all { IfOk result (λ v. ForSome (S.left source.old) (λ bytes.
+        (v.items ≡ bytes) × (S.left source.new ≡ Some []))) }
     ensures short { IfOk result (λ v. vec_len v ≤ LONGEST) }
     ensures too_long { IsErrOf result TooLong → ForSome (S.left source.old) (λ bytes. LONGEST < length bytes) }
     ensures end { ForSome (S.left source.old) (λ bytes. LeavesEnd (LONGEST + CHUNK) bytes (S.left source.new)) }

@@ -29,11 +29,14 @@ pub fn run<S: Source, K: Sink, T: Tree>(
     disk: &mut T,
 ) -> Status
     // How each status comes.
-    ensures done { result ≡ Status.Done → ForSome (S.left source.old) (λ bytes. IsOkAnd (report bytes) (λ text. Finishes bytes text (S.left source.new) (K.written sink.old) (K.written sink.new))) }
-    ensures refused { result ≡ Status.Refused → ForSome (S.left source.old) (λ bytes. IsErrAnd (report bytes) (λ cause. Finishes bytes (cause_line cause) (S.left source.new) (K.written sink.old) (K.written sink.new))) }
+    ensures done { result ≡ Status.Done → ForSome (S.left source.old) (λ bytes. IsOkAnd (report bytes) (λ text.
+        Finishes bytes text (S.left source.new) (K.written sink.old) (K.written sink.new))) }
+    ensures refused { result ≡ Status.Refused → ForSome (S.left source.old) (λ bytes. IsErrAnd (report bytes) (λ cause.
+        Finishes bytes (cause_line cause) (S.left source.new) (K.written sink.old) (K.written sink.new))) }
     ensures usage { (result ≡ Status.Usage) ↔ (asks_resolve words.now ≡ false) }
     ensures too_long { result ≡ Status.TooLong → ForSome (S.left source.old) (λ bytes. LONGEST < length bytes) }
-    ensures cut { result ≡ Status.WriteFault → ForSome (S.left source.old) (λ bytes. ReadsAll bytes (S.left source.new) × AppendsFront ((reply_for bytes).1) (K.written sink.old) (K.written sink.new)) }
+    ensures cut { result ≡ Status.WriteFault → ForSome (S.left source.old) (λ bytes. ReadsAll bytes (S.left source.new)
+        × AppendsFront ((reply_for bytes).1) (K.written sink.old) (K.written sink.new)) }
     ensures no_tree_fault { result ≢ Status.TreeFault }
 
     // Each fault has its cause, and none is passed over.
@@ -41,7 +44,8 @@ pub fn run<S: Source, K: Sink, T: Tree>(
     ensures sink_faults { CountsFault (is_of_sink result) (K.faults sink.old) (K.faults sink.new) }
 
     // Without a fault a document that nothing is against is answered, or no memory was found.
-    ensures complete { asks_resolve words.now ≡ true → ForSome (S.left source.old) (λ bytes. length bytes ≤ LONGEST → IsOk (report bytes)
+    ensures complete { asks_resolve words.now ≡ true → ForSome (S.left source.old) (λ bytes.
+        length bytes ≤ LONGEST → IsOk (report bytes)
         → IsSteady (S.faults source.old) (S.faults source.new) → IsSteady (K.faults sink.old) (K.faults sink.new)
         → (result ≡ Status.Done) ⊎ (result ≡ Status.NoMemory)) }
 
