@@ -78,7 +78,7 @@ impl Source for PlainSource {
 
     ghost faults = { λ s. 0 };
 
-    /// Gives as many of the next bytes as the buffer holds or are left.
+    /// Fills the buffer from the front of what is left, as far as either goes.
     fn read(&mut self, buffer: &mut [u8]) -> Result<usize, SourceFault>
         ensures fills { result ≡ Ok (min (length self.old) (length buffer.new)) }
         ensures after { IfOk result (λ n. self.new ≡ drop n self.old) }
@@ -131,8 +131,8 @@ impl Source for BytesSource {
 
     ghost faults = { λ s. s.faults };
 
-    /// Refuses exactly the calls whose numbers are listed, and else gives as many of the next bytes as
-    /// the buffer holds or are left.
+    /// Refuses exactly the calls whose numbers are listed. Any other call fills the buffer from the front
+    /// of what is left, as far as either goes.
     fn read(&mut self, buffer: &mut [u8]) -> Result<usize, SourceFault>
         ensures fails { is_err result ≡ is_listed self.old.fail_at (one_more self.old.calls) }
         ensures after_fault { OnErr result (self.new ≡ record self.old {

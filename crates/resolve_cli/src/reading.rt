@@ -3,7 +3,7 @@ ghost use Rattle.std.specs.Prelude.{◌≡◌, ◌≤◌, ◌<◌, ◌+◌, ℕ,
 ghost use Rattle.std.specs.Option.{ForSome};
 ghost use Rattle.resolve_cli.specs.Reading.{is_read_fault, LeavesEnd};
 ghost use Rattle.resolve_cli.specs.Streams.{CountsFault};
-ghost use Rattle.resolve_cli.specs.declared.reading.ReadAllError.TheVariants.{TooLong};
+ghost use Rattle.resolve_cli.specs.declared.reading.ReadAllError.TheVariants.{Fault, TooLong};
 ghost use Rattle.resolve_cli.specs.declared.reading.TheConstants.{LONGEST, CHUNK};
 
 use crate::source::{Source, SourceFault};
@@ -54,6 +54,7 @@ pub fn read_all<S: Source>(alloc: Global, source: &mut S) -> Result<Vec<u8>, Rea
         (v.items ≡ bytes) × (S.left source.new ≡ Some []))) }
     ensures short { IfOk result (λ v. vec_len v ≤ LONGEST) }
     ensures too_long { IsErrOf result TooLong → ForSome (S.left source.old) (λ bytes. LONGEST < length bytes) }
+    ensures early { IsErrOf result Fault → ForSome (S.left source.old) (λ bytes. LeavesEnd LONGEST bytes (S.left source.new)) }
     ensures end { ForSome (S.left source.old) (λ bytes. LeavesEnd (LONGEST + CHUNK) bytes (S.left source.new)) }
     ensures counted { CountsFault (is_read_fault result) (S.faults source.old) (S.faults source.new) }
 {

@@ -51,6 +51,7 @@ pub fn run<S: Source, K: Sink, T: Tree>(
 
     // What else it leaves.
     ensures silent { is_silent result ≡ true → K.written sink.new ≡ K.written sink.old }
+    ensures early { is_of_source result ≡ true → ForSome (S.left source.old) (λ bytes. LeavesEnd LONGEST bytes (S.left source.new)) }
     ensures unread { result ≡ Status.Usage → S.left source.new ≡ S.left source.old }
     ensures end { ForSome (S.left source.old) (λ bytes. LeavesEnd (LONGEST + CHUNK) bytes (S.left source.new)) }
     ensures disk { disk.new ≡ disk.old }
