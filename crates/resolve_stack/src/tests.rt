@@ -1,5 +1,5 @@
 // What no clause says: that calls with ample memory answer.
-use crate::{FileName, Project, ProjectError, Settings, Verdict, resolve_import};
+use crate::{FileName, Outcome, Project, ProjectError, Settings, Verdict, resolve_import};
 use std::alloc::Global;
 use std::test::Fail;
 use sugar_path::Text;
@@ -30,19 +30,31 @@ fn tree(alloc: Global) -> Result<MemoryTree, Fail> {
     Ok(tree)
 }
 
-// What a request from `/w/a.js` comes to, as a text.
-fn answer(alloc: Global, specifier: &str) -> Result<Text, Fail> {
+fn working_folder() -> &'static str {
+    "/w"
+}
+
+fn importer() -> &'static str {
+    "a.js"
+}
+
+// What a request from `/w/a.js` comes to.
+fn outcome_of(alloc: Global, specifier: &str) -> Result<Outcome, Fail> {
     let mut tree = tree(alloc)?;
-    let project = project(alloc, "/w")?;
-    let importer = FileName::Real(Text::of(alloc, "a.js")?);
-    let outcome = resolve_import(alloc, &mut tree, &project, &importer, specifier)?;
-    match outcome.verdict {
-        Verdict::Answered(resolution) => match resolution.filename {
-            FileName::Real(name) => Ok(name),
-            FileName::Custom(name) => Ok(name),
-            FileName::Anon => Ok(Text::of(alloc, "anonymous")?),
+    let project = project(alloc, working_folder())?;
+    let importer = FileName::Real(Text::of(alloc, importer())?);
+    Ok(resolve_import(alloc, &mut tree, &project, &importer, specifier)?)
+}
+
+// The file that is answered, or a word for what else comes.
+fn told(outcome: &Outcome) -> &str {
+    match &outcome.verdict {
+        Verdict::Answered(resolution) => match &resolution.filename {
+            FileName::Real(name) => name.as_str(),
+            FileName::Custom(name) => name.as_str(),
+            FileName::Anon => "anonymous",
         },
-        Verdict::Refused(_) => Ok(Text::of(alloc, "refused")?),
+        Verdict::Refused(_) => "refused",
     }
 }
 
@@ -57,8 +69,8 @@ fn bare_names_are_answered(rt: HostRuntime) -> Result<(), Fail> {
         ("bar", "refused"),
     ];
     for (specifier, wanted) in cases {
-        let found = answer(rt.alloc(), specifier)?;
-        assert_eq!(rt; found.as_str(), wanted, "{specifier}");
+        let outcome = outcome_of(rt.alloc(), specifier)?;
+        assert_eq!(rt; told(&outcome), wanted, "{specifier}");
     }
     Ok(())
 }
