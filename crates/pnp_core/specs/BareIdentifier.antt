@@ -25,8 +25,8 @@ behind_scope scope rest = (scope ++ 47 ∷ rest.0, rest.1)
 abbrev pub split_scoped : List ℕ → Option (List ℕ × Option (List ℕ))
 split_scoped t = cond (has_slash t) (Some (behind_scope (before_first is_slash t) (split_unscoped (after_first is_slash t)))) None
 
--- The name and the subpath: the name ends before the first `/`, or before the second where the text begins with `@`; the subpath is all that follows.
--- None where the text begins with `@` and holds no `/`.
+-- How a bare specifier falls into the name of a package and what is asked of that package. A scope and its `/` belong to the name,
+-- so a scoped text is cut at its second `/`, any other text at its first. A scope alone is no name: None.
 abbrev pub split_bare : List ℕ → Option (List ℕ × Option (List ℕ))
 split_bare t = cond (is_scoped t) (split_scoped t) (Some (split_unscoped t))
 

@@ -4,7 +4,7 @@ use Rattle.std.proofs.lemmas.Slice.Eq.{bytes_eq-Decides}
 use Rattle.sugar_path.specs.Path.{IsCleanPath, path_in, text_of}
 use Rattle.sugar_path.proofs.Parts.{IsPath-path_in, path_in-text_of}
 use Rattle.tree_core.specs.Asks.{Settles}
-use Rattle.tree_core.specs.Tree.{Files}
+use Rattle.tree_core.specs.Tree.{Files, is_clean_path}
 use Rattle.tree_core.specs.declared.question.Question.{Question}
 use Rattle.tree_core.specs.declared.question.Reply.{Reply}
 use Rattle.tree_core.specs.Memory.{same_files}
@@ -12,7 +12,7 @@ use Rattle.resolve_stack.specs.Settings.{Known}
 use Rattle.tree_core.proofs.Entries.{same_files-is, same_files-refl}
 use Rattle.resolve_stack.specs.Verdict.{verdict}
 use Rattle.resolve_stack.specs.declared.verdict.Verdict.{Verdict}
-use Rattle.resolve_cli.specs.Document.{is_clean_path, project_of, verdict_on}
+use Rattle.resolve_cli.specs.Document.{project_of, verdict_on}
 use Rattle.resolve_cli.specs.declared.fields.Request.{Request}
 use Rattle.resolve_cli.specs.declared.cause.Cause.TheVariants.{SettingsFault}
 use Rattle.std.specs.Prelude.{codes}

@@ -1,9 +1,9 @@
 -- What a document gives, or the first cause against it; and what is written for it.
-use Rattle.std.specs.Prelude.{ℕ, List, [], ◌∷◌, Bool, cond, codes, map, bytes_eq, Option, Some, None, Result, Ok, Err}
+use Rattle.std.specs.Prelude.{ℕ, List, [], ◌∷◌, Bool, cond, codes, map, Option, Some, None, Result, Ok, Err}
 use Rattle.std.specs.FinMap as finite
-use Rattle.sugar_path.specs.Path.{path_in, text_of}
+use Rattle.sugar_path.specs.Path.{path_in}
 use Rattle.tree_core.specs.Plan.{answer}
-use Rattle.tree_core.specs.Tree.{Files}
+use Rattle.tree_core.specs.Tree.{Files, is_clean_path}
 use Rattle.tree_core.specs.Memory.{refusal, with_file}
 use Rattle.resolve_stack.specs.Settings.{Known}
 use Rattle.resolve_stack.specs.Verdict.{verdict}
@@ -39,10 +39,6 @@ put_files t [] = Ok t
 put_files t (file ∷ files) = do
   more ← put_file t file
   put_files more files
-
--- a clean absolute path is the text of the path that it names
-abbrev pub is_clean_path : List ℕ → Bool
-is_clean_path t = bytes_eq t (text_of (path_in t))
 
 -- the project of a working folder
 unfoldable pub project_of : List ℕ → Result Known Cause
