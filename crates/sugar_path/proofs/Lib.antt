@@ -3,6 +3,7 @@ pub mod Paths
 pub mod Parts
 pub mod Below
 pub mod CleanTexts
+pub mod FirstParts
 pub mod RouteTexts
 pub mod Placed
 pub mod ParentEnds
