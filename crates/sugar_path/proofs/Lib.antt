@@ -10,3 +10,5 @@ pub mod ParentEnds
 pub mod Heres
 pub mod StepParts
 pub mod WayParts
+pub mod Twice
+pub mod Journeys

@@ -1,5 +1,6 @@
 pub mod Component
 pub mod ComponentTypes
+pub mod Laws
 pub mod Parent
 pub mod ParentEnd
 pub mod Path

@@ -6,6 +6,7 @@ mod clean_path;
 mod component;
 mod faults;
 mod joined;
+pub mod laws;
 mod lexical;
 mod lexical_buf;
 mod normal;
