@@ -137,7 +137,7 @@ here-route (Relative (suc k) p) h = by_rest (replicate k (46 ∷ 46 ∷ []) ++ r
     by_rest [] = refl
     by_rest (x ∷ xs) = refl
 
-here-place : (t : List ℕ) → bytes_eq (place t) (46 ∷ []) ≡ is_start (route_of t)
+pub here-place : (t : List ℕ) → bytes_eq (place t) (46 ∷ []) ≡ is_start (route_of t)
 unfolding place
 here-place t = here-route (route_of t) (IsPath-route_of t)
 
@@ -148,7 +148,7 @@ or_dot-long : (t : List ℕ) → length (or_dot t) ≢ 0
 or_dot-long [] e = absurd (omega arith)
 or_dot-long (c ∷ t) e = absurd (omega arith)
 
-place-long : (t : List ℕ) → length (place t) ≢ 0
+pub place-long : (t : List ℕ) → length (place t) ≢ 0
 unfolding place
 place-long t = or_dot-long (route_text (route_of t))
 

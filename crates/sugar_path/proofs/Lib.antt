@@ -3,9 +3,12 @@ pub mod Paths
 pub mod Parts
 pub mod Below
 pub mod CleanTexts
+pub mod FirstParts
 pub mod RouteTexts
 pub mod Placed
 pub mod ParentEnds
 pub mod Heres
 pub mod StepParts
 pub mod WayParts
+pub mod Twice
+pub mod Journeys

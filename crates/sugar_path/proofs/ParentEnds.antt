@@ -10,7 +10,8 @@ use Rattle.std.proofs.lemmas.List.Splits.{join_with_byte-slice_split}
 use Rattle.sugar_path.specs.Path.{parts, has_no_slash, is_absolute}
 use Rattle.sugar_path.proofs.Bools.{and_left}
 use Rattle.sugar_path.proofs.Parts.{seen-whole, HasNoSlash, parts-no_slash, parts-some as parts_nonempty}
-use Rattle.sugar_path.specs.Parent.{is_silent, is_nil, trimmed, but_last, end_by, parent_end, parent_by, parent_of_parts, parent_of, or_slash}
+use Rattle.sugar_path.specs.Parent.{is_silent, is_nil, trimmed, but_last, parent_by, parent_of_parts, parent_of, or_slash}
+use Rattle.sugar_path.specs.ParentEnd.{end_by, parent_end}
 
 -- how far the parts passed so far reach: the next part's place, the end of the last component, and the parent's end
 abbrev pub HasEnds : List (List ℕ) → ℕ → ℕ → Option ℕ → Type 0

@@ -63,17 +63,17 @@ steps-read k (x ∷ xs) h = by_test (is_plain x) refl h (steps-read (k + 1) xs)
           rest.1,
         )
 
-parts-join : (a : List ℕ) (xs : List (List ℕ)) → AllByRecursion HasNoSlash (a ∷ xs) → parts (join_with_byte 47 (a ∷ xs)) ≡ a ∷ xs
+pub parts-join : (a : List ℕ) (xs : List (List ℕ)) → AllByRecursion HasNoSlash (a ∷ xs) → parts (join_with_byte 47 (a ∷ xs)) ≡ a ∷ xs
 parts-join a [] h = parts-name a h.0
 parts-join a (b ∷ xs) h = parts-slash a (join_with_byte 47 (b ∷ xs)) ∙ ap (λ ps. ps ++ parts (join_with_byte 47 (b ∷ xs))) (parts-name a h.0) ∙ ap (λ ps. a ∷ ps) (parts-join b xs h.1)
 
 -- ---- a text with the looks of a place is its own place
-route_text-rooted : (r : Route) → is_rooted r ≡ true → route_text r ≡ 47 ∷ join_with_byte 47 (route_parts r)
+pub route_text-rooted : (r : Route) → is_rooted r ≡ true → route_text r ≡ 47 ∷ join_with_byte 47 (route_parts r)
 unfolding route_text
 route_text-rooted (Rooted p) h = refl
 route_text-rooted (Relative k p) h = cc
 
-route_text-loose : (r : Route) → is_rooted r ≡ false → route_text r ≡ join_with_byte 47 (route_parts r)
+pub route_text-loose : (r : Route) → is_rooted r ≡ false → route_text r ≡ join_with_byte 47 (route_parts r)
 unfolding route_text
 route_text-loose (Rooted p) h = cc
 route_text-loose (Relative k p) h = refl
@@ -267,11 +267,11 @@ place-slash : place (47 ∷ []) ≡ 47 ∷ []
 unfolding place route_of route_text
 place-slash = refl
 
-loose-place : (t : List ℕ) → is_absolute t ≡ false → looks_loose (place t) ≡ true
+pub loose-place : (t : List ℕ) → is_absolute t ≡ false → looks_loose (place t) ≡ true
 unfolding place
 loose-place t loose = loose-route (route_of t) (IsPath-route_of t) (route_of-rooted t ∙ loose)
 
-rooted-place : (t names : List ℕ) → is_absolute t ≡ true → 47 ∷ names ≡ place t → looks_rooted names ≡ true
+pub rooted-place : (t names : List ℕ) → is_absolute t ≡ true → 47 ∷ names ≡ place t → looks_rooted names ≡ true
 unfolding place
 rooted-place t names rooted is = rooted-route (route_of t) names (IsPath-route_of t) (route_of-rooted t ∙ rooted) is
 
@@ -330,7 +330,7 @@ place-closed (c ∷ t) some =
     ap (λ ps. or_dot (route_text (route_by_parts (route_start (c ∷ t)) ps))) (parts-slash (c ∷ t) [])
     ∙ ap (λ r. or_dot (route_text r)) (route_by_parts-append (route_start (c ∷ t)) (parts (c ∷ t)) ([] ∷ []))
 
-normal-closed : (t : List ℕ) → length t ≢ 0 → normal (t ++ 47 ∷ []) ≡ cond (not (bytes_eq (place t) (47 ∷ []))) (place t ++ 47 ∷ []) (place t)
+pub normal-closed : (t : List ℕ) → length t ≢ 0 → normal (t ++ 47 ∷ []) ≡ cond (not (bytes_eq (place t) (47 ∷ []))) (place t ++ 47 ∷ []) (place t)
 unfolding normal
 normal-closed t some = rw (place-closed t some, ends-append t 47 []) refl
 

@@ -202,7 +202,7 @@ with_slash-joined s a (b ∷ xs) h =
     let more : s ++ (a ++ 47 ∷ join_with_byte 47 (b ∷ xs)) ≡ (s ++ a ++ 47 ∷ []) ++ join_with_byte 47 (b ∷ xs) = simp append_assoc in
     rw more (with_slash-joined (s ++ a ++ 47 ∷ []) b xs h.1)
 
-join-push : (a : List ℕ) (xs : List (List ℕ)) (x : List ℕ) → join_with_byte 47 ((a ∷ xs) ++ x ∷ []) ≡ join_with_byte 47 (a ∷ xs) ++ 47 ∷ x
+pub join-push : (a : List ℕ) (xs : List (List ℕ)) (x : List ℕ) → join_with_byte 47 ((a ∷ xs) ++ x ∷ []) ≡ join_with_byte 47 (a ∷ xs) ++ 47 ∷ x
 join-push a [] x = refl
 join-push a (b ∷ xs) x = ap (λ t. a ++ 47 ∷ t) (join-push b xs x) ∙ sym (append_assoc a (47 ∷ join_with_byte 47 (b ∷ xs)) (47 ∷ x))
 

@@ -85,7 +85,7 @@ tail-items i target = take_all (length target - i) (drop i target) (omega (arith
 
 -- ---- the way between two routes by all their parts
 -- parts that both begin with lead nowhere
-between-shared : (zs base target : List (List ℕ)) → between (zs ++ base) (zs ++ target) ≡ between base target
+pub between-shared : (zs base target : List (List ℕ)) → between (zs ++ base) (zs ++ target) ≡ between base target
 between-shared [] base target = refl
 between-shared (z ∷ zs) base target =
     let one : common_prefix_len bytes_eq (z ∷ (zs ++ target)) (z ∷ (zs ++ base)) ≡ suc (common_prefix_len bytes_eq (zs ++ target) (zs ++ base)) =

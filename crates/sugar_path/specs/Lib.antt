@@ -1,4 +1,8 @@
+pub mod Component
+pub mod ComponentTypes
+pub mod Laws
 pub mod Parent
+pub mod ParentEnd
 pub mod Path
 pub mod PathEq
 pub mod PathTypes

@@ -1,5 +1,5 @@
 -- The parent of a path: the text as far as its last component but one, as Rust's `std::path` has it.
-use Rattle.std.specs.Prelude.{ℕ, ◌||◌, ◌&&◌, Bool, true, false, cond, List, [], ◌∷◌, bytes_eq, length, Option, Some, None}
+use Rattle.std.specs.Prelude.{ℕ, ◌||◌, ◌&&◌, Bool, true, false, cond, List, [], ◌∷◌, bytes_eq, Option, Some, None}
 use Rattle.std.specs.List.{join_with_byte}
 use Rattle.sugar_path.specs.Path.{parts}
 
@@ -39,12 +39,3 @@ parent_of_parts (first ∷ rest) = parent_by first (trimmed rest)
 
 unfoldable pub parent_of : List ℕ → Option (List ℕ)
 parent_of t = parent_of_parts (parts t)
-
--- where the parent of a path with components behind its first part ends
-abbrev pub end_by : List ℕ → List (List ℕ) → Option ℕ
-end_by first [] = None
-end_by first (part ∷ rest) = Some (length (join_with_byte 47 (first ∷ trimmed (but_last (part ∷ rest)))))
-
-abbrev pub parent_end : List (List ℕ) → Option ℕ
-parent_end [] = None
-parent_end (first ∷ rest) = end_by first (trimmed rest)

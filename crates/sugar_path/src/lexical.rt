@@ -1,5 +1,5 @@
 // Lexical operations over a lent path, which never ask the file system.
-ghost use Rattle.std.specs.Prelude.{◌≡◌, ◌↔◌, ◌⊎◌, ◌||◌, ◌∷◌, [], List, ℕ, IfOk, IfSome, IsNone, OnSome, IsTrue, false, not};
+ghost use Rattle.std.specs.Prelude.{◌≡◌, ◌↔◌, ◌⊎◌, ◌||◌, ◌∷◌, [], List, ℕ, IfOk, IsOk, IfSome, IsNone, OnSome, IsTrue, false, not};
 ghost use Rattle.std.specs.Str.{IsUtf8};
 ghost use Rattle.std.specs.Str.Lossy.{utf8_lossy};
 ghost use Rattle.std.specs.Cow.{cow_str_bytes, IsBorrowedStr};
@@ -25,25 +25,31 @@ pub trait SugarPath<'a>: Sealed {
     /// The path without `.`, removable `..` and repeated separators. A trailing separator stays.
     fn normalize(self, alloc: Global) -> Result<PathCow<'a>, AllocError>
         ensures path { IfOk result (λ p. cow_bytes p ≡ normal (bytes self)) }
-        ensures borrowed { IfOk result (λ p. IsTrue (is_borrowed p) ↔ ((IsUtf8 (bytes self) × (normal (bytes self) ≡ bytes self)) ⊎ (normal (bytes self) ≡ 46 ∷ []))) };
+        ensures borrowed { IfOk result (λ p. IsTrue (is_borrowed p) ↔ ((IsUtf8 (bytes self) × (normal (bytes self) ≡ bytes self)) ⊎ (normal (bytes self) ≡ 46 ∷ []))) }
+
+        // What is lent takes no memory.
+        ensures lent { ((IsUtf8 (bytes self) × (normal (bytes self) ≡ bytes self)) ⊎ (normal (bytes self) ≡ 46 ∷ [])) → IsOk result };
 
     /// The path from the root: itself, or behind the folder `cwd`, without `.`, `..`, repeated or trailing separators.
     fn absolutize_with(self, alloc: Global, cwd: Path<'_>) -> Result<PathCow<'a>, AllocError>
         requires { IsTrue (is_absolute (bytes self) || is_absolute (path_bytes cwd)) }
         ensures path { IfOk result (λ p. cow_bytes p ≡ from_folder (path_bytes cwd.entry) (bytes self)) }
-        ensures borrowed { IfOk result (λ p. IsTrue (is_borrowed p) ↔ (IsTrue (is_absolute (bytes self)) × IsUtf8 (bytes self) × (place (bytes self) ≡ bytes self))) };
+        ensures borrowed { IfOk result (λ p. IsTrue (is_borrowed p) ↔ (IsTrue (is_absolute (bytes self)) × IsUtf8 (bytes self) × (place (bytes self) ≡ bytes self))) }
+        ensures lent { (IsTrue (is_absolute (bytes self)) × IsUtf8 (bytes self) × (place (bytes self) ≡ bytes self)) → IsOk result };
 
     /// As `absolutize_with`, where the working folder is known if it is needed.
     fn absolutize(self, alloc: Global, cwd: &CwdAnswer) -> Result<PathCow<'a>, AllocError>
         requires { IsTrue (is_absolute (bytes self) || is_absolute (folder_of cwd.now)) }
         ensures path { IfOk result (λ p. cow_bytes p ≡ from_folder (folder_of cwd.now) (bytes self)) }
-        ensures borrowed { IfOk result (λ p. IsTrue (is_borrowed p) ↔ (IsTrue (is_absolute (bytes self)) × IsUtf8 (bytes self) × (place (bytes self) ≡ bytes self))) };
+        ensures borrowed { IfOk result (λ p. IsTrue (is_borrowed p) ↔ (IsTrue (is_absolute (bytes self)) × IsUtf8 (bytes self) × (place (bytes self) ≡ bytes self))) }
+        ensures lent { (IsTrue (is_absolute (bytes self)) × IsUtf8 (bytes self) × (place (bytes self) ≡ bytes self)) → IsOk result };
 
     /// As `absolutize_with`, with a fault where the working folder is needed and unknown.
     fn try_absolutize(self, alloc: Global, cwd: &CwdAnswer) -> Result<PathCow<'a>, TryError>
         requires { IsTrue (absolute_if_known cwd.now) }
         ensures path { IfOk result (λ p. cow_bytes p ≡ from_folder (folder_of cwd.now) (bytes self)) }
         ensures borrowed { IfOk result (λ p. IsTrue (is_borrowed p) ↔ (IsTrue (is_absolute (bytes self)) × IsUtf8 (bytes self) × (place (bytes self) ≡ bytes self))) }
+        ensures lent { (IsTrue (is_absolute (bytes self)) × IsUtf8 (bytes self) × (place (bytes self) ≡ bytes self)) → IsOk result }
         ensures no_cwd { (result ≡ Err TryError.NoCwd) ↔ (IsTrue (not (is_absolute (bytes self))) × IsTrue (not (is_known cwd.now))) };
 
     /// The path from `base` to this one: `..` out of the folders of `base`, and then the names. Two paths of one place have the empty path between them.
@@ -94,7 +100,8 @@ pub trait SugarPath<'a>: Sealed {
     /// The path as text, with U+FFFD in place of what is no UTF-8.
     fn to_slash_lossy(self, alloc: Global) -> Result<CowStr<'a>, AllocError>
         ensures text { IfOk result (λ text. cow_str_bytes text ≡ utf8_lossy (bytes self)) }
-        ensures borrowed { IfOk result (λ text. IsBorrowedStr text ↔ IsUtf8 (bytes self)) };
+        ensures borrowed { IfOk result (λ text. IsBorrowedStr text ↔ IsUtf8 (bytes self)) }
+        ensures lent { IsUtf8 (bytes self) → IsOk result };
 
     fn as_path(self) -> Path<'a>
         ensures { path_bytes result ≡ bytes self };

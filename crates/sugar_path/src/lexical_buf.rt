@@ -1,5 +1,5 @@
 // Lexical operations over an owned path, which give its bytes back or edit them.
-ghost use Rattle.std.specs.Prelude.{◌≡◌, ◌↔◌, List, ℕ, IfOk, IfErr, IsErr, string_bytes};
+ghost use Rattle.std.specs.Prelude.{◌≡◌, ◌↔◌, List, ℕ, IfOk, IfErr, IsOk, IsErr, string_bytes};
 ghost use Rattle.std.specs.Str.{IsUtf8};
 ghost use Rattle.std.specs.Str.Lossy.{utf8_lossy};
 ghost use Rattle.sugar_path.specs.Route.{normal};
@@ -18,7 +18,10 @@ pub trait SugarPathBuf: Sealed {
     /// The path without `.`, removable `..` and repeated separators. A trailing separator stays.
     fn into_normalized(self, alloc: Global) -> Result<PathBuf, (PathBuf, AllocError)>
         ensures path { IfOk result (λ p. p ≡ normal (bytes self)) }
-        ensures back { IfErr result (λ e. e.0 ≡ bytes self) };
+        ensures back { IfErr result (λ e. e.0 ≡ bytes self) }
+
+        // A path that is normal takes no memory.
+        ensures same { normal (bytes self) ≡ bytes self → IsOk result };
 
     /// The path as text.
     fn into_slash(self) -> String
@@ -34,7 +37,8 @@ pub trait SugarPathBuf: Sealed {
     /// The path as text, with U+FFFD in place of what is no UTF-8.
     fn into_slash_lossy(self, alloc: Global) -> Result<String, (PathBuf, AllocError)>
         ensures text { IfOk result (λ text. string_bytes text ≡ utf8_lossy (bytes self)) }
-        ensures back { IfErr result (λ e. e.0 ≡ bytes self) };
+        ensures back { IfErr result (λ e. e.0 ≡ bytes self) }
+        ensures same { IsUtf8 (bytes self) → IsOk result };
 }
 
 impl SugarPathBuf for PathBuf {

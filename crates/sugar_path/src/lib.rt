@@ -3,15 +3,19 @@
 
 mod clean;
 mod clean_path;
+mod component;
 mod faults;
 mod joined;
+pub mod laws;
 mod lexical;
 mod lexical_buf;
 mod normal;
 mod parents;
 mod path;
+mod path_components;
 mod plain;
 mod plain_traits;
+mod prefix;
 mod reading;
 mod sealed;
 mod steps;
@@ -19,11 +23,13 @@ mod ways;
 
 pub use clean::{clean_text, is_clean};
 pub use clean_path::CleanPath;
+pub use component::{Component, Components};
 pub use faults::TryError;
 pub use joined::join;
 pub use lexical::SugarPath;
 pub use lexical_buf::SugarPathBuf;
 pub use parents::parent;
 pub use path::{CwdAnswer, Path, PathBuf, PathCow};
+pub use path_components::components;
 pub use plain::{Bytes, List, Text};
-pub use ways::common_prefix_len;
+pub use prefix::common_prefix_len;

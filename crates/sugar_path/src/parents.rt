@@ -2,7 +2,8 @@
 ghost use Rattle.std.specs.Prelude.{◌≡◌, ◌==◌, ◌||◌, length, option_map};
 ghost use Rattle.sugar_path.specs.PathTypes.{path_bytes};
 ghost use Rattle.sugar_path.specs.Path.{parts, is_absolute};
-ghost use Rattle.sugar_path.specs.Parent.{is_silent, parent_of, parent_end};
+ghost use Rattle.sugar_path.specs.Parent.{is_silent, parent_of};
+ghost use Rattle.sugar_path.specs.ParentEnd.{parent_end};
 
 use crate::path::Path;
 
@@ -47,8 +48,8 @@ fn end_of_parent(path: &[u8]) -> Option<usize>
     parent
 }
 
-// Whether a part behind the first one is no component.
-fn is_silent(part: &[u8]) -> bool
+/// Whether a part behind the first one is no component.
+pub(crate) fn is_silent(part: &[u8]) -> bool
     ensures { result ≡ is_silent part.now }
 {
     part.is_empty() || part == b".".as_slice()

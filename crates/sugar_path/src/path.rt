@@ -1,6 +1,6 @@
 // Paths as bytes: lent, owned, or either.
-ghost use Rattle.std.specs.Prelude.{◌≡◌, IfOk};
-ghost use Rattle.sugar_path.specs.PathTypes.{path_bytes, cow_bytes};
+ghost use Rattle.std.specs.Prelude.{◌≡◌, IfOk, IsOk, false};
+ghost use Rattle.sugar_path.specs.PathTypes.{path_bytes, cow_bytes, is_borrowed};
 
 use std::alloc::{AllocError, Global};
 use std::marker::Model;
@@ -99,7 +99,10 @@ impl<'a> PathCow<'a> {
 
     /// The path as owned bytes, which copies a lent one.
     pub fn into_owned(self, alloc: Global) -> Result<PathBuf, AllocError>
-        ensures { IfOk result (λ p. p ≡ cow_bytes self.entry) }
+        ensures path { IfOk result (λ p. p ≡ cow_bytes self.entry) }
+
+        // An owned path takes no memory.
+        ensures same { is_borrowed self.entry ≡ false → IsOk result }
     {
         match self {
             PathCow::Borrowed(path) => PathBuf::of(alloc, path),

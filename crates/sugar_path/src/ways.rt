@@ -1,5 +1,5 @@
 // The way from one place to another, by the names that lead there.
-ghost use Rattle.std.specs.Prelude.{◌≡◌, ◌==◌, ◌||◌, ◌≤◌, List, ℕ, length, IfOk, IsTrue, map, not, nat_eq, bytes_eq};
+ghost use Rattle.std.specs.Prelude.{◌≡◌, ◌==◌, ◌||◌, ◌≤◌, List, ℕ, length, IfOk, IsTrue, map, not, bytes_eq};
 ghost use Rattle.std.specs.List.{AllByRecursion, common_prefix_len, join_with_byte};
 ghost use Rattle.sugar_path.specs.Path.{is_absolute, join};
 ghost use Rattle.sugar_path.specs.Route.{Route, route_of, route_parts};
@@ -10,13 +10,6 @@ use crate::normal::needs_folder;
 use crate::reading::push_part;
 use crate::steps::Steps;
 use std::alloc::{AllocError, Global};
-
-/// How many leading bytes two byte strings share.
-pub fn common_prefix_len(left: &[u8], right: &[u8]) -> usize
-    ensures { result ≡ common_prefix_len nat_eq left.now right.now }
-{
-    left.iter().zip(right).take_while(|(a, b)| a == b).count()
-}
 
 /// The relative path from a base to a target, which are read from a folder where they don't begin at one.
 pub(crate) fn relative_of(

@@ -1,7 +1,7 @@
 use Rattle.std.proofs.Common.{◌==◌, rules, arith, sym, ◌∙◌, ap}
 use Rattle.std.proofs.lemmas.Iterator.Consumers.{YieldsList-so_far, YieldsList-turn, YieldsList-end, YieldsList-at}
 use Rattle.std.proofs.lemmas.Iterator.Splits.{YieldsList-from_slice_split}
-use Rattle.sugar_path.specs.Parent.{parent_end}
+use Rattle.sugar_path.specs.ParentEnd.{parent_end}
 use Rattle.sugar_path.proofs.ParentEnds.{seen-fit, parent-seen, seen-first, seen-silent, seen-component}
 use Rattle.sugar_path.proofs.parents.end_of_parent.Goals as goal
 use Rattle.sugar_path.proofs.parents.end_of_parent.Goals.{then-at-eq0, else-at-eq0+then-not-is_silent, else-at-eq0+else-not-is_silent}

@@ -6,7 +6,7 @@ use Rattle.std.proofs.lemmas.Iterator.Consumers.{YieldsList-at, count_from_yield
 use Rattle.std.proofs.lemmas.Iterator.Search.{YieldsList-from_take_while}
 use Rattle.std.proofs.lemmas.List.Folds.{length-prefix_len}
 use Rattle.sugar_path.proofs.WayParts.{prefix_len-zip}
-use Rattle.sugar_path.proofs.ways.common_prefix_len.Goals as goal
+use Rattle.sugar_path.proofs.prefix.common_prefix_len.Goals as goal
 
 pub returns : goal.returns
 returns c =

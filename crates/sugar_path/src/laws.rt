@@ -1,0 +1,17 @@
+// Laws of the path operations, each proved for all paths. The calls have them by their contracts.
+ghost use Rattle.sugar_path.specs.Laws.{NormalTwice, RelativeLeadsThere, RelativeEmptyAtOnePlace};
+
+/// A normal form is its own normal form. So `normalize` lends what it answered, where that is UTF-8.
+pub fn normal_twice()
+    ensures { NormalTwice }
+{}
+
+/// Read from an absolute folder, a base with the relative path behind it leads to the target of that relative path.
+pub fn relative_leads_there()
+    ensures { RelativeLeadsThere }
+{}
+
+/// Read from an absolute folder, the relative path between two paths is empty exactly where both lead to one place.
+pub fn relative_empty_at_one_place()
+    ensures { RelativeEmptyAtOnePlace }
+{}
