@@ -7,3 +7,4 @@ pub mod Readings
 pub mod Normal
 pub mod Relocations
 pub mod Hydrations
+pub mod PathForms

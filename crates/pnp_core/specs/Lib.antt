@@ -14,3 +14,4 @@ pub mod Refusal
 pub mod Nearest
 pub mod Hydration
 pub mod Loading
+pub mod Laws

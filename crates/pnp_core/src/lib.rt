@@ -8,6 +8,7 @@ mod error;
 mod floats;
 mod from_json;
 mod initialize;
+pub mod laws;
 mod loading;
 mod manifest;
 mod nearest;

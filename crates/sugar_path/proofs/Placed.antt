@@ -201,7 +201,7 @@ other-start (c ∷ t) other = by_test (eqb_tells c 47)
     by_test (inl w) = absurd (other t (ap (λ x. x ∷ t) w.1))
     by_test (inr w) = w.0
 
-route_by_part-rooted : (r : Route) (part : List ℕ) → is_rooted (route_by_part r part) ≡ is_rooted r
+pub route_by_part-rooted : (r : Route) (part : List ℕ) → is_rooted (route_by_part r part) ≡ is_rooted r
 route_by_part-rooted r part = by_tests (bytes_eq part [] || bytes_eq part (46 ∷ [])) (bytes_eq part (46 ∷ 46 ∷ []))
   where
     up : (r : Route) → is_rooted (route_up r) ≡ is_rooted r

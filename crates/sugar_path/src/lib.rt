@@ -33,3 +33,8 @@ pub use path::{CwdAnswer, Path, PathBuf, PathCow};
 pub use path_components::components;
 pub use plain::{Bytes, List, Text};
 pub use prefix::common_prefix_len;
+
+#[cfg(test)]
+mod test_parts;
+#[cfg(test)]
+mod tests;
