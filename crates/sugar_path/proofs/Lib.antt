@@ -12,3 +12,4 @@ pub mod StepParts
 pub mod WayParts
 pub mod Twice
 pub mod Journeys
+pub mod Pieces

@@ -1,8 +1,10 @@
 -- What holds between the path operations, whatever the paths.
-use Rattle.std.specs.Prelude.{◌≡◌, ◌↔◌, true, List, [], ℕ}
+use Rattle.std.specs.Prelude.{◌≡◌, ◌↔◌, ◌⊎◌, true, List, [], ◌∷◌, ◌++◌, ℕ, Some, None}
 use Rattle.sugar_path.specs.Path.{is_absolute, join}
-use Rattle.sugar_path.specs.Route.{normal, from_folder}
+use Rattle.sugar_path.specs.Route.{Route, Rooted, Relative, route_up, route_down, route_of, normal, from_folder}
 use Rattle.sugar_path.specs.Relative.{relative_from}
+use Rattle.sugar_path.specs.Parent.{parent_of}
+use Rattle.sugar_path.specs.Component.{Piece, Root, Here, Above, Name, components_of}
 
 -- a normal form is its own normal form
 abbrev pub NormalTwice : Type 0
@@ -17,3 +19,26 @@ RelativeLeadsThere =
 abbrev pub RelativeEmptyAtOnePlace : Type 0
 RelativeEmptyAtOnePlace =
     (cwd base target : List ℕ) → is_absolute cwd ≡ true → (relative_from cwd base target ≡ []) ↔ (from_folder cwd base ≡ from_folder cwd target)
+
+-- a route read on by one component
+abbrev pub by_piece : Route → Piece → Route
+by_piece r Root = Rooted []
+by_piece r Here = r
+by_piece r Above = route_up r
+by_piece r (Name n) = route_down r n
+
+abbrev pub by_pieces : Route → List Piece → Route
+by_pieces r [] = r
+by_pieces r (p ∷ rest) = by_pieces (by_piece r p) rest
+
+-- the components of a path lead where the path leads
+abbrev pub ComponentsLeadThere : Type 0
+ComponentsLeadThere = (t : List ℕ) → by_pieces (Relative 0 []) (components_of t) ≡ route_of t
+
+-- a parent has the components of its path but the last one
+abbrev pub ParentLeavesLast : Type 0
+ParentLeavesLast = (t u : List ℕ) → parent_of t ≡ Some u → (last : Piece) × (components_of t ≡ components_of u ++ last ∷ [])
+
+-- a path has no parent exactly where it has no component but the root
+abbrev pub RootHasNoParent : Type 0
+RootHasNoParent = (t : List ℕ) → (parent_of t ≡ None) ↔ ((components_of t ≡ []) ⊎ (components_of t ≡ Root ∷ []))

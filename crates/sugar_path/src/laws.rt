@@ -1,5 +1,5 @@
 // Laws of the path operations, each proved for all paths. The calls have them by their contracts.
-ghost use Rattle.sugar_path.specs.Laws.{NormalTwice, RelativeLeadsThere, RelativeEmptyAtOnePlace};
+ghost use Rattle.sugar_path.specs.Laws.{NormalTwice, RelativeLeadsThere, RelativeEmptyAtOnePlace, ComponentsLeadThere, ParentLeavesLast, RootHasNoParent};
 
 /// A normal form is its own normal form. So `normalize` lends what it answered, where that is UTF-8.
 pub fn normal_twice()
@@ -14,4 +14,19 @@ pub fn relative_leads_there()
 /// Read from an absolute folder, the relative path between two paths is empty exactly where both lead to one place.
 pub fn relative_empty_at_one_place()
     ensures { RelativeEmptyAtOnePlace }
+{}
+
+/// The components of a path, read one after the other, lead where the path leads.
+pub fn components_lead_there()
+    ensures { ComponentsLeadThere }
+{}
+
+/// A parent has the components of its path but the last one.
+pub fn parent_leaves_last()
+    ensures { ParentLeavesLast }
+{}
+
+/// A path has no parent exactly where it has no component but the root.
+pub fn root_has_no_parent()
+    ensures { RootHasNoParent }
 {}
