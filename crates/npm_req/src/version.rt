@@ -1,0 +1,76 @@
+// The versions that npm reads.
+ghost use Rattle.std.specs.Prelude.{◌≡◌, IfOk, Some, None};
+ghost use Rattle.semver.specs.Identifiers.{parts_of};
+ghost use Rattle.npm_req.specs.Number.{is_number};
+ghost use Rattle.npm_req.specs.Version.{are_numbers, semver_of, version_of, without_sign};
+
+use crate::error::NpmVersionParseError;
+use crate::front::{after_char, trimmed};
+use std::alloc::{AllocError, Global};
+use std::marker::Model;
+
+// The largest integer that JavaScript counts exactly.
+pub(crate) const LARGEST_NUMBER: u64 = 9007199254740991;
+
+/// A version as npm reads it, seen as its three numbers, its pre-release and its build.
+#[derive(Drop)]
+pub struct Version {
+    semver: semver::Version,
+}
+
+impl Model for Version {
+    ghost use Rattle.semver.specs.Parse.{Parts};
+
+    ghost Value = { Parts };
+
+    ghost use Rattle.semver.specs.Identifiers.{parts_of};
+
+    ghost view = { λ v. parts_of v.semver };
+}
+
+impl Version {
+    /// Reads a version of npm: a text of Semantic Versioning 2.0.0 whose numbers are at most 9007199254740991.
+    /// Spaces and tabs around it don't count, nor does one `v` or `=` in front.
+    pub fn parse_npm(alloc: Global, text: &str) -> Result<Version, NpmVersionParseError>
+        ensures read { IfOk result (λ version. version_of text.now ≡ Some version) }
+        ensures refused { result ≡ Err NpmVersionParseError.NotAVersion → version_of text.now ≡ None }
+    {
+        match semver_of(alloc, without_sign(trimmed(text)))? {
+            Some(version) => Ok(version),
+            None => Err(NpmVersionParseError::NotAVersion),
+        }
+    }
+}
+
+// What follows one `v` or `=`, if the text begins with it.
+fn without_sign(text: &str) -> &str
+    ensures { result.now ≡ without_sign text.now }
+{
+    match after_char(text, 'v') {
+        Some(rest) => rest,
+        None => after_char(text, '=').unwrap_or(text),
+    }
+}
+
+/// The version that a text of Semantic Versioning writes, if its numbers aren't too large.
+pub(crate) fn semver_of(alloc: Global, text: &str) -> Result<Option<Version>, AllocError>
+    ensures { IfOk result (λ found. found ≡ semver_of text.now) }
+{
+    match semver::Version::parse(alloc, text) {
+        Ok(semver) => Ok(are_numbers(&semver).then_some(Version { semver })),
+        Err(e) if e == semver::Error::from(AllocError) => Err(AllocError),
+        Err(_) => Ok(None),
+    }
+}
+
+fn are_numbers(version: &semver::Version) -> bool
+    ensures { result ≡ are_numbers (parts_of version.now) }
+{
+    is_number(version.major) && is_number(version.minor) && is_number(version.patch)
+}
+
+pub(crate) fn is_number(n: u64) -> bool
+    ensures { result ≡ is_number n }
+{
+    n <= LARGEST_NUMBER
+}
