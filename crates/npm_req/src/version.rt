@@ -1,12 +1,17 @@
 // The versions that npm reads.
-ghost use Rattle.std.specs.Prelude.{◌≡◌, IfOk, Some, None};
+ghost use Rattle.std.specs.Prelude.{◌≡◌, [], ◌∷◌, IfOk, Some, None};
+ghost use Rattle.npm_req.specs.Comparators.{first_of, release};
+ghost use Rattle.npm_req.specs.Meets.{is_pre_release, precedence};
+ghost use Rattle.npm_req.specs.Partial.{without_build};
 ghost use Rattle.semver.specs.Identifiers.{parts_of};
 ghost use Rattle.npm_req.specs.Number.{is_number};
 ghost use Rattle.npm_req.specs.Version.{are_numbers, semver_of, version_of, without_sign};
 
 use crate::error::NpmVersionParseError;
 use crate::front::{after_char, trimmed};
+use semver::{BuildMetadata, Prerelease};
 use std::alloc::{AllocError, Global};
+use std::cmp::Ordering;
 use std::marker::Model;
 
 // The largest integer that JavaScript counts exactly.
@@ -38,6 +43,92 @@ impl Version {
         match semver_of(alloc, without_sign(trimmed(text)))? {
             Some(version) => Ok(version),
             None => Err(NpmVersionParseError::NotAVersion),
+        }
+    }
+
+    pub fn major(&self) -> u64
+        ensures { result ≡ self.now.0 }
+    {
+        self.semver.major
+    }
+
+    pub fn minor(&self) -> u64
+        ensures { result ≡ self.now.1 }
+    {
+        self.semver.minor
+    }
+
+    pub fn patch(&self) -> u64
+        ensures { result ≡ self.now.2 }
+    {
+        self.semver.patch
+    }
+
+    /// Whether a pre-release follows the numbers, as in `1.0.0-alpha`.
+    pub fn is_pre_release(&self) -> bool
+        ensures { result ≡ is_pre_release self.now }
+    {
+        !self.semver.pre.is_empty()
+    }
+
+    /// The order of Semantic Versioning, in which builds don't count.
+    pub fn cmp_precedence(&self, other: &Version) -> Ordering
+        ensures { result ≡ precedence self.now other.now }
+    {
+        self.semver.cmp_precedence(&other.semver)
+    }
+
+    // The version `major.minor.patch`.
+    pub(crate) fn release(major: u64, minor: u64, patch: u64) -> Version
+        ensures { result ≡ release major minor patch }
+    {
+        Version {
+            semver: semver::Version::new(major, minor, patch),
+        }
+    }
+
+    // The version `major.minor.patch-0`, which comes before all others of these numbers.
+    pub(crate) fn first_of(
+        alloc: Global,
+        major: u64,
+        minor: u64,
+        patch: u64,
+    ) -> Result<Version, AllocError>
+        ensures { IfOk result (λ made. made ≡ first_of major minor patch) }
+    {
+        let Ok(pre) = Prerelease::new(alloc, "0") else {
+            return Err(AllocError);
+        };
+        Ok(Version {
+            semver: semver::Version {
+                major,
+                minor,
+                patch,
+                pre,
+                build: BuildMetadata::empty(),
+            },
+        })
+    }
+
+    pub(crate) fn without_build(self) -> Version
+        ensures { result ≡ without_build self }
+    {
+        let Version { semver } = self;
+        let semver::Version {
+            major,
+            minor,
+            patch,
+            pre,
+            build: _,
+        } = semver;
+        Version {
+            semver: semver::Version {
+                major,
+                minor,
+                patch,
+                pre,
+                build: BuildMetadata::empty(),
+            },
         }
     }
 }
