@@ -1,1 +1,4 @@
+pub mod Components
 pub mod Ends
+pub mod Ranges
+pub mod Words

@@ -4,3 +4,7 @@ pub mod Version
 pub mod Partial
 pub mod Comparators
 pub mod Meets
+pub mod Word
+pub mod Part
+pub mod Range
+pub mod Requirement

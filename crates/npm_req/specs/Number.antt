@@ -1,5 +1,5 @@
 -- The numbers of npm's versions: `0`, or digits without a leading zero, at most the largest integer that JavaScript counts exactly.
-use Rattle.std.specs.Prelude.{ℕ, ◌+◌, ◌-◌, ◌*◌, Bool, ◌&&◌, not, nat_lt, nat_le, if◌then◌else◌, List, [], ◌∷◌, length, Option, Some, None}
+use Rattle.std.specs.Prelude.{ℕ, ◌+◌, ◌-◌, ◌*◌, Bool, ◌&&◌, nat_le, if◌then◌else◌, List, [], ◌∷◌, Option, Some, None}
 use Rattle.semver.specs.Order.{is_numeric}
 use Rattle.semver.specs.Grammar.{has_leading_zero}
 
@@ -18,9 +18,11 @@ value_behind n (d ∷ ds) = value_behind (n * 10 + (d - 48)) ds
 abbrev pub value : List ℕ → ℕ
 value ds = value_behind 0 ds
 
-abbrev pub is_numeral : List ℕ → Bool
-is_numeral ds = nat_lt 0 (length ds) && is_numeric ds && not (has_leading_zero ds)
+-- digits that stand for a number that isn't too large
+abbrev pub counted : List ℕ → Option ℕ
+counted ds = if is_numeric ds && is_number (value ds) then Some (value ds) else None
 
 -- the number that a text writes
 abbrev pub number : List ℕ → Option ℕ
-number t = if is_numeral t && is_number (value t) then Some (value t) else None
+number [] = None
+number (d ∷ ds) = if has_leading_zero (d ∷ ds) then None else counted (d ∷ ds)

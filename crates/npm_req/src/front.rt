@@ -1,17 +1,19 @@
 // What stands at the ends of a text.
-ghost use Rattle.std.specs.Prelude.{◌≡◌, ◌<◌, MatchOption, length, option_map};
+ghost use Rattle.std.specs.Prelude.{◌≡◌, ◌<◌, ◌≤◌, IfSome, MatchOption, length, option_map};
 ghost use Rattle.npm_req.specs.Front.{after_byte, after_all, before_all, is_space, is_blank, trimmed};
 
 // What follows an ASCII character that the text begins with.
 pub(crate) fn after_char(text: &str, c: char) -> Option<&str>
     requires { c < 128 }
-    ensures { option_map (λ t. t.now) result ≡ after_byte c text.now }
+    ensures value { option_map (λ t. t.now) result ≡ after_byte c text.now }
+    ensures shorter { IfSome result (λ rest. length rest.now < length text.now) }
 {
     text.strip_prefix(c)
 }
 
 pub(crate) fn after_spaces(text: &str) -> &str
-    ensures { result.now ≡ after_all is_space text.now }
+    ensures value { result.now ≡ after_all is_space text.now }
+    ensures shorter { length result.now ≤ length text.now }
 {
     let mut rest = text;
     while let Some(behind) = after_char(rest, ' ') {
@@ -21,7 +23,8 @@ pub(crate) fn after_spaces(text: &str) -> &str
 }
 
 pub(crate) fn after_blanks(text: &str) -> &str
-    ensures { result.now ≡ after_all is_blank text.now }
+    ensures value { result.now ≡ after_all is_blank text.now }
+    ensures shorter { length result.now ≤ length text.now }
 {
     let mut rest = text;
     while let Some(behind) = after_blank(rest) {
@@ -41,7 +44,7 @@ fn after_blank(text: &str) -> Option<&str>
     }
 }
 
-fn before_blanks(text: &str) -> &str
+pub(crate) fn before_blanks(text: &str) -> &str
     ensures { result.now ≡ before_all is_blank text.now }
 {
     let mut rest = text;

@@ -5,8 +5,13 @@ mod comparator;
 mod error;
 mod front;
 mod meets;
+mod part;
 mod partial;
+mod range;
+mod requirement;
 mod version;
+mod word;
 
-pub use error::NpmVersionParseError;
+pub use error::{NpmVersionParseError, NpmVersionReqParseError};
+pub use requirement::VersionReq;
 pub use version::Version;
