@@ -8,3 +8,6 @@ pub mod Word
 pub mod Part
 pub mod Range
 pub mod Requirement
+pub mod Same
+pub mod Package
+pub mod PackageRefusal

@@ -39,6 +39,30 @@ pub(crate) enum Comparator {
     Bound(Relation, Version),
 }
 
+impl PartialEq for Comparator {
+    ghost use Rattle.npm_req.specs.Same.{same_comparator, same_comparator-equivalence};
+    ghost use Rattle.std.specs.Cmp.{partial_equiv_from_equiv};
+
+    ghost eq = { same_comparator };
+
+    ghost laws = { partial_equiv_from_equiv same_comparator-equivalence };
+
+    fn eq(&self, other: &Self) -> bool {
+        match (self, other) {
+            (Comparator::Never, Comparator::Never) => true,
+            (Comparator::Bound(relation, bound), Comparator::Bound(other_relation, other_bound)) =>
+                { relation == other_relation && bound == other_bound }
+            _ => false,
+        }
+    }
+}
+
+impl Eq for Comparator {
+    ghost use Rattle.npm_req.specs.Same.{same_comparator-equivalence};
+
+    ghost laws = { same_comparator-equivalence };
+}
+
 pub(crate) fn comparators(
     alloc: Global,
     operator: Operator,

@@ -43,6 +43,41 @@ impl From<AllocError> for NpmVersionReqParseError {
     }
 }
 
+/// Why a text names no package with a requirement.
+#[derive(Clone, Copy, Debug, PartialEq, Eq, Error)]
+pub enum PackageReqParseError {
+    #[error("the name is empty")]
+    EmptyName,
+    /// The requirement is refused, at this place of its own text.
+    #[error("Invalid npm version requirement. Unexpected character.")]
+    Req { place: usize },
+    #[error("out of memory")]
+    NoMemory,
+}
+
+impl From<AllocError> for PackageReqParseError {
+    ghost use Rattle.npm_req.specs.declared.error.PackageReqParseError.TheVariants.{NoMemory};
+
+    ghost from_gives = { λ _ e. e ≡ NoMemory };
+
+    fn from(_: AllocError) -> Self {
+        PackageReqParseError::NoMemory
+    }
+}
+
+impl From<NpmVersionReqParseError> for PackageReqParseError {
+    ghost use Rattle.npm_req.specs.PackageRefusal.{in_package};
+
+    ghost from_gives = { λ e raised. raised ≡ in_package e };
+
+    fn from(e: NpmVersionReqParseError) -> Self {
+        match e {
+            NpmVersionReqParseError::Unexpected { place } => PackageReqParseError::Req { place },
+            NpmVersionReqParseError::NoMemory => PackageReqParseError::NoMemory,
+        }
+    }
+}
+
 // Why the front of a text isn't read.
 #[derive(Drop)]
 pub(crate) enum Refusal {

@@ -5,6 +5,7 @@ mod comparator;
 mod error;
 mod front;
 mod meets;
+mod package_req;
 mod part;
 mod partial;
 mod range;
@@ -12,6 +13,7 @@ mod requirement;
 mod version;
 mod word;
 
-pub use error::{NpmVersionParseError, NpmVersionReqParseError};
+pub use error::{NpmVersionParseError, NpmVersionReqParseError, PackageReqParseError};
+pub use package_req::PackageReq;
 pub use requirement::VersionReq;
 pub use version::Version;

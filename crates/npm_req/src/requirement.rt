@@ -38,6 +38,30 @@ impl Model for VersionReq {
     ghost view = { λ req. record { text = req.text; meaning = req.meaning } };
 }
 
+impl PartialEq for VersionReq {
+    ghost use Rattle.npm_req.specs.Same.{same_requirement, same_requirement-equivalence};
+    ghost use Rattle.std.specs.Cmp.{partial_equiv_from_equiv};
+
+    ghost eq = { same_requirement };
+
+    ghost laws = { partial_equiv_from_equiv same_requirement-equivalence };
+
+    /// Two requirements are equal where their comparators, alternative by alternative, or their tags are equal, however they are written.
+    fn eq(&self, other: &Self) -> bool {
+        match (&self.meaning, &other.meaning) {
+            (Meaning::Range(a), Meaning::Range(b)) => a == b,
+            (Meaning::Tag(a), Meaning::Tag(b)) => a == b,
+            _ => false,
+        }
+    }
+}
+
+impl Eq for VersionReq {
+    ghost use Rattle.npm_req.specs.Same.{same_requirement-equivalence};
+
+    ghost laws = { same_requirement-equivalence };
+}
+
 impl VersionReq {
     /// Reads a range or a tag of npm. A text that is both is a range.
     pub fn parse_from_npm(alloc: Global, text: &str) -> Result<VersionReq, NpmVersionReqParseError>

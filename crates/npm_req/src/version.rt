@@ -33,6 +33,25 @@ impl Model for Version {
     ghost view = { λ v. parts_of v.semver };
 }
 
+impl PartialEq for Version {
+    ghost use Rattle.npm_req.specs.Same.{same_version, same_version-equivalence};
+    ghost use Rattle.std.specs.Cmp.{partial_equiv_from_equiv};
+
+    ghost eq = { same_version };
+
+    ghost laws = { partial_equiv_from_equiv same_version-equivalence };
+
+    fn eq(&self, other: &Self) -> bool {
+        self.semver == other.semver
+    }
+}
+
+impl Eq for Version {
+    ghost use Rattle.npm_req.specs.Same.{same_version-equivalence};
+
+    ghost laws = { same_version-equivalence };
+}
+
 impl Version {
     /// Reads a version of npm: a text of Semantic Versioning 2.0.0 whose numbers are at most 9007199254740991.
     /// Spaces and tabs around it don't count, nor does one `v` or `=` in front.
