@@ -11,3 +11,4 @@ pub mod Requirement
 pub mod Same
 pub mod Package
 pub mod PackageRefusal
+pub mod Message

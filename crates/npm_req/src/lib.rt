@@ -5,6 +5,7 @@ mod comparator;
 mod error;
 mod front;
 mod meets;
+mod message;
 mod package_req;
 mod part;
 mod partial;
@@ -17,3 +18,8 @@ pub use error::{NpmVersionParseError, NpmVersionReqParseError, PackageReqParseEr
 pub use package_req::PackageReq;
 pub use requirement::VersionReq;
 pub use version::Version;
+
+#[cfg(test)]
+mod tests;
+#[cfg(test)]
+mod vectors;

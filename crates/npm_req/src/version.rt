@@ -12,6 +12,7 @@ use crate::front::{after_char, trimmed};
 use semver::{BuildMetadata, Prerelease};
 use std::alloc::{AllocError, Global};
 use std::cmp::Ordering;
+use std::fmt;
 use std::marker::Model;
 
 // The largest integer that JavaScript counts exactly.
@@ -50,6 +51,17 @@ impl Eq for Version {
     ghost use Rattle.npm_req.specs.Same.{same_version-equivalence};
 
     ghost laws = { same_version-equivalence };
+}
+
+impl fmt::Display for Version {
+    ghost use Rattle.std.specs.Prelude.{Some};
+    ghost use Rattle.semver.specs.Identifiers.{parts_text};
+
+    ghost output = { λ version. Some (parts_text version) };
+
+    fn fmt<W: fmt::Write>(&self, f: &mut fmt::Formatter<W>) -> fmt::Result {
+        fmt::Display::fmt(&self.semver, f)
+    }
 }
 
 impl Version {
