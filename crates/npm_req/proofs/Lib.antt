@@ -1,0 +1,5 @@
+pub mod Components
+pub mod Ends
+pub mod Packages
+pub mod Ranges
+pub mod Words

@@ -1,0 +1,14 @@
+pub mod Front
+pub mod Number
+pub mod Version
+pub mod Partial
+pub mod Comparators
+pub mod Meets
+pub mod Word
+pub mod Part
+pub mod Range
+pub mod Requirement
+pub mod Same
+pub mod Package
+pub mod PackageRefusal
+pub mod Message
