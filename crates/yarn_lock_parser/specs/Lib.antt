@@ -1,0 +1,5 @@
+pub mod ByteSet
+pub mod Cut
+pub mod Front
+pub mod Header
+pub mod Metadata
