@@ -3,7 +3,7 @@ use Rattle.std.proofs.Common.{◌≡◌, ◌≢◌, ◌==◌, ◌⊎◌, ◌<◌
 use Rattle.std.specs.Prelude.{option_map, unwrap_or, not}
 use Rattle.std.specs.Option.{option_or}
 use Rattle.std.specs.List.{prefix_len}
-use Rattle.std.proofs.lemmas.Bool.Decides.{eqb_tells}
+use Rattle.std.proofs.Math.Seq.{take-length}
 use Rattle.yarn_lock_parser.specs.declared.byte_set.ByteSet.{ByteSet}
 use Rattle.yarn_lock_parser.specs.declared.byte_set.ByteSet.TheVariants.{Blank, NotLineFeed}
 use Rattle.yarn_lock_parser.specs.ByteSet.{has}
@@ -22,6 +22,10 @@ run-cons set c cs = by_test (has set c)
     by_test : (b : Bool) → parts (take (cond b (1 + prefix_len (has set) cs) 0) (c ∷ cs)) (drop (cond b (1 + prefix_len (has set) cs) 0) (c ∷ cs)) ≡ cond b (parts (c ∷ take (prefix_len (has set) cs) cs) (drop (prefix_len (has set) cs) cs)) (parts [] (c ∷ cs))
     by_test true = let one : 1 + prefix_len (has set) cs ≡ suc (prefix_len (has set) cs) = omega arith in rw one refl
     by_test false = refl
+
+pub run-nil : (set : ByteSet) → (run set []).1 ≡ []
+unfolding run
+run-nil set = refl
 
 line_at-nil : line_at [] ≡ None
 unfolding line_at run after
@@ -71,3 +75,35 @@ first_empty-later t x e found = rw (e, after_later-line t, found) refl
 pub after_empty-later : (t r : List ℕ) → after_empty_line t ≡ Some r → IsLater t r
 unfolding after_empty_line
 after_empty-later t r e = then_later (run-rest Blank t) (after_line_end-later _ r e)
+
+-- ---- the text of an entry
+
+after_later-later : (t r : List ℕ) → after_later_empty_line t ≡ Some r → IsLater t r
+unfolding after_later_empty_line
+after_later-later [] r e = cc
+after_later-later (c ∷ cs) r e = by_test (c == 10) e (after_later-later cs r)
+  where
+    one : IsLater (c ∷ cs) cs
+    one = record { rest_is = record { prior = c ∷ []; is = refl }; shorter = omega (arith) }
+
+    by_test : (b : Bool) → cond b (option_or (after_empty_line cs) (after_later_empty_line cs)) (after_later_empty_line cs) ≡ Some r → (after_later_empty_line cs ≡ Some r → IsLater cs r) → IsLater (c ∷ cs) r
+    by_test true e rest = later one (either_form _ _ r (IsRest cs r) e (λ found. (after_empty-later cs r found).rest_is) (λ found. (rest found).rest_is))
+    by_test false e rest = later one (rest e).rest_is
+
+pub first_empty-rest : (t r : List ℕ) → after_first_empty_line t ≡ Some r → IsLater t r
+unfolding after_first_empty_line
+first_empty-rest t r e = either_form _ _ r (IsLater t r) e (after_empty-later t r) (after_later-later t r)
+
+front-nil : (t : List ℕ) → front t [] ≡ t
+unfolding front
+front-nil t = let same : length t - 0 ≡ length t = omega arith in rw same (take-length t)
+
+pub entry_text-whole : (t : List ℕ) → (length t == 0) ≡ false → after_first_empty_line t ≡ None → entry_text t ≡ Some (t, [])
+unfolding entry_text
+entry_text-whole [] some e = cc
+entry_text-whole (c ∷ cs) some e = rw (e, front-nil (c ∷ cs)) refl
+
+pub entry_text-cut : (t r : List ℕ) → (length t == 0) ≡ false → after_first_empty_line t ≡ Some r → entry_text t ≡ Some (front t r, r)
+unfolding entry_text
+entry_text-cut [] r some e = cc
+entry_text-cut (c ∷ cs) r some e = rw e refl

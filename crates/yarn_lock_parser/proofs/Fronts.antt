@@ -133,7 +133,7 @@ cuts set t utf8 = by_set (has set 255) refl (leb_tells (length t) (prefix_len (h
 
 -- ---- a word at the end
 
-before-append : (w t : List ℕ) → before w (t ++ w) ≡ Some t
+pub before-append : (w t : List ℕ) → before w (t ++ w) ≡ Some t
 unfolding before
 before-append w t = rw (reverse-append t w, after-append (reverse w) (reverse t), reverse-reverse t) refl
 

@@ -20,6 +20,11 @@ pub first_and_next : {A B : Type 0} (o : Option A) (next : A → Option B) (y : 
 first_and_next None next y e = cc
 first_and_next (Some x) next y e = (x, refl, e)
 
+-- the same, for a proof that goes on with what the first part gives
+pub step : {A B P : Type 0} (o : Option A) (next : A → Option B) (y : B) → (o >>= next) ≡ Some y → ((x : A) → o ≡ Some x → next x ≡ Some y → P) → P
+step None next y e go = cc
+step (Some x) next y e go = go x refl e
+
 -- one of two forms fits
 pub either_form : {A : Type 0} (o other : Option A) (y : A) (P : Type 0) → option_or o other ≡ Some y → (o ≡ Some y → P) → (other ≡ Some y → P) → P
 either_form None other y P e first second = second e

@@ -1,5 +1,11 @@
 pub mod ByteSet
 pub mod Cut
+pub mod Dependencies
+pub mod Descriptors
+pub mod Fields
 pub mod Front
 pub mod Header
+pub mod Item
+pub mod Items
 pub mod Metadata
+pub mod Metas

@@ -3,6 +3,14 @@
 
 mod byte_set;
 mod cut;
+mod dependencies;
+mod descriptors;
+mod error;
+mod fields;
 mod front;
 mod header;
+mod item;
+mod items;
 mod metadata;
+mod metas;
+mod pair;
