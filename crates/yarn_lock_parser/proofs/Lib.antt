@@ -1,6 +1,7 @@
 pub mod Cuts
 pub mod Every
 pub mod Fronts
+pub mod ItemRests
 pub mod Parted
 pub mod Quotes
 pub mod Rests

@@ -1,13 +1,14 @@
 -- What the items of an entry say, each kind for itself.
-use Rattle.std.specs.Prelude.{ℕ, Bool, true, false, ◌||◌, List, []}
-use Rattle.std.specs.List.{list_any}
+use Rattle.std.specs.Prelude.{ℕ, Bool, true, false, ◌||◌, List, [], Option, option_map}
+use Rattle.std.specs.List.{fold, list_any}
 use Rattle.yarn_lock_parser.specs.declared.dependencies.DependencyKind.TheVariants.{Regular, Optional, Peer}
 use Rattle.yarn_lock_parser.specs.declared.metas.MetaKind.TheVariants as metas
 use Rattle.yarn_lock_parser.specs.declared.metas.Flag.{Flag}
 use Rattle.yarn_lock_parser.specs.declared.metas.Flag.TheVariants.{Absent, Known, Unreadable}
-use Rattle.yarn_lock_parser.specs.Item.{Item, Version, Dependencies, Integrity, Resolved, Metas, Other}
+use Rattle.yarn_lock_parser.specs.Front.{some}
+use Rattle.yarn_lock_parser.specs.Item.{item_at, Item, Version, Dependencies, Integrity, Resolved, Metas, Other}
 
--- what no item says is empty
+-- the fields of an entry; what no item says is empty
 pub record Fields : Type 0 where
   pub version : List ℕ
   pub resolved : List ℕ
@@ -39,3 +40,7 @@ with_item f (Resolved text) = record f { resolved = text }
 with_item f (Metas metas.Dependencies pairs) = record f { dependencies_meta = pairs; is_spoilt = f.is_spoilt || list_any is_unreadable pairs }
 with_item f (Metas metas.PeerDependencies pairs) = record f { peer_dependencies_meta = pairs; is_spoilt = f.is_spoilt || list_any is_unreadable pairs }
 with_item f Other = f
+
+-- what the items of a text say: as many as fit, and one at least; what follows the last is dropped
+unfoldable pub fields_of : List ℕ → Option Fields
+fields_of t = option_map (λ items. fold with_item no_fields items.0) (some item_at t)

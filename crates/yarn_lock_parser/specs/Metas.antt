@@ -3,6 +3,7 @@ use Rattle.std.specs.Prelude.{ℕ, Bool, true, false, cond, List, [], ◌∷◌,
 use Rattle.std.specs.Option.{option_or}
 use Rattle.std.specs.List.{fold}
 use Rattle.yarn_lock_parser.specs.declared.byte_set.ByteSet.TheVariants.{Blank, NotColon}
+use Rattle.yarn_lock_parser.specs.declared.metas.DepMeta.{DepMeta}
 use Rattle.yarn_lock_parser.specs.declared.metas.MetaKind.{MetaKind}
 use Rattle.yarn_lock_parser.specs.declared.metas.MetaKind.TheVariants.{Dependencies, PeerDependencies}
 use Rattle.yarn_lock_parser.specs.declared.metas.Flag.{Flag}
@@ -56,3 +57,11 @@ metas_at t = do
   body ← after_line_end kind.1
   found ← some (meta_at indent.0) body
   Some ((kind.0, found.0), found.1)
+
+abbrev pub known : Flag → Option Bool
+known Absent = None
+known (Known b) = Some b
+known Unreadable = None
+
+abbrev pub as_meta : List ℕ × Flag → List ℕ × DepMeta
+as_meta pair = (pair.0, record { optional = known pair.1 })

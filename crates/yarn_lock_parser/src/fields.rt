@@ -1,10 +1,10 @@
 // What the items of an entry say, each kind for itself.
-ghost use Rattle.std.specs.Prelude.{◌≡◌, IfOk, option_map};
-ghost use Rattle.std.specs.List.{fold};
-ghost use Rattle.yarn_lock_parser.specs.Front.{every, some};
+ghost use Rattle.std.specs.Prelude.{◌≡◌, IfOk};
+ghost use Rattle.std.specs.List.{fold, list_any};
+ghost use Rattle.yarn_lock_parser.specs.Front.{every};
 ghost use Rattle.yarn_lock_parser.specs.Item as specs;
 ghost use Rattle.yarn_lock_parser.specs.Item.{item_at, said};
-ghost use Rattle.yarn_lock_parser.specs.Fields.{no_fields, with_item};
+ghost use Rattle.yarn_lock_parser.specs.Fields.{fields_of, is_unreadable, no_fields, with_item};
 
 use crate::dependencies::DependencyKind;
 use crate::item::{item_at, Item};
@@ -71,7 +71,8 @@ impl<'a> Fields<'a> {
     fn put_metas(&mut self, kind: MetaKind, found: Vec<Meta<'a>>)
         ensures { self.new ≡ with_item self.old (specs.Metas kind found.entry.items) }
     {
-        self.is_spoilt = self.is_spoilt || found.iter().any(|meta| meta.is_unreadable());
+        let is_spoilt = is_any_unreadable(found.as_slice());
+        self.is_spoilt = self.is_spoilt || is_spoilt;
         match kind {
             MetaKind::Dependencies => self.dependencies_meta = found,
             MetaKind::PeerDependencies => self.peer_dependencies_meta = found,
@@ -79,19 +80,24 @@ impl<'a> Fields<'a> {
     }
 }
 
-/// What the items of a text say: as many as fit, and one at least.
-#[tactic(auto, unfolding(crate::specs::Front::some))]
-pub(crate) fn fields_of(alloc: Global, text: &str) -> Result<Option<Fields<'_>>, AllocError>
-    ensures { IfOk result (λ o. o ≡ option_map (λ items. fold with_item no_fields items.0) (some item_at text.now)) }
+// Some meta has a flag that can't be read.
+fn is_any_unreadable(metas: &[Meta<'_>]) -> bool
+    ensures { result ≡ list_any is_unreadable metas.now }
 {
-    match item_at(alloc, text)? {
-        None => Ok(None),
-        Some((first, rest)) => {
-            let mut fields = Fields::new(alloc);
-            fields.put(first);
-            Ok(Some(with_further(alloc, fields, rest)?))
-        }
-    }
+    metas.iter().any(|meta| meta.is_unreadable())
+}
+
+/// What the items of a text say: as many as fit, and one at least.
+pub(crate) fn fields_of(alloc: Global, text: &str) -> Result<Option<Fields<'_>>, AllocError>
+    ensures { IfOk result (λ o. o ≡ fields_of text.now) }
+{
+    let Some((first, rest)) = item_at(alloc, text)? else {
+        return Ok(None);
+    };
+    let mut fields = Fields::new(alloc);
+    fields.put(first);
+    let fields = with_further(alloc, fields, rest)?;
+    Ok(Some(fields))
 }
 
 fn with_further<'a>(alloc: Global, fields: Fields<'a>, text: &'a str) -> Result<Fields<'a>, AllocError>

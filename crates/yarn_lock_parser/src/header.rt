@@ -12,6 +12,7 @@ pub enum Generator {
     Bun,
 }
 
+#[derive(Drop)]
 pub(crate) struct Header {
     pub(crate) generator: Generator,
     pub(crate) is_first_version: bool,

@@ -8,6 +8,7 @@ use crate::cut::after_first_empty_line;
 use crate::front::{after, after_blanks, after_line_end, front, run, some_run};
 use std::marker::Model;
 
+#[derive(Drop)]
 pub(crate) struct Metadata<'a> {
     pub(crate) version: u8,
     pub(crate) cache_key: Option<&'a str>,

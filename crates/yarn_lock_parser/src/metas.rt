@@ -26,6 +26,26 @@ pub(crate) enum Flag {
     Unreadable,
 }
 
+impl Flag {
+    ghost use Rattle.yarn_lock_parser.specs.Metas.{known};
+
+    fn known(self) -> Option<bool>
+        ensures { result ≡ known self }
+    {
+        match self {
+            Flag::Absent | Flag::Unreadable => None,
+            Flag::Known(optional) => Some(optional),
+        }
+    }
+}
+
+/// What an entry says of one of its dependencies.
+#[derive(PartialEq, Eq, Default, Drop)]
+pub struct DepMeta {
+    /// Whether it may be left out, where the entry says so.
+    pub optional: Option<bool>,
+}
+
 /// A meta's name, and what it says.
 #[derive(Drop)]
 pub(crate) struct Meta<'a> {
@@ -169,5 +189,47 @@ fn flag_of(value: &str) -> Flag
         "true" => Flag::Known(true),
         "false" => Flag::Known(false),
         _ => Flag::Unreadable,
+    }
+}
+
+/// What an entry says of its dependencies, in order.
+pub struct Metas<'e, 'a> {
+    metas: &'e [Meta<'a>],
+}
+
+impl<'e, 'a> Model for Metas<'e, 'a> {
+    ghost use Rattle.std.specs.Prelude.{List, ℕ, map};
+    ghost use Rattle.yarn_lock_parser.specs.declared.metas.DepMeta.{DepMeta};
+
+    ghost Value = { List (List ℕ × DepMeta) };
+
+    ghost use Rattle.yarn_lock_parser.specs.Metas.{as_meta};
+
+    ghost view = { λ m. map as_meta m.metas.now };
+}
+
+impl<'e, 'a> Metas<'e, 'a> {
+    ghost use Rattle.std.specs.Prelude.{◌≡◌, length, map, option_map, slice_get};
+    ghost use Rattle.yarn_lock_parser.specs.Metas.{as_meta};
+
+    pub(crate) fn of(metas: &'e [Meta<'a>]) -> Self
+        ensures { result ≡ map as_meta metas.now }
+    {
+        Metas { metas }
+    }
+
+    pub fn len(&self) -> usize
+        ensures { result ≡ length self.now }
+    {
+        self.metas.len()
+    }
+
+    /// The name of the dependency at an index, and what is said of it.
+    pub fn get(&self, index: usize) -> Option<(&'a str, DepMeta)>
+        ensures { option_map (λ x. (x.0.now, x.1)) result ≡ slice_get self.now index }
+    {
+        let meta = self.metas.get(index)?;
+        let optional = meta.flag.known();
+        Some((meta.name, DepMeta { optional }))
     }
 }
