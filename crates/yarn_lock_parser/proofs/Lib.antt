@@ -1,7 +1,9 @@
+pub mod BodyRests
 pub mod Cuts
 pub mod Every
 pub mod Fronts
 pub mod ItemRests
+pub mod Locks
 pub mod Parted
 pub mod Quotes
 pub mod Rests

@@ -143,10 +143,10 @@ some_run-digits t x e = let found = some_run-run Digit t x e in rw (← found.1)
 pub after_compression-later : (t r : List ℕ) → after_compression t ≡ Some r → IsLater t r
 unfolding after_compression
 after_compression-later t r e =
+    let some : 0 < length (codes "c") = omega arith in
     let digits = first_and_next _ _ _ e in
     let level = first_and_next _ _ _ digits.2 in
     let is : level.0.1 ≡ r = cc in
-    let some : 0 < length (codes "c") = omega arith in
     rw (← is) (later (after-later (codes "c") t digits.0 some digits.1) (some_run-later Digit digits.0 level.0 level.1).rest_is)
 
 pub key-rest : (key : List ℕ) (digits : List ℕ × List ℕ) → some_run Digit key ≡ Some digits → IsRest key (unwrap_or (after_compression digits.1) digits.1)

@@ -41,17 +41,17 @@ first_name (d ∷ ds) = d.0
 
 abbrev pub named : List ℕ → List (List ℕ × List ℕ) → Fields → Entry
 named name found f = record {
-    name = name;
-    version = f.version;
-    resolved = f.resolved;
-    integrity = f.integrity;
-    dependencies = f.dependencies;
-    optional_dependencies = f.optional_dependencies;
-    peer_dependencies = f.peer_dependencies;
-    dependencies_meta = map as_meta f.dependencies_meta;
-    peer_dependencies_meta = map as_meta f.peer_dependencies_meta;
-    descriptors = found;
-  }
+  name = name;
+  version = f.version;
+  resolved = f.resolved;
+  integrity = f.integrity;
+  dependencies = f.dependencies;
+  optional_dependencies = f.optional_dependencies;
+  peer_dependencies = f.peer_dependencies;
+  dependencies_meta = map as_meta f.dependencies_meta;
+  peer_dependencies_meta = map as_meta f.peer_dependencies_meta;
+  descriptors = found;
+}
 
 -- an entry is named by its first descriptor
 abbrev pub entry_with : List (List ℕ × List ℕ) → Fields → Entry

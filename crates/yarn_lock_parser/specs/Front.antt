@@ -72,9 +72,9 @@ front t rest = take (length t - length rest) t
 abbrev pub up_to : {A : Type 0} → (List ℕ → Option (A × List ℕ)) → ℕ → List ℕ → List A × List ℕ
 up_to part zero t = ([], t)
 up_to part (suc n) t = elim (part t) [
-    None ↦ ([], t)
+  | None ↦ ([], t)
   | Some first ↦ (first.0 ∷ (up_to part n first.1).0, (up_to part n first.1).1)
-  ]
+]
 
 -- as many parts as fit, one after the other: each takes a byte or more, so there are no more of them than bytes
 unfoldable pub every : {A : Type 0} → (List ℕ → Option (A × List ℕ)) → List ℕ → List A × List ℕ

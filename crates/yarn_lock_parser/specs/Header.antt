@@ -18,7 +18,10 @@ unfoldable pub header_at : List ℕ → Option (Header × List ℕ)
 header_at t = do
   first ← line_at t
   second ← line_at first.1
-  Some (record {
-    generator = option_map_or (λ _. Bun) (after_bun_line second.1) Yarn;
-    is_first_version = is_some (after (codes "# yarn lockfile v1") second.0);
-  }, (run WhiteSpace (unwrap_or (after_bun_line second.1) second.1)).1)
+  Some (
+    record {
+      generator = option_map_or (λ _. Bun) (after_bun_line second.1) Yarn;
+      is_first_version = is_some (after (codes "# yarn lockfile v1") second.0);
+    },
+    (run WhiteSpace (unwrap_or (after_bun_line second.1) second.1)).1,
+  )

@@ -40,4 +40,3 @@ item_at t =
     (option_or (reads_as Resolved (resolved_at t))
     (option_or (reads_as (λ m. Metas m.0 m.1) (metas_at t))
     (reads_as (λ _. Other) (line_at t))))))
-

@@ -53,7 +53,10 @@ unfoldable pub metadata_at : List ℕ → Option (Metadata × List ℕ)
 metadata_at t = do
   version ← version_line t
   rest ← after_first_empty_line (option_map_or (λ key. key.1) (cache_key version.1) version.1)
-  Some (record {
-    version = version.0;
-    cache_key = option_map (λ key. key.0) (cache_key version.1);
-  }, (run WhiteSpace rest).1)
+  Some (
+    record {
+      version = version.0;
+      cache_key = option_map (λ key. key.0) (cache_key version.1);
+    },
+    (run WhiteSpace rest).1,
+  )

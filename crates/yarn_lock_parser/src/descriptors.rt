@@ -10,7 +10,10 @@ use std::alloc::{AllocError, Global};
 
 /// The descriptors of the first line, and what follows the line.
 #[tactic(auto, unfolding(crate::specs::Descriptors::descriptors_at))]
-pub(crate) fn descriptors_at(alloc: Global, text: &str) -> Result<Option<(Vec<Pair<'_>>, &str)>, AllocError>
+pub(crate) fn descriptors_at(
+    alloc: Global,
+    text: &str,
+) -> Result<Option<(Vec<Pair<'_>>, &str)>, AllocError>
     ensures { IfOk result (λ o. option_map (λ x. (x.0.items, x.1.now)) o ≡ descriptors_at text.now) }
 {
     let Some((line, rest)) = line_at(text) else {
@@ -49,7 +52,11 @@ fn descriptors_on(alloc: Global, list: &str) -> Result<Option<Vec<Pair<'_>>>, Al
 }
 
 // A first descriptor and those that follow it.
-fn with_further<'a>(alloc: Global, first: Pair<'a>, list: &'a str) -> Result<Option<Vec<Pair<'a>>>, AllocError>
+fn with_further<'a>(
+    alloc: Global,
+    first: Pair<'a>,
+    list: &'a str,
+) -> Result<Option<Vec<Pair<'a>>>, AllocError>
     ensures { IfOk result (λ o. option_map (λ v. v.items) o ≡ put_before (first.entry ∷ []) (each_parted (every next_descriptor list.now).0)) }
 {
     let mut found = Vec::new(alloc);

@@ -5,8 +5,9 @@ ghost use Rattle.yarn_lock_parser.specs.Entry.{ends_in_blank, entry_of, entry_wi
 use crate::byte_set::ByteSet;
 use crate::descriptors::descriptors_at;
 use crate::error::LockCause;
-use crate::fields::{fields_of, Fields};
-use crate::pair::Pair;
+use crate::fields::{Fields, fields_of};
+use crate::metas::Metas;
+use crate::pair::{Pair, Pairs};
 use std::alloc::{AllocError, Global};
 use std::marker::Model;
 
@@ -27,6 +28,72 @@ impl<'a> Model for Entry<'a> {
 }
 
 impl<'a> Entry<'a> {
+    /// The package's name, as the first descriptor has it.
+    pub fn name(&self) -> &'a str
+        ensures { result.now ≡ self.now.name }
+    {
+        self.name
+    }
+
+    pub fn version(&self) -> &'a str
+        ensures { result.now ≡ self.now.version }
+    {
+        self.fields.version
+    }
+
+    /// Where the package comes from: a link in version 1, a locator from version 2 on; empty where the entry doesn't say.
+    pub fn resolved(&self) -> &'a str
+        ensures { result.now ≡ self.now.resolved }
+    {
+        self.fields.resolved
+    }
+
+    /// What the package's files hash to; empty where the entry doesn't say.
+    pub fn integrity(&self) -> &'a str
+        ensures { result.now ≡ self.now.integrity }
+    {
+        self.fields.integrity
+    }
+
+    pub fn dependencies(&self) -> Pairs<'_, 'a>
+        ensures { result ≡ self.now.dependencies }
+    {
+        Pairs::of(self.fields.dependencies.as_slice())
+    }
+
+    pub fn optional_dependencies(&self) -> Pairs<'_, 'a>
+        ensures { result ≡ self.now.optional_dependencies }
+    {
+        Pairs::of(self.fields.optional_dependencies.as_slice())
+    }
+
+    pub fn peer_dependencies(&self) -> Pairs<'_, 'a>
+        ensures { result ≡ self.now.peer_dependencies }
+    {
+        Pairs::of(self.fields.peer_dependencies.as_slice())
+    }
+
+    /// What the entry says of its dependencies.
+    pub fn dependencies_meta(&self) -> Metas<'_, 'a>
+        ensures { result ≡ self.now.dependencies_meta }
+    {
+        Metas::of(self.fields.dependencies_meta.as_slice())
+    }
+
+    /// What the entry says of its peer dependencies.
+    pub fn peer_dependencies_meta(&self) -> Metas<'_, 'a>
+        ensures { result ≡ self.now.peer_dependencies_meta }
+    {
+        Metas::of(self.fields.peer_dependencies_meta.as_slice())
+    }
+
+    /// The names and requirements that the entry answers.
+    pub fn descriptors(&self) -> Pairs<'_, 'a>
+        ensures { result ≡ self.now.descriptors }
+    {
+        Pairs::of(self.descriptors.as_slice())
+    }
+
     fn new(descriptors: Vec<Pair<'a>>, fields: Fields<'a>) -> Self
         ensures { result ≡ entry_with descriptors.entry.items fields.entry }
     {
@@ -44,7 +111,10 @@ impl<'a> Entry<'a> {
 
 /// The entry that a text is, or the first cause against it.
 #[tactic(auto, unfolding(crate::specs::Entry::entry_of))]
-pub(crate) fn entry_of(alloc: Global, text: &str) -> Result<Result<Entry<'_>, LockCause>, AllocError>
+pub(crate) fn entry_of(
+    alloc: Global,
+    text: &str,
+) -> Result<Result<Entry<'_>, LockCause>, AllocError>
     ensures { IfOk result (λ read. read ≡ entry_of text.now) }
 {
     if ends_in_blank(text) {

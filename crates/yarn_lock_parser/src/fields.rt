@@ -7,7 +7,7 @@ ghost use Rattle.yarn_lock_parser.specs.Item.{item_at, said};
 ghost use Rattle.yarn_lock_parser.specs.Fields.{fields_of, is_unreadable, no_fields, with_item};
 
 use crate::dependencies::DependencyKind;
-use crate::item::{item_at, Item};
+use crate::item::{Item, item_at};
 use crate::metas::{Meta, MetaKind};
 use crate::pair::Pair;
 use std::alloc::{AllocError, Global};
@@ -61,7 +61,8 @@ impl<'a> Fields<'a> {
             Item::Integrity(integrity) => self.integrity = integrity,
             Item::Resolved(resolved) => self.resolved = resolved,
             Item::Dependencies(DependencyKind::Regular, found) => self.dependencies = found,
-            Item::Dependencies(DependencyKind::Optional, found) => self.optional_dependencies = found,
+            Item::Dependencies(DependencyKind::Optional, found) => self.optional_dependencies =
+                found,
             Item::Dependencies(DependencyKind::Peer, found) => self.peer_dependencies = found,
             Item::Metas(kind, found) => self.put_metas(kind, found),
             Item::Other => {}
@@ -100,7 +101,11 @@ pub(crate) fn fields_of(alloc: Global, text: &str) -> Result<Option<Fields<'_>>,
     Ok(Some(fields))
 }
 
-fn with_further<'a>(alloc: Global, fields: Fields<'a>, text: &'a str) -> Result<Fields<'a>, AllocError>
+fn with_further<'a>(
+    alloc: Global,
+    fields: Fields<'a>,
+    text: &'a str,
+) -> Result<Fields<'a>, AllocError>
     ensures { IfOk result (λ f. f ≡ fold with_item fields.entry (every item_at text.now).0) }
 {
     let mut fields = fields;

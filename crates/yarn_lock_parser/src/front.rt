@@ -54,7 +54,11 @@ pub(crate) fn some_run<'a>(set: ByteSet, text: &'a str) -> Option<(&'a str, &'a 
     ensures { option_map (λ x. (x.0.now, x.1.now)) result ≡ some_run set text.now }
 {
     let (front, rest) = run(set, text);
-    if front.is_empty() { None } else { Some((front, rest)) }
+    if front.is_empty() {
+        None
+    } else {
+        Some((front, rest))
+    }
 }
 
 /// What follows one blank or more.

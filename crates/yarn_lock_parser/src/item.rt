@@ -2,10 +2,10 @@
 ghost use Rattle.std.specs.Prelude.{◌≡◌, IfOk, option_map};
 ghost use Rattle.yarn_lock_parser.specs.Item.{item_at, said};
 
-use crate::dependencies::{dependencies_at, DependencyKind};
+use crate::dependencies::{DependencyKind, dependencies_at};
 use crate::front::line_at;
 use crate::items::{integrity_at, resolved_at, version_at};
-use crate::metas::{metas_at, Meta, MetaKind};
+use crate::metas::{Meta, MetaKind, metas_at};
 use crate::pair::Pair;
 use std::alloc::{AllocError, Global};
 

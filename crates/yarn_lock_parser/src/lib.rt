@@ -16,3 +16,10 @@ mod lockfile;
 mod metadata;
 mod metas;
 mod pair;
+
+pub use entry::Entry;
+pub use error::{LockCause, YarnLockError};
+pub use header::Generator;
+pub use lockfile::{Lockfile, parse_str};
+pub use metas::{DepMeta, Metas};
+pub use pair::Pairs;

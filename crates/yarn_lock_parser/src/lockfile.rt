@@ -5,10 +5,10 @@ ghost use Rattle.yarn_lock_parser.specs.Cut.{entry_texts};
 ghost use Rattle.yarn_lock_parser.specs.Lock.{entries_from, Explains, lock_of, metadata_after, place_in};
 
 use crate::cut::entry_text;
-use crate::entry::{entry_of, Entry};
+use crate::entry::{Entry, entry_of};
 use crate::error::{LockCause, YarnLockError};
-use crate::header::{header_at, Generator};
-use crate::metadata::{metadata_at, Metadata};
+use crate::header::{Generator, header_at};
+use crate::metadata::{Metadata, metadata_at};
 use std::alloc::Global;
 use std::marker::Model;
 
@@ -30,9 +30,39 @@ impl<'a> Model for Lockfile<'a> {
     ghost view = { λ l. record { generator = l.generator; version = l.version; cache_key = option_map (λ key. key.now) l.cache_key; entries = l.entries.items } };
 }
 
+impl<'a> Lockfile<'a> {
+    ghost use Rattle.std.specs.Prelude.{◌≡◌, option_map};
+
+    pub fn entries(&self) -> &[Entry<'a>]
+        ensures { result.now ≡ self.now.entries }
+    {
+        self.entries.as_slice()
+    }
+
+    pub fn generator(&self) -> Generator
+        ensures { result ≡ self.now.generator }
+    {
+        self.generator
+    }
+
+    /// The format's version.
+    pub fn version(&self) -> u8
+        ensures { result ≡ self.now.version }
+    {
+        self.version
+    }
+
+    /// The version of the cache that the checksums belong to.
+    pub fn cache_key(&self) -> Option<&'a str>
+        ensures { option_map (λ key. key.now) result ≡ self.now.cache_key }
+    {
+        self.cache_key
+    }
+}
+
 /// Reads a lock file as Yarn or Bun writes it: version 1, or with metadata.
 #[tactic(auto, unfolding(crate::specs::Lock::lock_of))]
-pub(crate) fn lock_of(alloc: Global, content: &str) -> Result<Lockfile<'_>, YarnLockError>
+pub fn parse_str(alloc: Global, content: &str) -> Result<Lockfile<'_>, YarnLockError>
     ensures read { IfOk result (λ lock. lock_of content.now ≡ Ok lock) }
     ensures refused { IfErr result (Explains (lock_of content.now)) }
 {
