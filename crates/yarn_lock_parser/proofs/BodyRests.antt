@@ -1,19 +1,15 @@
 -- What follows header and metadata.
-use Rattle.std.proofs.Common.{◌≡◌, ℕ, Bool, true, false, List, ap, refl, sym, ◌∙◌, Option, Some, None}
+use Rattle.std.proofs.Common.{◌≡◌, ℕ, Bool, true, false, List, ap, refl, Option, Some, None}
 use Rattle.std.specs.Prelude.{unwrap_or, codes}
 use Rattle.std.specs.Option.{option_map_or}
 use Rattle.yarn_lock_parser.specs.declared.byte_set.ByteSet.TheVariants.{WhiteSpace, Digit}
 use Rattle.yarn_lock_parser.specs.declared.header.Header.{Header}
-use Rattle.yarn_lock_parser.specs.Front.{after, after_blanks, after_line_end, run, some_run, line_at, front, IsRest}
-use Rattle.yarn_lock_parser.specs.Cut.{after_first_empty_line}
+use Rattle.yarn_lock_parser.specs.Front.{run, IsRest}
 use Rattle.yarn_lock_parser.specs.Header.{after_bun_line, header_at}
 use Rattle.yarn_lock_parser.specs.Metadata.{Metadata, number_at, version_line, after_compression, cache_key, version_number, metadata_at}
 use Rattle.yarn_lock_parser.specs.Lock.{metadata_after}
-use Rattle.yarn_lock_parser.proofs.Rests.{step, IsLater, itself, behind, unwrapped, after-rest, after_blanks-later, after_line_end-later, run-rest, some_run-later, line_at-later, key-rest}
+use Rattle.yarn_lock_parser.proofs.Rests.{step, inside, itself, behind, unwrapped, after-rest, after_blanks-later, after_line_end-later, run-rest, some_run-later, line_at-later, key-rest}
 use Rattle.yarn_lock_parser.proofs.Cuts.{first_empty-rest}
-
-inside : {A : Type 0} (x y : A) → Some x ≡ Some y → x ≡ y
-inside x y e = cc
 
 after_bun_line-rest : (t r : List ℕ) → after_bun_line t ≡ Some r → IsRest t r
 unfolding after_bun_line
@@ -40,7 +36,7 @@ number_at-rest t x e =
     rw (← is) (some_run-later Digit t digits digits-is).rest_is
     ))
 
-version_line-rest : (t : List ℕ) (x : ℕ × List ℕ) → version_line t ≡ Some x → IsRest t x.1
+pub version_line-rest : (t : List ℕ) (x : ℕ × List ℕ) → version_line t ≡ Some x → IsRest t x.1
 unfolding version_line
 version_line-rest t x e =
     step _ _ _ e (λ first first-is e₁. step _ _ _ e₁ (λ second second-is e₂. step _ _ _ e₂ (λ name name-is e₃.

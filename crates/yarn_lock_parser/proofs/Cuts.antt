@@ -1,6 +1,6 @@
 -- Lines, and the first line of only blanks.
-use Rattle.std.proofs.Common.{◌≡◌, ◌≢◌, ◌==◌, ◌⊎◌, ◌<◌, ◌≤◌, ◌+◌, ◌-◌, ℕ, zero, suc, Bool, true, false, cond, List, [], ◌∷◌, ◌++◌, length, take, drop, refl, sym, ap, ◌∙◌, Option, Some, None, arith, inl, inr, length-append}
-use Rattle.std.specs.Prelude.{option_map, unwrap_or, not}
+use Rattle.std.proofs.Common.{◌≡◌, ◌==◌, ◌+◌, ◌-◌, ℕ, suc, Bool, true, false, cond, List, [], ◌∷◌, length, take, drop, refl, Option, Some, None, arith}
+use Rattle.std.specs.Prelude.{option_map}
 use Rattle.std.specs.Option.{option_or}
 use Rattle.std.specs.List.{prefix_len}
 use Rattle.std.proofs.Math.Seq.{take-length}
@@ -9,8 +9,7 @@ use Rattle.yarn_lock_parser.specs.declared.byte_set.ByteSet.TheVariants.{Blank, 
 use Rattle.yarn_lock_parser.specs.ByteSet.{has}
 use Rattle.yarn_lock_parser.specs.Front.{◌>>=◌, after, run, line_at, front, IsRest}
 use Rattle.yarn_lock_parser.specs.Cut.{after_empty_line, after_later_empty_line, after_first_empty_line, entry_text}
-use Rattle.yarn_lock_parser.proofs.Fronts.{front-append}
-use Rattle.yarn_lock_parser.proofs.Rests.{first_and_next, either_form, IsLater, itself, behind, later, then_later, run-rest, after_line_end-later, line_at-later}
+use Rattle.yarn_lock_parser.proofs.Rests.{either_form, IsLater, later, then_later, run-rest, after_line_end-later}
 
 abbrev parts : List ℕ → List ℕ → List ℕ × List ℕ
 parts x y = (x, y)

@@ -1,5 +1,5 @@
 -- As many parts as fit, one after the other.
-use Rattle.std.proofs.Common.{◌≡◌, ◌≢◌, ◌==◌, ◌⊎◌, ◌<◌, ◌≤◌, ℕ, zero, suc, Bool, true, false, cond, List, [], ◌∷◌, ◌++◌, length, refl, sym, ap, ◌∙◌, Option, Some, None, arith, inl, inr, append_assoc, append-nil}
+use Rattle.std.proofs.Common.{◌≡◌, ◌≢◌, ◌==◌, ◌⊎◌, ◌<◌, ◌≤◌, ℕ, zero, suc, true, false, cond, List, [], ◌∷◌, ◌++◌, length, refl, sym, ap, ◌∙◌, Option, Some, None, arith, inl, inr, append_assoc, append-nil}
 use Rattle.std.proofs.lemmas.Bool.Decides.{eqb_tells}
 use Rattle.yarn_lock_parser.specs.Front.{IsRest, up_to, every, some}
 use Rattle.yarn_lock_parser.proofs.Rests.{IsLater, itself, behind, tested}
@@ -14,11 +14,11 @@ listed xs t = (xs, t)
 abbrev pub with_first : {A : Type 0} → A → List A × List ℕ → List A × List ℕ
 with_first x read = (x ∷ read.0, read.1)
 
-up_to-none : {A : Type 0} (part : List ℕ → Option (A × List ℕ)) (n : ℕ) (t : List ℕ) → part t ≡ None → up_to part n t ≡ listed [] t
+pub up_to-none : {A : Type 0} (part : List ℕ → Option (A × List ℕ)) (n : ℕ) (t : List ℕ) → part t ≡ None → up_to part n t ≡ listed [] t
 up_to-none part zero t e = refl
 up_to-none part (suc n) t e = rw (e, up_to) refl
 
-up_to-some : {A : Type 0} (part : List ℕ → Option (A × List ℕ)) (n : ℕ) (t : List ℕ) (x : A × List ℕ) → part t ≡ Some x → up_to part (suc n) t ≡ with_first x.0 (up_to part n x.1)
+pub up_to-some : {A : Type 0} (part : List ℕ → Option (A × List ℕ)) (n : ℕ) (t : List ℕ) (x : A × List ℕ) → part t ≡ Some x → up_to part (suc n) t ≡ with_first x.0 (up_to part n x.1)
 up_to-some part n t x e = rw (e, up_to) refl
 
 nothing_left : {A : Type 0} (part : List ℕ → Option (A × List ℕ)) → Shortens part → (t : List ℕ) → length t ≤ 0 → (o : Option (A × List ℕ)) → part t ≡ o → part t ≡ None

@@ -1,19 +1,18 @@
 -- Words and runs at a text's front.
-use Rattle.std.proofs.Common.{◌≡◌, ◌≢◌, ◌<◌, ◌≤◌, ◌+◌, ◌-◌, ◌==◌, ◌⊎◌, ℕ, zero, suc, Bool, true, false, cond, List, [], ◌∷◌, ◌++◌, length, take, drop, get_or, refl, sym, ap, ◌∙◌, Option, Some, None, Bor, arith, inl, inr, lit<, add-one, reverse, length-append}
+use Rattle.std.proofs.Common.{◌≡◌, ◌≢◌, ◌<◌, ◌≤◌, ◌-◌, ◌==◌, ◌⊎◌, ℕ, zero, suc, Bool, true, false, List, [], ◌∷◌, ◌++◌, length, take, drop, get_or, refl, sym, ap, ◌∙◌, Option, Some, None, Bor, arith, inl, inr, lit<, add-one, reverse, length-append}
 use Rattle.std.proofs.lemmas.List.{reverse-append, reverse-reverse, take-append-le}
 use Rattle.std.proofs.Math.Seq.{take-length}
-use Rattle.std.specs.Prelude.{option_map, MatchOption, nat_lt, nat_le, not, ◌&&◌, ◌||◌}
+use Rattle.std.specs.Prelude.{option_map, MatchOption, nat_le, ◌&&◌}
 use Rattle.std.specs.List.{prefix_len}
 use Rattle.std.specs.Str.{IsUtf8, IsCharBoundary}
 use Rattle.std.specs.Str.Pattern.{FindsTextPrefix, StripsPrefix, LacksTextAt, FindsTextSuffix, StripsSuffix}
 use Rattle.std.proofs.lemmas.Bool.Decides.{eqb_tells, leb_tells}
-use Rattle.std.proofs.lemmas.Bool.{ltb-false}
 use Rattle.std.proofs.lemmas.Str.{IsCharBoundary-start, IsCharBoundary-end, IsCharBoundary-before_ascii, IsCharBoundary-after_ascii, IsCharBoundary-at_seam}
 use Rattle.std.proofs.lemmas.List.Sums.{prefix_len_passes, prefix_len_stops, prefix_len-le-length}
 use Rattle.yarn_lock_parser.specs.declared.byte_set.ByteSet.{ByteSet}
 use Rattle.yarn_lock_parser.specs.declared.byte_set.ByteSet.TheVariants.{Blank, WhiteSpace, Digit, Version, Quote, NotLineFeed, NotLineEnd, NotQuote, NotColon, NotAt, Descriptor, DependencyName, Unquoted}
 use Rattle.yarn_lock_parser.specs.ByteSet.{has}
-use Rattle.yarn_lock_parser.specs.Front.{after, before, front, run, IsRest}
+use Rattle.yarn_lock_parser.specs.Front.{after, before, front, IsRest}
 
 -- two numbers that differ
 differs : (a b : ℕ) → a ≢ b → (a == b) ≡ false

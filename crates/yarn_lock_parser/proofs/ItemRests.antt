@@ -1,28 +1,27 @@
 -- Each item takes a byte or more.
-use Rattle.std.proofs.Common.{◌≡◌, ◌<◌, ℕ, List, [], ◌∷◌, ◌++◌, length, refl, sym, ap, ◌∙◌, Option, Some, None, arith}
-use Rattle.std.specs.Prelude.{option_map, codes}
-use Rattle.std.specs.Option.{option_or}
+use Rattle.std.proofs.Common.{◌≡◌, ℕ, List, [], ◌∷◌, refl, ap, Option, Some, None}
+use Rattle.std.specs.Prelude.{codes}
 use Rattle.yarn_lock_parser.specs.declared.byte_set.ByteSet.TheVariants.{Blank, Version, Unquoted}
 use Rattle.yarn_lock_parser.specs.declared.dependencies.DependencyKind.{DependencyKind}
 use Rattle.yarn_lock_parser.specs.declared.dependencies.DependencyKind.TheVariants as kinds
 use Rattle.yarn_lock_parser.specs.declared.metas.MetaKind.{MetaKind}
 use Rattle.yarn_lock_parser.specs.declared.metas.MetaKind.TheVariants as meta_kinds
 use Rattle.yarn_lock_parser.specs.declared.metas.Flag.{Flag}
-use Rattle.yarn_lock_parser.specs.Front.{◌>>=◌, after, after_optional, after_blanks, after_line_end, run, some_run, line_at, IsRest, some}
+use Rattle.yarn_lock_parser.specs.Front.{after, after_optional, after_blanks, run, IsRest}
 use Rattle.yarn_lock_parser.specs.Items.{at_key, at_value, version_at, integrity_at, resolved_at}
-use Rattle.yarn_lock_parser.specs.Dependencies.{names_kind, dependency_kind, dependency_at, dependencies_at}
-use Rattle.yarn_lock_parser.specs.Metas.{meta_kind, meta_at, metas_at}
+use Rattle.yarn_lock_parser.specs.Dependencies.{names_kind, dependency_kind, dependencies_at}
+use Rattle.yarn_lock_parser.specs.Metas.{meta_kind, metas_at}
 use Rattle.yarn_lock_parser.specs.Item.{Item, reads_as, item_at}
-use Rattle.yarn_lock_parser.proofs.Rests.{step, mapped, either_form, IsLater, itself, behind, later, then_later, after-rest, after_optional-rest, after_blanks-later, run-rest, some_run-later, after_line_end-later, line_at-later}
+use Rattle.yarn_lock_parser.proofs.Rests.{step, mapped, either_form, IsLater, behind, later, after-rest, after_optional-rest, after_blanks-later, run-rest, some_run-later, after_line_end-later, line_at-later}
 use Rattle.yarn_lock_parser.proofs.Every.{Shortens, some-rest}
 use Rattle.yarn_lock_parser.proofs.Shorter.{dependency_at-later, meta_at-later}
 
-at_key-later : (t r : List ℕ) → at_key t ≡ Some r → IsLater t r
+pub at_key-later : (t r : List ℕ) → at_key t ≡ Some r → IsLater t r
 at_key-later t r e =
     let key = mapped (after_optional (34 ∷ [])) (after_blanks t) r e in
     rw (← key.2) (later (after_blanks-later t key.0 key.1) (after_optional-rest (34 ∷ []) key.0))
 
-at_value-rest : (t r : List ℕ) → at_value t ≡ Some r → IsRest t r
+pub at_value-rest : (t r : List ℕ) → at_value t ≡ Some r → IsRest t r
 at_value-rest t r e = behind (after_optional-rest (34 ∷ []) t) (behind (after_optional-rest (58 ∷ []) _) (after_blanks-later _ r e).rest_is)
 
 pub version_at-later : (t : List ℕ) (x : List ℕ × List ℕ) → version_at t ≡ Some x → IsLater t x.1
@@ -62,7 +61,7 @@ names_kind-rest kind w t x e = by_found (after w t) refl e
     by_found None found e = cc
     by_found (Some r) found e = let is : r ≡ x.1 = cc in rw (← is) (after-rest w t r found)
 
-dependency_kind-rest : (t : List ℕ) (x : DependencyKind × List ℕ) → dependency_kind t ≡ Some x → IsRest t x.1
+pub dependency_kind-rest : (t : List ℕ) (x : DependencyKind × List ℕ) → dependency_kind t ≡ Some x → IsRest t x.1
 unfolding dependency_kind
 dependency_kind-rest t x e =
     either_form _ _ x (IsRest t x.1) e (names_kind-rest kinds.Regular (codes "dependencies:") t x)
@@ -76,7 +75,7 @@ dependencies_at-later t x e =
     rw (← is) (later (some_run-later Blank t indent indent-is) (behind (dependency_kind-rest _ kind kind-is) (behind (after_line_end-later _ body body-is).rest_is (some-rest _ (dependency_at-later indent.0) body found found-is))))
     ))))
 
-meta_kind-rest : (t : List ℕ) (x : MetaKind × List ℕ) → meta_kind t ≡ Some x → IsRest t x.1
+pub meta_kind-rest : (t : List ℕ) (x : MetaKind × List ℕ) → meta_kind t ≡ Some x → IsRest t x.1
 unfolding meta_kind
 meta_kind-rest t x e =
     either_form _ _ x (IsRest t x.1) e (names_kind-rest meta_kinds.Dependencies (codes "dependenciesMeta:") t x) (names_kind-rest meta_kinds.PeerDependencies (codes "peerDependenciesMeta:") t x)

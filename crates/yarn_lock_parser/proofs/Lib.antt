@@ -8,4 +8,7 @@ pub mod Parted
 pub mod Quotes
 pub mod Rests
 pub mod Shorter
+pub mod SliceItems
+pub mod SliceLocks
+pub mod SliceParts
 pub mod Versions

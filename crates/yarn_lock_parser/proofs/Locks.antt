@@ -1,9 +1,9 @@
 -- Entries, one after the other, each at its place.
-use Rattle.std.proofs.Common.{◌≡◌, ◌<◌, ◌≤◌, ◌+◌, ◌-◌, ℕ, List, [], ◌∷◌, ◌++◌, length, take, refl, sym, ap, ◌∙◌, Option, Some, None, Result, Ok, Err, arith, append_assoc, append-nil, length-append}
+use Rattle.std.proofs.Common.{◌≡◌, ◌≤◌, ◌+◌, ◌-◌, ℕ, List, [], ◌∷◌, ◌++◌, length, refl, sym, ap, ◌∙◌, Option, Some, None, Result, Ok, Err, arith, append_assoc, append-nil}
 use Rattle.std.specs.Prelude.{unwrap_or}
 use Rattle.std.proofs.lemmas.List.{length-take}
 use Rattle.yarn_lock_parser.specs.declared.error.LockCause.{LockCause}
-use Rattle.yarn_lock_parser.specs.Front.{IsRest, front, every}
+use Rattle.yarn_lock_parser.specs.Front.{IsRest, front}
 use Rattle.yarn_lock_parser.specs.Cut.{after_first_empty_line, entry_text, entry_texts}
 use Rattle.yarn_lock_parser.specs.Entry.{Entry, entry_of}
 use Rattle.yarn_lock_parser.specs.Lock.{◌>>=◌, Refusal, at_place, entries_from, place_in}

@@ -1,5 +1,5 @@
 -- The quotes at a text's end.
-use Rattle.std.proofs.Common.{◌≡◌, ◌==◌, ◌≢◌, ◌⊎◌, inl, inr, ℕ, Bool, true, false, cond, List, [], ◌∷◌, ◌++◌, length, refl, sym, ap, ◌∙◌, Option, Some, None, reverse, arith, ◌<◌, length-append}
+use Rattle.std.proofs.Common.{◌≡◌, ◌==◌, ◌≢◌, ◌⊎◌, inl, inr, ℕ, Bool, true, false, List, [], ◌∷◌, ◌++◌, length, refl, sym, ap, ◌∙◌, Some, None, reverse, arith, ◌<◌, length-append}
 use Rattle.std.proofs.lemmas.List.{reverse-append, reverse-reverse}
 use Rattle.std.proofs.lemmas.Bool.Decides.{eqb_tells}
 use Rattle.yarn_lock_parser.specs.declared.byte_set.ByteSet.TheVariants.{Quote}

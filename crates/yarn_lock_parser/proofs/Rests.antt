@@ -1,5 +1,5 @@
 -- What follows a part is a rest of the text.
-use Rattle.std.proofs.Common.{◌≡◌, ◌==◌, ◌⊎◌, ◌≢◌, inl, inr, ◌<◌, ◌≤◌, ◌+◌, ◌-◌, ℕ, zero, suc, Bool, true, false, cond, List, [], ◌∷◌, ◌++◌, length, take, drop, refl, sym, ap, ◌∙◌, Option, Some, None, arith, append_assoc, length-append, Bor}
+use Rattle.std.proofs.Common.{◌≡◌, ◌==◌, ◌⊎◌, ◌≢◌, inl, inr, ◌<◌, ◌≤◌, ℕ, Bool, true, false, cond, List, [], ◌∷◌, ◌++◌, length, take, refl, sym, ap, ◌∙◌, Option, Some, None, arith, append_assoc, length-append, Bor}
 use Rattle.std.specs.Prelude.{option_map, unwrap_or, codes}
 use Rattle.std.specs.Option.{option_or}
 use Rattle.std.specs.List.{prefix_len, take_while}
@@ -11,9 +11,9 @@ use Rattle.std.proofs.lemmas.Bool.Decides.{eqb_tells}
 use Rattle.yarn_lock_parser.specs.declared.byte_set.ByteSet.{ByteSet}
 use Rattle.yarn_lock_parser.specs.declared.byte_set.ByteSet.TheVariants.{Blank, Digit, NotLineFeed, NotQuote}
 use Rattle.yarn_lock_parser.specs.ByteSet.{has}
-use Rattle.yarn_lock_parser.specs.Front.{◌>>=◌, after, after_optional, before, before_optional, run, some_run, after_blanks, after_line_end, line_at, quoted_at, front, IsRest, up_to, every, some}
+use Rattle.yarn_lock_parser.specs.Front.{◌>>=◌, after, after_optional, run, some_run, after_blanks, after_line_end, line_at, quoted_at, IsRest, some}
 use Rattle.yarn_lock_parser.specs.Metadata.{after_compression}
-use Rattle.yarn_lock_parser.proofs.Fronts.{after-some, before-some}
+use Rattle.yarn_lock_parser.proofs.Fronts.{after-some}
 
 -- where two parts fit one after the other, the first fits, and then the next
 pub first_and_next : {A B : Type 0} (o : Option A) (next : A → Option B) (y : B) → (o >>= next) ≡ Some y → (x : A) × (o ≡ Some x) × (next x ≡ Some y)
@@ -24,6 +24,9 @@ first_and_next (Some x) next y e = (x, refl, e)
 pub step : {A B P : Type 0} (o : Option A) (next : A → Option B) (y : B) → (o >>= next) ≡ Some y → ((x : A) → o ≡ Some x → next x ≡ Some y → P) → P
 step None next y e go = cc
 step (Some x) next y e go = go x refl e
+
+pub inside : {A : Type 0} (x y : A) → Some x ≡ Some y → x ≡ y
+inside x y e = cc
 
 -- one of two forms fits
 pub either_form : {A : Type 0} (o other : Option A) (y : A) (P : Type 0) → option_or o other ≡ Some y → (o ≡ Some y → P) → (other ≡ Some y → P) → P

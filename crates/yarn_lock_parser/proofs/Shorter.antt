@@ -1,18 +1,17 @@
 -- Each part of an entry takes a byte or more.
-use Rattle.std.proofs.Common.{◌≡◌, ◌<◌, ◌≤◌, ◌==◌, ◌≢◌, ◌⊎◌, inl, inr, ℕ, Bool, true, false, cond, List, [], ◌∷◌, ◌++◌, length, refl, sym, ap, ◌∙◌, Option, Some, None, arith, length-append}
+use Rattle.std.proofs.Common.{◌≡◌, ◌<◌, ◌==◌, ◌≢◌, ◌⊎◌, inl, inr, ℕ, true, false, List, [], ◌∷◌, ◌++◌, length, refl, sym, ap, Option, Some, None, arith, length-append}
 use Rattle.std.specs.Prelude.{unwrap_or, codes}
-use Rattle.std.specs.Option.{option_or}
 use Rattle.std.proofs.lemmas.Bool.Decides.{eqb_tells}
-use Rattle.yarn_lock_parser.specs.declared.byte_set.ByteSet.TheVariants.{Blank, Quote, NotLineEnd, NotColon, NotAt, Descriptor, DependencyName}
+use Rattle.yarn_lock_parser.specs.declared.byte_set.ByteSet.TheVariants.{Blank, NotLineEnd, NotColon, Descriptor, DependencyName}
 use Rattle.yarn_lock_parser.specs.declared.metas.Flag.{Flag}
 use Rattle.yarn_lock_parser.specs.declared.metas.Flag.TheVariants.{Absent}
 use Rattle.std.specs.List.{fold}
-use Rattle.yarn_lock_parser.specs.Front.{◌>>=◌, after, after_optional, run, some_run, after_line_end, line_at, quoted_at, IsRest, every, some}
+use Rattle.yarn_lock_parser.specs.Front.{after_optional, run, after_line_end, IsRest, some}
 use Rattle.yarn_lock_parser.specs.Descriptors.{descriptor_at, next_descriptor}
-use Rattle.yarn_lock_parser.specs.Dependencies.{deeper, line_rest, is_lone_return, dependency_version, dependency_at}
+use Rattle.yarn_lock_parser.specs.Dependencies.{deeper, line_rest, dependency_version, dependency_at}
 use Rattle.yarn_lock_parser.specs.Metas.{property_at, noted, flag_under, meta_at}
 use Rattle.yarn_lock_parser.proofs.Fronts.{after-some}
-use Rattle.yarn_lock_parser.proofs.Rests.{first_and_next, step, either_form, tested, IsLater, itself, behind, later, then_later, unwrapped, after_byte-later, after-rest, after-later, after_optional-rest, run-rest, run-whole, some_run-later, after_line_end-later, line_at-later, quoted_at-later}
+use Rattle.yarn_lock_parser.proofs.Rests.{first_and_next, step, either_form, tested, IsLater, behind, later, then_later, after-rest, after_optional-rest, run-rest, run-whole, some_run-later, after_line_end-later, line_at-later, quoted_at-later}
 use Rattle.yarn_lock_parser.proofs.Every.{Shortens, some-rest}
 
 -- ---- descriptors

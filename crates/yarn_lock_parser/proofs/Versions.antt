@@ -1,5 +1,5 @@
 -- The version's number, and the key's text.
-use Rattle.std.proofs.Common.{◌≡◌, ◌<◌, ◌≤◌, ◌⊎◌, ◌^◌, ℕ, Bool, true, false, cond, List, [], ◌∷◌, length, refl, sym, Option, Some, None, Result, Ok, Err, arith, inl, inr, ap}
+use Rattle.std.proofs.Common.{◌≡◌, ◌<◌, ◌≤◌, ◌⊎◌, ◌^◌, ℕ, true, false, cond, List, length, refl, Some, None, Result, Ok, Err, arith, inl, inr, ap}
 use Rattle.std.specs.Prelude.{nat_le}
 use Rattle.std.specs.Result.{OkIff, result_ok}
 use Rattle.std.specs.Str.{all_ascii_digits}

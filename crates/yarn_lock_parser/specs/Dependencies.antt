@@ -1,5 +1,5 @@
 -- The dependencies that an entry lists under a heading.
-use Rattle.std.specs.Prelude.{ℕ, Bool, ◌==◌, ◌&&◌, cond, List, [], ◌∷◌, length, reverse, Option, Some, None, option_map, unwrap_or, is_some, is_none, codes}
+use Rattle.std.specs.Prelude.{ℕ, Bool, ◌==◌, ◌&&◌, cond, List, [], ◌∷◌, length, reverse, Option, Some, None, unwrap_or, is_some, is_none, codes}
 use Rattle.std.specs.Option.{option_or}
 use Rattle.yarn_lock_parser.specs.declared.byte_set.ByteSet.TheVariants.{Blank, Quote, NotLineEnd, DependencyName}
 use Rattle.yarn_lock_parser.specs.declared.dependencies.DependencyKind.{DependencyKind}

@@ -1,5 +1,5 @@
 -- The descriptors on an entry's first line.
-use Rattle.std.specs.Prelude.{ℕ, List, [], ◌∷◌, ◌++◌, Option, Some, None, option_map, codes}
+use Rattle.std.specs.Prelude.{ℕ, List, [], ◌∷◌, ◌++◌, Option, Some, option_map, codes}
 use Rattle.std.specs.Option.{option_or}
 use Rattle.yarn_lock_parser.specs.declared.byte_set.ByteSet.TheVariants.{Descriptor, NotAt}
 use Rattle.yarn_lock_parser.specs.Front.{◌>>=◌, after, after_optional, before, run, some_run, line_at, front, every}

@@ -1,5 +1,5 @@
 -- What a text's front is, and what follows it. A reading of a front is what the front says, and the text that follows it.
-use Rattle.std.specs.Prelude.{◌≡◌, ◌++◌, ℕ, zero, suc, Bool, ◌==◌, ◌-◌, cond, List, [], ◌∷◌, length, take, drop, reverse, Option, Some, None, option_map, unwrap_or}
+use Rattle.std.specs.Prelude.{◌≡◌, ◌++◌, ℕ, zero, suc, ◌==◌, ◌-◌, cond, List, [], ◌∷◌, length, take, drop, reverse, Option, Some, None, option_map, unwrap_or}
 use Rattle.std.specs.Option.{option_or}
 use Rattle.std.specs.List.{prefix_len}
 use Rattle.yarn_lock_parser.specs.declared.byte_set.ByteSet.{ByteSet}

@@ -1,5 +1,5 @@
 -- The comment lines that a lock file begins with.
-use Rattle.std.specs.Prelude.{ℕ, List, Option, Some, None, codes, is_some, unwrap_or}
+use Rattle.std.specs.Prelude.{ℕ, List, Option, Some, codes, is_some, unwrap_or}
 use Rattle.std.specs.Option.{option_map_or}
 use Rattle.yarn_lock_parser.specs.declared.byte_set.ByteSet.TheVariants.{WhiteSpace}
 use Rattle.yarn_lock_parser.specs.declared.header.Header.{Header}

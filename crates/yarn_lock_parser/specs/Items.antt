@@ -1,5 +1,5 @@
 -- The lines of an entry that say one thing: its version, where it was found, and what its files hash to.
-use Rattle.std.specs.Prelude.{ℕ, List, [], ◌∷◌, Option, Some, None, option_map, codes}
+use Rattle.std.specs.Prelude.{ℕ, List, [], ◌∷◌, Option, Some, option_map, codes}
 use Rattle.std.specs.Option.{option_or}
 use Rattle.yarn_lock_parser.specs.declared.byte_set.ByteSet.TheVariants.{Version, Unquoted}
 use Rattle.yarn_lock_parser.specs.Front.{◌>>=◌, after, after_optional, after_blanks, after_line_end, run, some_run}

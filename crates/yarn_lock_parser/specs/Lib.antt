@@ -11,3 +11,4 @@ pub mod Items
 pub mod Lock
 pub mod Metadata
 pub mod Metas
+pub mod Slices

@@ -36,6 +36,10 @@ cache_key t = do
   digits ← some_run Digit key
   Some (front key (unwrap_or (after_compression digits.1) digits.1), unwrap_or (after_compression digits.1) digits.1)
 
+-- what follows a cache key that may stand at the front
+abbrev pub after_key : List ℕ → List ℕ
+after_key t = option_map_or (λ key. key.1) (cache_key t) t
+
 -- the line `__metadata:`, and the version on the next
 unfoldable pub version_line : List ℕ → Option (ℕ × List ℕ)
 version_line t = do
@@ -52,7 +56,7 @@ version_line t = do
 unfoldable pub metadata_at : List ℕ → Option (Metadata × List ℕ)
 metadata_at t = do
   version ← version_line t
-  rest ← after_first_empty_line (option_map_or (λ key. key.1) (cache_key version.1) version.1)
+  rest ← after_first_empty_line (after_key version.1)
   Some (
     record {
       version = version.0;

@@ -3,6 +3,7 @@ ghost use Rattle.std.specs.Prelude.{◌≡◌, Ok, IfOk, IfErr, option_map};
 ghost use Rattle.yarn_lock_parser.specs.Front.{IsRest};
 ghost use Rattle.yarn_lock_parser.specs.Cut.{entry_texts};
 ghost use Rattle.yarn_lock_parser.specs.Lock.{entries_from, Explains, lock_of, metadata_after, place_in};
+ghost use Rattle.yarn_lock_parser.specs.Slices.{IsLockOf};
 
 use crate::cut::entry_text;
 use crate::entry::{Entry, entry_of};
@@ -61,8 +62,16 @@ impl<'a> Lockfile<'a> {
 }
 
 /// Reads a lock file as Yarn or Bun writes it: version 1, or with metadata.
-#[tactic(auto, unfolding(crate::specs::Lock::lock_of))]
 pub fn parse_str(alloc: Global, content: &str) -> Result<Lockfile<'_>, YarnLockError>
+    ensures read { IfOk result (λ lock. lock_of content.now ≡ Ok lock) }
+    ensures refused { IfErr result (Explains (lock_of content.now)) }
+    ensures slices { IfOk result (IsLockOf content.now) }
+{
+    lock_of(alloc, content)
+}
+
+#[tactic(auto, unfolding(crate::specs::Lock::lock_of))]
+fn lock_of(alloc: Global, content: &str) -> Result<Lockfile<'_>, YarnLockError>
     ensures read { IfOk result (λ lock. lock_of content.now ≡ Ok lock) }
     ensures refused { IfErr result (Explains (lock_of content.now)) }
 {

@@ -1,5 +1,4 @@
-use Rattle.std.proofs.Common.{sym, ◌∙◌, ap, refl}
-use Rattle.std.specs.Prelude.{Some}
+use Rattle.std.proofs.Common.{sym, refl}
 use Rattle.yarn_lock_parser.specs.Item.{item_at}
 use Rattle.yarn_lock_parser.specs.Fields.{fields_of}
 use Rattle.yarn_lock_parser.proofs.Every.{some-none, some-more}

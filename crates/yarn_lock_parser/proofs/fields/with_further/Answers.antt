@@ -1,4 +1,4 @@
-use Rattle.std.proofs.Common.{sym, ◌∙◌, rules}
+use Rattle.std.proofs.Common.{sym, rules}
 use Rattle.yarn_lock_parser.specs.Item.{item_at}
 use Rattle.yarn_lock_parser.proofs.Every.{every-none, every-more}
 use Rattle.yarn_lock_parser.proofs.ItemRests.{item_at-shortens}

@@ -1,7 +1,7 @@
-use Rattle.std.proofs.Common.{sym, ◌∙◌, ap, rules, ℕ}
+use Rattle.std.proofs.Common.{sym, ◌∙◌, rules}
 use Rattle.yarn_lock_parser.specs.Lock.{place_in}
 use Rattle.yarn_lock_parser.proofs.Rests.{behind}
-use Rattle.yarn_lock_parser.proofs.Locks.{entry_text-cut, next_place, entries_at, entries_at-start, entries_at-end, entries_at-refused, entries_at-more}
+use Rattle.yarn_lock_parser.proofs.Locks.{entry_text-cut, next_place, entries_at-end, entries_at-refused, entries_at-more}
 use Rattle.yarn_lock_parser.proofs.lockfile.entries_of.Goals as goal
 
 pub loop-one-smaller : goal.loop-one-smaller

@@ -1,10 +1,5 @@
-use Rattle.std.proofs.Common.{sym}
-use Rattle.yarn_lock_parser.proofs.Rests.{behind}
-use Rattle.yarn_lock_parser.proofs.BodyRests.{header_at-rest, metadata_after-rest}
+use Rattle.yarn_lock_parser.proofs.SliceLocks.{slices_if_ok}
 use Rattle.yarn_lock_parser.proofs.lockfile.parse_str.Goals as goal
 
-pub place_in-requires : goal.place_in-requires
-place_in-requires c = header_at-rest _ _ (sym c.in-Some.ensures)
-
-pub entries_of-requires : goal.entries_of-requires
-entries_of-requires c = behind (header_at-rest _ _ (sym c.in-Some.ensures)) (metadata_after-rest _ _ _ (sym c.in-Some-metadata_after.ensures))
+pub returns-clause-slices : goal.returns-clause-slices
+returns-clause-slices c = slices_if_ok c.args.content.now c.lock_of.result c.lock_of.ensures.read

@@ -1,4 +1,4 @@
-use Rattle.std.proofs.Common.{sym, ◌∙◌, ap, refl}
+use Rattle.std.proofs.Common.{sym, refl}
 use Rattle.yarn_lock_parser.specs.Metas.{flag_under, property_at}
 use Rattle.yarn_lock_parser.proofs.Every.{some-none, some-more}
 use Rattle.yarn_lock_parser.proofs.Shorter.{property_at-shortens}
