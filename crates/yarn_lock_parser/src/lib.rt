@@ -23,3 +23,8 @@ pub use header::Generator;
 pub use lockfile::{Lockfile, parse_str};
 pub use metas::{DepMeta, Metas};
 pub use pair::Pairs;
+
+#[cfg(test)]
+mod fixtures;
+#[cfg(test)]
+mod tests;

@@ -193,6 +193,7 @@ fn flag_of(value: &str) -> Flag
 }
 
 /// What an entry says of its dependencies, in order.
+#[derive(Drop)]
 pub struct Metas<'e, 'a> {
     metas: &'e [Meta<'a>],
 }

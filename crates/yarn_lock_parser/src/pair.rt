@@ -18,6 +18,7 @@ impl<'a> Model for Pair<'a> {
 }
 
 /// Pairs of an entry, in order: names of packages, each with a requirement.
+#[derive(Drop)]
 pub struct Pairs<'e, 'a> {
     pairs: &'e [Pair<'a>],
 }
