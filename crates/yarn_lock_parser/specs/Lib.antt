@@ -3,6 +3,7 @@ pub mod Cut
 pub mod Dependencies
 pub mod Descriptors
 pub mod Entry
+pub mod EntryEq
 pub mod Fields
 pub mod Front
 pub mod Header

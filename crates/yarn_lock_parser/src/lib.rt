@@ -6,6 +6,7 @@ mod cut;
 mod dependencies;
 mod descriptors;
 mod entry;
+mod equality;
 mod error;
 mod fields;
 mod front;

@@ -29,7 +29,7 @@ pub(crate) enum Flag {
 impl Flag {
     ghost use Rattle.yarn_lock_parser.specs.Metas.{known};
 
-    fn known(self) -> Option<bool>
+    pub(crate) fn known(self) -> Option<bool>
         ensures { result ≡ known self }
     {
         match self {
@@ -212,6 +212,15 @@ impl<'e, 'a> Model for Metas<'e, 'a> {
 impl<'e, 'a> Metas<'e, 'a> {
     ghost use Rattle.std.specs.Prelude.{◌≡◌, length, map, option_map, slice_get};
     ghost use Rattle.yarn_lock_parser.specs.Metas.{as_meta};
+    ghost use Rattle.std.specs.Cmp.Lexicographic.{pointwise};
+    ghost use Rattle.yarn_lock_parser.specs.EntryEq.{meta_eq};
+
+    /// Both say the same of the same names, in the same order.
+    pub(crate) fn is_same(&self, other: &Metas<'_, '_>) -> bool
+        ensures { result ≡ pointwise meta_eq self.now other.now }
+    {
+        self.metas == other.metas
+    }
 
     pub(crate) fn of(metas: &'e [Meta<'a>]) -> Self
         ensures { result ≡ map as_meta metas.now }

@@ -40,6 +40,12 @@ impl<'e, 'a> Pairs<'e, 'a> {
         Pairs { pairs }
     }
 
+    pub(crate) fn as_slice(&self) -> &'e [Pair<'a>]
+        ensures { result.now ≡ self.now }
+    {
+        self.pairs
+    }
+
     pub fn len(&self) -> usize
         ensures { result ≡ length self.now }
     {

@@ -27,7 +27,10 @@ fn tell_entry(out: &mut String, entry: &Entry<'_>) -> Result<(), AllocError> {
     let name = entry.name();
     let version = entry.version();
     write!(out, "\n{name} {version}")?;
-    for (label, text) in [("resolved", entry.resolved()), ("integrity", entry.integrity())] {
+    for (label, text) in [
+        ("resolved", entry.resolved()),
+        ("integrity", entry.integrity()),
+    ] {
         if !text.is_empty() {
             write!(out, " {label} {text}")?;
         }
@@ -89,27 +92,69 @@ fn whole_locks_are_read(rt: HostRuntime) -> Result<(), Fail> {
 fn entries() -> [(&'static str, &'static str); 26] {
     [
         ("", ""),
-        ("foo@1:\n  version \"1\"\n  version \"2\"\n", "\nfoo 2 for foo=1"),
+        (
+            "foo@1:\n  version \"1\"\n  version \"2\"\n",
+            "\nfoo 2 for foo=1",
+        ),
         ("foo@1:\n  \"version\" \"1\"\n", "\nfoo 1 for foo=1"),
         ("foo@1:\n  version: 1\n", "\nfoo 1 for foo=1"),
-        ("foo@1:\n  version 1\n \t\r\nbar@2:\n  version 2\n\n", "\nfoo 1 for foo=1\nbar 2 for bar=2"),
-        ("\"foo@1\", bar@2 baz, \"@q/x@3\":\n  version 1\n", "\nfoo 1 for foo=1 for bar=2 baz for @q/x=3"),
+        (
+            "foo@1:\n  version 1\n \t\r\nbar@2:\n  version 2\n\n",
+            "\nfoo 1 for foo=1\nbar 2 for bar=2",
+        ),
+        (
+            "\"foo@1\", bar@2 baz, \"@q/x@3\":\n  version 1\n",
+            "\nfoo 1 for foo=1 for bar=2 baz for @q/x=3",
+        ),
         ("foo@1,bar@2:\n  version 1\n", "\nfoo 1 for foo=1"),
         ("foo@1, :\n  version 1\n", "\nfoo 1 for foo=1"),
         ("fôo@é:\n  version 1\n", "\nfôo 1 for fôo=é"),
         ("foo@:\n  version 1\n", "\nfoo 1 for foo="),
-        ("foo@1:\n  version 1\n  dependencies:\n    a\n    b 2\n", "\nfoo 1 for foo=1 needs a\n=b 2"),
-        ("foo@1:\n  version 1\n  dependencies:\n    a \"x\ny\"\n    b 2\n", "\nfoo 1 for foo=1 needs a=x\ny needs b=2"),
-        ("foo@1:\n  version 1\n  dependencies:\n    a \"x\n", "\nfoo 1 for foo=1 needs a=\"x"),
-        ("foo@1:\n  version 1\n  dependencies:\n    a x\ry\n", "\nfoo 1 for foo=1"),
-        ("foo@1:\n  version 1\n\tdependencies:\n\t\ta 1\n    b 2\n", "\nfoo 1 for foo=1 needs a=1"),
-        ("foo@1:\n  version 1\n  dependencies:\n  a 1\n", "\nfoo 1 for foo=1"),
-        ("foo@1:\n  version 1\n  dependencies:\n    \"\"a\"\" 1\n", "\nfoo 1 for foo=1 needs a=1"),
-        ("foo@1:\n  version 1\n  dependencies:\n    a 1\n  dependencies:\n    b 2\n", "\nfoo 1 for foo=1 needs b=2"),
-        ("foo@1:\n  version 1\n  checksum: \"abc\" def\n", "\nfoo 1 integrity abc for foo=1"),
-        ("foo@1:\n  version 1\n  resolved https://x\n", "\nfoo 1 for foo=1"),
+        (
+            "foo@1:\n  version 1\n  dependencies:\n    a\n    b 2\n",
+            "\nfoo 1 for foo=1 needs a\n=b 2",
+        ),
+        (
+            "foo@1:\n  version 1\n  dependencies:\n    a \"x\ny\"\n    b 2\n",
+            "\nfoo 1 for foo=1 needs a=x\ny needs b=2",
+        ),
+        (
+            "foo@1:\n  version 1\n  dependencies:\n    a \"x\n",
+            "\nfoo 1 for foo=1 needs a=\"x",
+        ),
+        (
+            "foo@1:\n  version 1\n  dependencies:\n    a x\ry\n",
+            "\nfoo 1 for foo=1",
+        ),
+        (
+            "foo@1:\n  version 1\n\tdependencies:\n\t\ta 1\n    b 2\n",
+            "\nfoo 1 for foo=1 needs a=1",
+        ),
+        (
+            "foo@1:\n  version 1\n  dependencies:\n  a 1\n",
+            "\nfoo 1 for foo=1",
+        ),
+        (
+            "foo@1:\n  version 1\n  dependencies:\n    \"\"a\"\" 1\n",
+            "\nfoo 1 for foo=1 needs a=1",
+        ),
+        (
+            "foo@1:\n  version 1\n  dependencies:\n    a 1\n  dependencies:\n    b 2\n",
+            "\nfoo 1 for foo=1 needs b=2",
+        ),
+        (
+            "foo@1:\n  version 1\n  checksum: \"abc\" def\n",
+            "\nfoo 1 integrity abc for foo=1",
+        ),
+        (
+            "foo@1:\n  version 1\n  resolved https://x\n",
+            "\nfoo 1 for foo=1",
+        ),
         ("foo@1:\n  version 1\n  resolved \"x\"", "\nfoo 1 for foo=1"),
-        ("foo@1:\n  version 1\n  integrity sha512-x", "\nfoo 1 integrity sha512-x for foo=1"),
+        (
+            "foo@1:\n  version 1\n  integrity sha512-x",
+            "\nfoo 1 integrity sha512-x for foo=1",
+        ),
         (
             "foo@1:\n  version 1\n  dependenciesMeta:\n    \"a:b\":\n      optional: true\n      built: false\n    c:\n      built: true\n",
             "\nfoo 1 for foo=1 meta a:b=optional meta c=unsaid",
@@ -118,8 +163,14 @@ fn entries() -> [(&'static str, &'static str); 26] {
             "foo@1:\n  version 1\n  dependenciesMeta:\n    a:\n      optional: true\n      optional: false\n",
             "\nfoo 1 for foo=1 meta a=needed",
         ),
-        ("foo@1:\n  version 1\n  dependenciesMeta:\n    a:\n", "\nfoo 1 for foo=1"),
-        ("foo@1:\n  version 1\n  linkType: hard\n\n", "\nfoo 1 for foo=1"),
+        (
+            "foo@1:\n  version 1\n  dependenciesMeta:\n    a:\n",
+            "\nfoo 1 for foo=1",
+        ),
+        (
+            "foo@1:\n  version 1\n  linkType: hard\n\n",
+            "\nfoo 1 for foo=1",
+        ),
     ]
 }
 
@@ -128,7 +179,11 @@ fn entries_are_read_by_the_first_form_that_fits(rt: HostRuntime) -> Result<(), F
     for (text, want) in entries() {
         let file = format!(in rt.alloc(); "# a\n# yarn lockfile v1\n\n{text}")?;
         let want = format!(in rt.alloc(); "Yarn 1 none{want}")?;
-        assert_eq!(rt; told(rt.alloc(), file.as_str())?.as_str(), want.as_str(), "{text:?}");
+        assert_eq!(rt;
+            told(rt.alloc(), file.as_str())?.as_str(),
+            want.as_str(),
+            "{text:?}"
+        );
     }
     Ok(())
 }
@@ -157,9 +212,18 @@ fn files() -> [(&'static str, &'static str); 9] {
             "Bun 1 none\nfoo 1 for foo=1",
         ),
         ("# a\n# yarn lockfile v1, by hand\n", "Yarn 1 none"),
-        ("\n\n__metadata:\r\n\tversion: 0255\r\n \tcacheKey: 10c0\r\n\r\n", "Yarn 255 10c0"),
-        ("# a\n# b\n__metadata:\n  version: 6\n  cacheKey: 10c\n  more: 1\n  \n \n", "Yarn 6 10"),
-        ("# a\n# b\n__metadata:\n  version: 6\n  cacheKey: none\n\n", "Yarn 6 none"),
+        (
+            "\n\n__metadata:\r\n\tversion: 0255\r\n \tcacheKey: 10c0\r\n\r\n",
+            "Yarn 255 10c0",
+        ),
+        (
+            "# a\n# b\n__metadata:\n  version: 6\n  cacheKey: 10c\n  more: 1\n  \n \n",
+            "Yarn 6 10",
+        ),
+        (
+            "# a\n# b\n__metadata:\n  version: 6\n  cacheKey: none\n\n",
+            "Yarn 6 none",
+        ),
     ]
 }
 
@@ -178,30 +242,98 @@ fn refused() -> [(&'static str, usize, LockCause); 24] {
         ("x\n", 0, LockCause::Header),
         ("# a\n# yarn lockfile v1", 0, LockCause::Header),
         ("# a\n# b\n", 8, LockCause::Metadata),
-        ("# a\n# b\n\n__metadata:\n  version: 256\n\n", 9, LockCause::Metadata),
-        ("# a\n# b\n\n__metadata:\n  version: 6\n", 9, LockCause::Metadata),
-        ("# a\n# b\n\n__metadata:\nversion: 6\n\n", 9, LockCause::Metadata),
-        ("# a\n# b\n# bun\n\nfoo@1:\n  version 1\n", 15, LockCause::Metadata),
+        (
+            "# a\n# b\n\n__metadata:\n  version: 256\n\n",
+            9,
+            LockCause::Metadata,
+        ),
+        (
+            "# a\n# b\n\n__metadata:\n  version: 6\n",
+            9,
+            LockCause::Metadata,
+        ),
+        (
+            "# a\n# b\n\n__metadata:\nversion: 6\n\n",
+            9,
+            LockCause::Metadata,
+        ),
+        (
+            "# a\n# b\n# bun\n\nfoo@1:\n  version 1\n",
+            15,
+            LockCause::Metadata,
+        ),
         ("# a\n# yarn lockfile v1\n# bun", 23, LockCause::Descriptors),
-        ("# a\n# yarn lockfile v1\n\nfoo@1:\n  version \"1\"\n ", 24, LockCause::LastLine),
-        ("# a\n# yarn lockfile v1\n\nfoo\n  version 1\t", 24, LockCause::LastLine),
-        ("# a\n# yarn lockfile v1\n\nfoo@1\n  version \"1\"\n", 24, LockCause::Descriptors),
-        ("# a\n# yarn lockfile v1\n\nfoo@1:", 24, LockCause::Descriptors),
-        ("# a\n# yarn lockfile v1\n\nfoo:\n  version 1\n", 24, LockCause::Descriptors),
-        ("# a\n# yarn lockfile v1\n\n@foo:\n  version 1\n", 24, LockCause::Descriptors),
-        ("# a\n# yarn lockfile v1\n\nfoo@1, bar:\n  version 1\n", 24, LockCause::Descriptors),
-        ("# a\n# yarn lockfile v1\n\n,foo@1:\n  version 1\n", 24, LockCause::Descriptors),
-        ("# a\n# yarn lockfile v1\n\nfoo@1:\n  version \"1\"\n\n\nbar@1:\n  version 1\n", 46, LockCause::Descriptors),
+        (
+            "# a\n# yarn lockfile v1\n\nfoo@1:\n  version \"1\"\n ",
+            24,
+            LockCause::LastLine,
+        ),
+        (
+            "# a\n# yarn lockfile v1\n\nfoo\n  version 1\t",
+            24,
+            LockCause::LastLine,
+        ),
+        (
+            "# a\n# yarn lockfile v1\n\nfoo@1\n  version \"1\"\n",
+            24,
+            LockCause::Descriptors,
+        ),
+        (
+            "# a\n# yarn lockfile v1\n\nfoo@1:",
+            24,
+            LockCause::Descriptors,
+        ),
+        (
+            "# a\n# yarn lockfile v1\n\nfoo:\n  version 1\n",
+            24,
+            LockCause::Descriptors,
+        ),
+        (
+            "# a\n# yarn lockfile v1\n\n@foo:\n  version 1\n",
+            24,
+            LockCause::Descriptors,
+        ),
+        (
+            "# a\n# yarn lockfile v1\n\nfoo@1, bar:\n  version 1\n",
+            24,
+            LockCause::Descriptors,
+        ),
+        (
+            "# a\n# yarn lockfile v1\n\n,foo@1:\n  version 1\n",
+            24,
+            LockCause::Descriptors,
+        ),
+        (
+            "# a\n# yarn lockfile v1\n\nfoo@1:\n  version \"1\"\n\n\nbar@1:\n  version 1\n",
+            46,
+            LockCause::Descriptors,
+        ),
         ("# a\n# yarn lockfile v1\n\nfoo@1:\n", 24, LockCause::NoItem),
-        ("# a\n# yarn lockfile v1\n\nfoo@1:\n  version 1", 24, LockCause::NoItem),
+        (
+            "# a\n# yarn lockfile v1\n\nfoo@1:\n  version 1",
+            24,
+            LockCause::NoItem,
+        ),
         (
             "# a\n# yarn lockfile v1\n\nfoo@1:\n  dependenciesMeta:\n    a:\n      optional: yes\n      optional: true\n  dependenciesMeta:\n    a:\n      optional: true\n",
             24,
             LockCause::Optional,
         ),
-        ("# a\n# yarn lockfile v1\n\n\nfoo@1:\n  resolved \"x\"\n", 25, LockCause::NoVersion),
-        ("# a\n# yarn lockfile v1\n\nfoo@1:\n  version 1\n  version \"\"\n", 24, LockCause::NoVersion),
-        ("# a\n# yarn lockfile v1\n\nfoo@1:\n  version \"1 \"\n\nbar\n ", 24, LockCause::NoVersion),
+        (
+            "# a\n# yarn lockfile v1\n\n\nfoo@1:\n  resolved \"x\"\n",
+            25,
+            LockCause::NoVersion,
+        ),
+        (
+            "# a\n# yarn lockfile v1\n\nfoo@1:\n  version 1\n  version \"\"\n",
+            24,
+            LockCause::NoVersion,
+        ),
+        (
+            "# a\n# yarn lockfile v1\n\nfoo@1:\n  version \"1 \"\n\nbar\n ",
+            24,
+            LockCause::NoVersion,
+        ),
     ]
 }
 
@@ -210,7 +342,39 @@ fn the_first_fault_is_told_with_its_place(rt: HostRuntime) -> Result<(), Fail> {
     for (text, place, cause) in refused() {
         match parse_str(rt.alloc(), text) {
             Ok(_) => assert!(rt; false, "read: {text:?}"),
-            Err(e) => assert!(rt; e == YarnLockError::Parser { place, cause }, "{e:?} of {text:?}"),
+            Err(e) => assert!(rt;
+                e == YarnLockError::Parser { place, cause },
+                "{e:?} of {text:?}"
+            ),
+        }
+    }
+    Ok(())
+}
+
+// Entries that differ in one thing each.
+fn distinct() -> [&'static str; 9] {
+    [
+        "foo@1:\n  version 1\n",
+        "foo@2:\n  version 1\n",
+        "foo@1:\n  version 2\n",
+        "foo@1:\n  version 1\n  resolved \"x\"\n",
+        "foo@1:\n  version 1\n  checksum x\n",
+        "foo@1:\n  version 1\n  dependencies:\n    a 1\n",
+        "foo@1:\n  version 1\n  peerDependencies:\n    a 1\n",
+        "foo@1:\n  version 1\n  dependenciesMeta:\n    a:\n      optional: true\n",
+        "foo@1:\n  version 1\n  dependenciesMeta:\n    a:\n      built: true\n",
+    ]
+}
+
+#[test]
+fn entries_are_equal_by_what_they_say(rt: HostRuntime) -> Result<(), Fail> {
+    for (at, one) in distinct().iter().enumerate() {
+        for (other_at, other) in distinct().iter().enumerate() {
+            let one = format!(in rt.alloc(); "# a\n# yarn lockfile v1\n\n{one}")?;
+            let other = format!(in rt.alloc(); "# b\r\n# yarn lockfile v1\n\n{other}\n")?;
+            let one = parse_str(rt.alloc(), one.as_str())?;
+            let other = parse_str(rt.alloc(), other.as_str())?;
+            assert_eq!(rt; one.entries() == other.entries(), at == other_at);
         }
     }
     Ok(())
@@ -220,7 +384,10 @@ fn the_first_fault_is_told_with_its_place(rt: HostRuntime) -> Result<(), Fail> {
 fn many_entries_and_an_endless_line_are_read_in_time(rt: HostRuntime) -> Result<(), Fail> {
     let mut text = String::from_str(rt.alloc(), "# a\n# yarn lockfile v1\n\n")?;
     for index in 0..10_000u32 {
-        write!(text, "p{index}@1:\n  version \"1\"\n  dependencies:\n    a \"1\"\n\n")?;
+        write!(
+            text,
+            "p{index}@1:\n  version \"1\"\n  dependencies:\n    a \"1\"\n\n"
+        )?;
     }
     text.push_str("foo@1:\n  version 1\n  dependencies:\n    a \"")?;
     for _ in 0..500_000u32 {
