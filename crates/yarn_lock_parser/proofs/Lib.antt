@@ -1,0 +1,15 @@
+pub mod BodyRests
+pub mod Cuts
+pub mod EqualMetas
+pub mod Every
+pub mod Fronts
+pub mod ItemRests
+pub mod Locks
+pub mod Parted
+pub mod Quotes
+pub mod Rests
+pub mod Shorter
+pub mod SliceItems
+pub mod SliceLocks
+pub mod SliceParts
+pub mod Versions

@@ -1,0 +1,85 @@
+-- What a text's front is, and what follows it. A reading of a front is what the front says, and the text that follows it.
+use Rattle.std.specs.Prelude.{◌≡◌, ◌++◌, ℕ, zero, suc, ◌==◌, ◌-◌, cond, List, [], ◌∷◌, length, take, drop, reverse, Option, Some, None, option_map, unwrap_or}
+use Rattle.std.specs.Option.{option_or}
+use Rattle.std.specs.List.{prefix_len}
+use Rattle.yarn_lock_parser.specs.declared.byte_set.ByteSet.{ByteSet}
+use Rattle.yarn_lock_parser.specs.declared.byte_set.ByteSet.TheVariants.{Blank, NotLineFeed, NotQuote}
+use Rattle.yarn_lock_parser.specs.ByteSet.{has}
+
+-- one part, and then the next, where both fit
+infixl 10 ◌>>=◌
+abbrev pub ◌>>=◌ : {A B : Type 0} → Option A → (A → Option B) → Option B
+None >>= next = None
+(Some x) >>= next = next x
+
+-- what follows a word at the front
+unfoldable pub after : List ℕ → List ℕ → Option (List ℕ)
+after [] t = Some t
+after (w ∷ ws) [] = None
+after (w ∷ ws) (c ∷ cs) = cond (c == w) (after ws cs) None
+
+-- what follows a word that may stand at the front
+abbrev pub after_optional : List ℕ → List ℕ → List ℕ
+after_optional word t = unwrap_or (after word t) t
+
+-- what stands before a word at the end
+unfoldable pub before : List ℕ → List ℕ → Option (List ℕ)
+before word t = option_map reverse (after (reverse word) (reverse t))
+
+-- what stands before a word that may stand at the end
+abbrev pub before_optional : List ℕ → List ℕ → List ℕ
+before_optional word t = unwrap_or (before word t) t
+
+-- the longest run of a set's bytes at the front, and what follows it
+unfoldable pub run : ByteSet → List ℕ → List ℕ × List ℕ
+run set t = (take (prefix_len (has set) t) t, drop (prefix_len (has set) t) t)
+
+-- the same run, of one byte or more
+unfoldable pub some_run : ByteSet → List ℕ → Option (List ℕ × List ℕ)
+some_run set t = cond (length (run set t).0 == 0) None (Some (run set t))
+
+-- what follows one blank or more
+abbrev pub after_blanks : List ℕ → Option (List ℕ)
+after_blanks t = option_map (λ blanks. blanks.1) (some_run Blank t)
+
+-- what follows a line feed, or a carriage return and a line feed
+unfoldable pub after_line_end : List ℕ → Option (List ℕ)
+after_line_end t = option_or (after (10 ∷ []) t) (after (13 ∷ 10 ∷ []) t)
+
+-- a line, without its line feed
+unfoldable pub line_at : List ℕ → Option (List ℕ × List ℕ)
+line_at t = do
+  rest ← after (10 ∷ []) (run NotLineFeed t).1
+  Some ((run NotLineFeed t).0, rest)
+
+-- a text between quotes: it ends at the next quote
+unfoldable pub quoted_at : List ℕ → Option (List ℕ × List ℕ)
+quoted_at t = do
+  text ← after (34 ∷ []) t
+  rest ← after (34 ∷ []) (run NotQuote text).1
+  Some ((run NotQuote text).0, rest)
+
+-- the rest of a text behind some front
+pub record IsRest (t rest : List ℕ) : Type 0 where
+  pub prior : List ℕ
+  pub is : t ≡ prior ++ rest
+
+-- the front of a text, up to a rest of it
+unfoldable pub front : List ℕ → List ℕ → List ℕ
+front t rest = take (length t - length rest) t
+
+-- at most so many parts, one after the other
+abbrev pub up_to : {A : Type 0} → (List ℕ → Option (A × List ℕ)) → ℕ → List ℕ → List A × List ℕ
+up_to part zero t = ([], t)
+up_to part (suc n) t = elim (part t) [
+  | None ↦ ([], t)
+  | Some first ↦ (first.0 ∷ (up_to part n first.1).0, (up_to part n first.1).1)
+]
+
+-- as many parts as fit, one after the other: each takes a byte or more, so there are no more of them than bytes
+unfoldable pub every : {A : Type 0} → (List ℕ → Option (A × List ℕ)) → List ℕ → List A × List ℕ
+every part t = up_to part (length t) t
+
+-- the same, of one part or more
+unfoldable pub some : {A : Type 0} → (List ℕ → Option (A × List ℕ)) → List ℕ → Option (List A × List ℕ)
+some part t = cond (length (every part t).0 == 0) None (Some (every part t))

@@ -1,0 +1,15 @@
+pub mod ByteSet
+pub mod Cut
+pub mod Dependencies
+pub mod Descriptors
+pub mod Entry
+pub mod EntryEq
+pub mod Fields
+pub mod Front
+pub mod Header
+pub mod Item
+pub mod Items
+pub mod Lock
+pub mod Metadata
+pub mod Metas
+pub mod Slices

@@ -1,0 +1,99 @@
+// The descriptors on an entry's first line.
+ghost use Rattle.std.specs.Prelude.{◌≡◌, ◌∷◌, [], IfOk, option_map, List, ℕ};
+ghost use Rattle.yarn_lock_parser.specs.Front.{every};
+ghost use Rattle.yarn_lock_parser.specs.Descriptors.{before_colon, descriptor_at, descriptors_at, descriptors_on, each_parted, next_descriptor, parted, put_before};
+
+use crate::byte_set::ByteSet;
+use crate::front::{after, after_optional, before, front, line_at, run, some_run};
+use crate::pair::Pair;
+use std::alloc::{AllocError, Global};
+
+/// The descriptors of the first line, and what follows the line.
+#[tactic(auto, unfolding(crate::specs::Descriptors::descriptors_at))]
+pub(crate) fn descriptors_at(
+    alloc: Global,
+    text: &str,
+) -> Result<Option<(Vec<Pair<'_>>, &str)>, AllocError>
+    ensures { IfOk result (λ o. option_map (λ x. (x.0.items, x.1.now)) o ≡ descriptors_at text.now) }
+{
+    let Some((line, rest)) = line_at(text) else {
+        return Ok(None);
+    };
+    let Some(list) = before_colon(line) else {
+        return Ok(None);
+    };
+    match descriptors_on(alloc, list)? {
+        None => Ok(None),
+        Some(found) => Ok(Some((found, rest))),
+    }
+}
+
+#[tactic(auto, unfolding(crate::specs::Descriptors::before_colon))]
+fn before_colon(line: &str) -> Option<&str>
+    ensures { option_map (λ t. t.now) result ≡ before_colon line.now }
+{
+    match before(":\r", line) {
+        Some(list) => Some(list),
+        None => before(":", line),
+    }
+}
+
+#[tactic(auto, unfolding(crate::specs::Descriptors::descriptors_on))]
+fn descriptors_on(alloc: Global, list: &str) -> Result<Option<Vec<Pair<'_>>>, AllocError>
+    ensures { IfOk result (λ o. option_map (λ v. v.items) o ≡ descriptors_on list.now) }
+{
+    let Some((first, rest)) = descriptor_at(list) else {
+        return Ok(None);
+    };
+    match parted(first) {
+        None => Ok(None),
+        Some(pair) => with_further(alloc, pair, rest),
+    }
+}
+
+// A first descriptor and those that follow it.
+fn with_further<'a>(
+    alloc: Global,
+    first: Pair<'a>,
+    list: &'a str,
+) -> Result<Option<Vec<Pair<'a>>>, AllocError>
+    ensures { IfOk result (λ o. option_map (λ v. v.items) o ≡ put_before (first.entry ∷ []) (each_parted (every next_descriptor list.now).0)) }
+{
+    let mut found = Vec::new(alloc);
+    found.push(first)?;
+    let mut rest = list;
+    while let Some((descriptor, behind)) = next_descriptor(rest) {
+        match parted(descriptor) {
+            None => return Ok(None),
+            Some(pair) => found.push(pair)?,
+        }
+        rest = behind;
+    }
+    Ok(Some(found))
+}
+
+#[tactic(auto, unfolding(crate::specs::Descriptors::descriptor_at))]
+fn descriptor_at(text: &str) -> Option<(&str, &str)>
+    ensures { option_map (λ x. (x.0.now, x.1.now)) result ≡ descriptor_at text.now }
+{
+    let (descriptor, rest) = some_run(ByteSet::Descriptor, after_optional("\"", text))?;
+    Some((descriptor, after_optional("\"", rest)))
+}
+
+#[tactic(auto, unfolding(crate::specs::Descriptors::next_descriptor))]
+fn next_descriptor(text: &str) -> Option<(&str, &str)>
+    ensures { option_map (λ x. (x.0.now, x.1.now)) result ≡ next_descriptor text.now }
+{
+    descriptor_at(after(", ", after_optional("\"", text))?)
+}
+
+// Name and requirement of a descriptor.
+#[tactic(auto, unfolding(crate::specs::Descriptors::parted))]
+fn parted(text: &str) -> Option<Pair<'_>>
+    ensures { result ≡ parted text.now }
+{
+    let (_, end) = run(ByteSet::NotAt, after_optional("@", text));
+    let value = after("@", end)?;
+    let name = front(text, end);
+    Some(Pair { name, value })
+}
