@@ -1,4 +1,5 @@
 pub mod Components
+pub mod Endings
 pub mod Ends
 pub mod Packages
 pub mod Ranges

@@ -1,5 +1,5 @@
 -- What stands at the ends of a text.
-use Rattle.std.specs.Prelude.{ℕ, Bool, ◌==◌, ◌||◌, if◌then◌else◌, List, [], ◌∷◌, Option, Some, None}
+use Rattle.std.specs.Prelude.{◌≡◌, ◌++◌, ℕ, Bool, ◌==◌, ◌||◌, if◌then◌else◌, List, [], ◌∷◌, Option, Some, None}
 
 -- what follows a byte that the text begins with
 abbrev pub after_byte : ℕ → List ℕ → Option (List ℕ)
@@ -29,3 +29,7 @@ is_blank c = c == 32 || c == 9
 
 abbrev pub trimmed : List ℕ → List ℕ
 trimmed t = before_all is_blank (after_all is_blank t)
+
+-- s is the end of t
+abbrev pub IsEndOf : List ℕ → List ℕ → Type 0
+IsEndOf s t = (front : List ℕ) × (t ≡ front ++ s)

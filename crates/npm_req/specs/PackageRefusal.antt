@@ -1,5 +1,6 @@
 -- Why a text names no package with a requirement.
 use Rattle.std.specs.Prelude.{◌≡◌, ℕ, List, [], Err}
+use Rattle.std.specs.Str.{IsCharBoundary}
 use Rattle.npm_req.specs.Package.{name_and_range}
 use Rattle.npm_req.specs.Requirement.{meaning_of}
 use Rattle.npm_req.specs.declared.error.NpmVersionReqParseError.{NpmVersionReqParseError}
@@ -17,3 +18,9 @@ abbrev pub IsRefused : List ℕ → PackageReqParseError → Type 0
 IsRefused text EmptyName = text ≡ []
 IsRefused text (Req place) = meaning_of (name_and_range text).1 ≡ Err place
 IsRefused text NoMemory = Unit {0}
+
+-- a character of the requirement's own text begins at the place where it doesn't read, or there is its end
+abbrev pub IsPlaceInRange : List ℕ → PackageReqParseError → Type 0
+IsPlaceInRange text EmptyName = Unit {0}
+IsPlaceInRange text (Req place) = IsCharBoundary (name_and_range text).1 place
+IsPlaceInRange text NoMemory = Unit {0}

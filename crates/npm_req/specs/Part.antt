@@ -1,7 +1,8 @@
 -- One part of a range: an operator, spaces, a `v`, and a partial version.
-use Rattle.std.specs.Prelude.{◌≡◌, ◌≤◌, ℕ, List, length, Option, Some, None, Result, Ok, Err, unwrap_or}
+use Rattle.std.specs.Prelude.{◌≡◌, ℕ, List, length, Option, Some, None, Result, Ok, Err, unwrap_or}
 use Rattle.npm_req.specs.Comparators.{comparators}
-use Rattle.npm_req.specs.Front.{after_all, after_byte, is_space}
+use Rattle.std.specs.Str.{IsUtf8}
+use Rattle.npm_req.specs.Front.{IsEndOf, after_all, after_byte, is_space}
 use Rattle.npm_req.specs.Partial.{partial_of}
 use Rattle.npm_req.specs.Word.{after_word, word}
 use Rattle.npm_req.specs.declared.comparator.Comparator.{Comparator}
@@ -50,7 +51,7 @@ abbrev pub Refuses : {A : Type 0} → Result A ℕ → Refusal → Type 0
 Refuses read (Unexpected left) = read ≡ Err left
 Refuses read NoMemory = Unit {0}
 
--- a place where nothing reads leaves no more bytes than there are
-abbrev pub LeavesAtMost : ℕ → Refusal → Type 0
-LeavesAtMost n (Unexpected left) = left ≤ n
-LeavesAtMost n NoMemory = Unit {0}
+-- the place where nothing reads is in the text, and a character begins there
+abbrev pub IsInText : List ℕ → Refusal → Type 0
+IsInText t (Unexpected left) = (rest : List ℕ) × ((left ≡ length rest) × IsUtf8 rest × IsEndOf rest t)
+IsInText t NoMemory = Unit {0}

@@ -2,6 +2,7 @@
 use Rattle.std.specs.Prelude.{◌≡◌, ℕ, ◌+◌, ◌-◌, Bool, false, ◌==◌, ◌&&◌, ◌||◌, if◌then◌else◌, List, [], ◌∷◌, length, Option, Some, None, Result, Ok, Err}
 use Rattle.std.specs.Char.{is_ascii_alphabetic, is_ascii_digit}
 use Rattle.std.specs.List.{list_all}
+use Rattle.std.specs.Str.{IsCharBoundary}
 use Rattle.npm_req.specs.Front.{after_all, is_blank, trimmed}
 use Rattle.npm_req.specs.Meets.{meets}
 use Rattle.npm_req.specs.Range.{range}
@@ -50,3 +51,8 @@ meets_meaning v (Tag name) = false
 abbrev pub IsRefused : Result Meaning ℕ → NpmVersionReqParseError → Type 0
 IsRefused meaning (Unexpected place) = meaning ≡ Err place
 IsRefused meaning NoMemory = Unit {0}
+
+-- a character of the text begins at the place where it doesn't read, or there is the text's end
+abbrev pub IsPlaceIn : List ℕ → NpmVersionReqParseError → Type 0
+IsPlaceIn text (Unexpected place) = IsCharBoundary text place
+IsPlaceIn text NoMemory = Unit {0}

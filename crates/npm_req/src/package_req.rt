@@ -2,7 +2,7 @@
 ghost use Rattle.std.specs.Prelude.{◌≡◌, ◌↔◌, [], IfOk, IfErr};
 ghost use Rattle.npm_req.specs.Package.{name_and_range};
 ghost use Rattle.npm_req.specs.Requirement.{meaning_of};
-ghost use Rattle.npm_req.specs.PackageRefusal.{IsRefused};
+ghost use Rattle.npm_req.specs.PackageRefusal.{IsPlaceInRange, IsRefused};
 
 use crate::error::{NpmVersionReqParseError, PackageReqParseError};
 use crate::requirement::VersionReq;
@@ -24,6 +24,7 @@ impl PackageReq {
         ensures read { IfOk result (λ made. meaning_of (name_and_range text.now).1 ≡ Ok made.version_req.meaning) }
         ensures empty { (result ≡ Err PackageReqParseError.EmptyName) ↔ (text.now ≡ []) }
         ensures refused { IfErr result (IsRefused text.now) }
+        ensures place { IfErr result (IsPlaceInRange text.now) }
     {
         if text.is_empty() {
             return Err(PackageReqParseError::EmptyName);

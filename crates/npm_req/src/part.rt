@@ -1,6 +1,7 @@
 // One part of a range: an operator, spaces, a `v`, and a partial version.
 ghost use Rattle.std.specs.Prelude.{◌≡◌, ◌<◌, ◌≤◌, length, Ok, Err, IfOk, IfErr};
-ghost use Rattle.npm_req.specs.Part.{LeavesAtMost, Refuses, after_sign, operator_of, or_equal, part};
+ghost use Rattle.npm_req.specs.Front.{IsEndOf};
+ghost use Rattle.npm_req.specs.Part.{IsInText, Refuses, after_sign, operator_of, or_equal, part};
 
 use crate::comparator::{Comparator, Operator, comparators};
 use crate::error::Refusal;
@@ -14,8 +15,9 @@ use std::alloc::Global;
 pub(crate) fn part(alloc: Global, text: &str) -> Result<(Vec<Comparator>, &str), Refusal>
     ensures read { IfOk result (λ r. part text.now ≡ Ok (r.0.items, r.1.now)) }
     ensures shorter { IfOk result (λ r. length r.1.now < length text.now) }
+    ensures end { IfOk result (λ r. IsEndOf r.1.now text.now) }
     ensures refused { IfErr result (Refuses (part text.now)) }
-    ensures inside { IfErr result (LeavesAtMost (length text.now)) }
+    ensures inside { IfErr result (IsInText text.now) }
 {
     let (operator, rest) = operator_of(text);
     let (word, rest) = word(after_sign(rest));

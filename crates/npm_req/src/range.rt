@@ -1,6 +1,7 @@
 // Ranges: alternatives between `||`, each empty, two partial versions around `-`, or parts between spaces.
 ghost use Rattle.std.specs.Prelude.{◌≡◌, ◌++◌, ◌≤◌, length, option_map, Ok, Err, IfOk, IfErr, IfSome};
-ghost use Rattle.npm_req.specs.Part.{LeavesAtMost, Refuses};
+ghost use Rattle.npm_req.specs.Front.{IsEndOf};
+ghost use Rattle.npm_req.specs.Part.{IsInText, Refuses};
 ghost use Rattle.npm_req.specs.Partial.{IsCounted};
 ghost use Rattle.npm_req.specs.Range.{after_hyphen, alternative, hyphen_of, parts_of, range};
 
@@ -17,7 +18,7 @@ use sugar_path::List;
 pub(crate) fn range(alloc: Global, text: &str) -> Result<List<List<Comparator>>, Refusal>
     ensures read { IfOk result (λ made. range text.now ≡ Ok made) }
     ensures refused { IfErr result (Refuses (range text.now)) }
-    ensures inside { IfErr result (LeavesAtMost (length text.now)) }
+    ensures inside { IfErr result (IsInText text.now) }
 {
     let mut made = Vec::new(alloc);
     let mut rest = text;
@@ -36,8 +37,9 @@ pub(crate) fn range(alloc: Global, text: &str) -> Result<List<List<Comparator>>,
 fn alternative(alloc: Global, text: &str) -> Result<(Vec<Comparator>, &str), Refusal>
     ensures read { IfOk result (λ r. alternative text.now ≡ Ok (r.0.items, r.1.now)) }
     ensures shorter { IfOk result (λ r. length r.1.now ≤ length text.now) }
+    ensures end { IfOk result (λ r. IsEndOf r.1.now text.now) }
     ensures refused { IfErr result (Refuses (alternative text.now)) }
-    ensures inside { IfErr result (LeavesAtMost (length text.now)) }
+    ensures inside { IfErr result (IsInText text.now) }
 {
     let from = after_spaces(text);
     let (first, behind) = word(from);
@@ -64,8 +66,9 @@ fn hyphen_of(alloc: Global, low: Partial, text: &str) -> Result<(Vec<Comparator>
     requires { IsCounted low }
     ensures read { IfOk result (λ r. hyphen_of low text.now ≡ Ok (r.0.items, r.1.now)) }
     ensures shorter { IfOk result (λ r. length r.1.now ≤ length text.now) }
+    ensures end { IfOk result (λ r. IsEndOf r.1.now text.now) }
     ensures refused { IfErr result (Refuses (hyphen_of low text.now)) }
-    ensures inside { IfErr result (LeavesAtMost (length text.now)) }
+    ensures inside { IfErr result (IsInText text.now) }
 {
     let (second, behind) = word(text);
     let Some(high) = partial_of(alloc, second)? else {
@@ -85,8 +88,9 @@ fn hyphen_of(alloc: Global, low: Partial, text: &str) -> Result<(Vec<Comparator>
 fn parts_of(alloc: Global, text: &str) -> Result<(Vec<Comparator>, &str), Refusal>
     ensures read { IfOk result (λ r. parts_of (length text.now) text.now ≡ Ok (r.0.items, r.1.now)) }
     ensures shorter { IfOk result (λ r. length r.1.now ≤ length text.now) }
+    ensures end { IfOk result (λ r. IsEndOf r.1.now text.now) }
     ensures refused { IfErr result (Refuses (parts_of (length text.now) text.now)) }
-    ensures inside { IfErr result (LeavesAtMost (length text.now)) }
+    ensures inside { IfErr result (IsInText text.now) }
 {
     let mut made = Vec::new(alloc);
     let mut rest = text;

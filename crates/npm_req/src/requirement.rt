@@ -2,7 +2,7 @@
 ghost use Rattle.std.specs.Prelude.{◌≡◌, ◌==◌, None, IfOk, IfErr, option_map};
 ghost use Rattle.std.specs.List.{list_all};
 ghost use Rattle.npm_req.specs.Meets.{meets};
-ghost use Rattle.npm_req.specs.Requirement.{IsRefused, is_tag, is_tag_byte, meaning_of, meets_meaning, place_of, tag_of};
+ghost use Rattle.npm_req.specs.Requirement.{IsPlaceIn, IsRefused, is_tag, is_tag_byte, meaning_of, meets_meaning, place_of, tag_of};
 
 use crate::comparator::Comparator;
 use crate::error::{NpmVersionReqParseError, Refusal};
@@ -68,6 +68,7 @@ impl VersionReq {
         ensures text { IfOk result (λ req. req.text ≡ text.now) }
         ensures read { IfOk result (λ req. meaning_of text.now ≡ Ok req.meaning) }
         ensures refused { IfErr result (IsRefused (meaning_of text.now)) }
+        ensures place { IfErr result (IsPlaceIn text.now) }
     {
         let meaning = meaning_of(alloc, text)?;
         Ok(VersionReq {
@@ -117,6 +118,7 @@ fn meets(version: &Version, alternatives: &[List<Comparator>]) -> bool
 fn meaning_of(alloc: Global, text: &str) -> Result<Meaning, NpmVersionReqParseError>
     ensures read { IfOk result (λ meaning. meaning_of text.now ≡ Ok meaning) }
     ensures refused { IfErr result (IsRefused (meaning_of text.now)) }
+    ensures place { IfErr result (IsPlaceIn text.now) }
 {
     let from = after_blanks(text);
     let trimmed = before_blanks(from);
