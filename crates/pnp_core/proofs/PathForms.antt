@@ -1,11 +1,11 @@
 -- A text without `\` has the normal form that it has as a path.
-use Rattle.std.proofs.Common.{◌≡◌, ◌≢◌, ◌==◌, ◌&&◌, ◌||◌, ◌⊎◌, inl, inr, ℕ, zero, suc, ◌+◌, Bool, true, false, not, cond, List, [], ◌∷◌, ◌++◌, length, bytes_eq, refl, sym, ap, ◌∙◌, reverse, replicate, add-one, append-nil, arith, length-append}
+use Rattle.std.proofs.Common.{◌≡◌, ◌≢◌, ◌==◌, ◌&&◌, ◌||◌, ℕ, zero, suc, Bool, true, false, not, cond, List, [], ◌∷◌, ◌++◌, length, bytes_eq, refl, sym, ap, ◌∙◌, reverse, replicate, add-one, arith}
 use Rattle.std.specs.List.{join_with_byte, onto_first, AllByRecursion}
 use Rattle.std.proofs.lemmas.Grind.{reverse_onto}
 use Rattle.std.proofs.lemmas.List.{reverse-append, replicate_more, length-reverse, append_cancel_right}
 use Rattle.std.proofs.lemmas.Slice.Eq.{bytes_eq-Decides}
 use Rattle.sugar_path.specs.Path.{Path, IsName, IsPath, is_absolute, ends_in_slash, parts, by_part, by_parts, parent, is_plain, has_no_slash, steps, text_of}
-use Rattle.sugar_path.specs.Route.{Route, Rooted, Relative, route_up, route_down, route_by_part, route_by_parts, route_start, route_of, route_names, is_rooted, route_parts, route_text, or_dot, place, normal}
+use Rattle.sugar_path.specs.Route.{Route, Rooted, Relative, route_up, route_down, route_by_part, route_by_parts, route_start, route_of, route_names, is_rooted, route_text, or_dot, place, normal}
 use Rattle.sugar_path.specs.Reading.{is_start}
 use Rattle.sugar_path.proofs.Bools.{and_left, and_right}
 use Rattle.sugar_path.proofs.Parts.{HasNoSlash, parts-no_slash}

@@ -129,9 +129,12 @@ fn paths_are_made_absolute(rt: HostRuntime) -> Result<(), Fail> {
 
 #[test]
 fn the_working_folder_is_asked_where_needed(rt: HostRuntime) -> Result<(), Fail> {
-    let known = CwdAnswer::Known(PathBuf::of(rt.alloc(), Path::of_text("/w/x"))?);
-    let found = Path::of_text("a").absolutize(rt.alloc(), &known)?;
-    assert_eq!(rt; found.as_path().bytes(), b"/w/x/a".as_slice());
+    let folder = PathBuf::of(rt.alloc(), Path::of_text("/workspace"))?;
+    let found = Path::of_text("src/lib.rs").absolutize(rt.alloc(), &CwdAnswer::Known(folder))?;
+    assert_eq!(rt;
+        found.as_path().bytes(),
+        b"/workspace/src/lib.rs".as_slice()
+    );
     let found = Path::of_text("/a/").try_absolutize(rt.alloc(), &CwdAnswer::Unknown)?;
     assert_eq!(rt; found.as_path().bytes(), b"/a".as_slice());
     match Path::of_text("a").try_absolutize(rt.alloc(), &CwdAnswer::Unknown) {
