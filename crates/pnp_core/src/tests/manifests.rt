@@ -225,10 +225,34 @@ fn names_are_bound(rt: HostRuntime) -> Result<(), Fail> {
 fn an_undeclared_name_is_told(rt: HostRuntime) -> Result<(), Fail> {
     let manifest = loaded(rt.alloc(), manifest_text())?;
     for (owner, reference, specifier, name, message) in [
-        ("app", "workspace:.", "bar", "bar", undeclared_by_the_application()),
-        ("foo", "npm:1.0.0", "bar/x", "bar", undeclared_by_a_package()),
-        ("app", "workspace:.", "fs", "fs", builtin_of_the_application()),
-        ("foo", "npm:1.0.0", "fs/promises", "fs", builtin_of_a_package()),
+        (
+            "app",
+            "workspace:.",
+            "bar",
+            "bar",
+            undeclared_by_the_application(),
+        ),
+        (
+            "foo",
+            "npm:1.0.0",
+            "bar/x",
+            "bar",
+            undeclared_by_a_package(),
+        ),
+        (
+            "app",
+            "workspace:.",
+            "fs",
+            "fs",
+            builtin_of_the_application(),
+        ),
+        (
+            "foo",
+            "npm:1.0.0",
+            "fs/promises",
+            "fs",
+            builtin_of_a_package(),
+        ),
     ] {
         let owner = locator(rt.alloc(), owner, reference)?;
         let told = undeclared_of(rt.alloc(), &manifest, &owner, specifier, name, "/w/a.js")?;
