@@ -1,0 +1,4 @@
+pub mod Walking
+pub mod Passings
+pub mod Runnings
+pub mod Compiling
