@@ -6,6 +6,8 @@ ghost use Rattle.es_pattern.specs.Tree.{Tree};
 ghost use Rattle.es_pattern.specs.Pieces.{tree_of, with_piece};
 
 use crate::compile;
+use crate::error::PatternError;
+use crate::parse::pieces_of;
 use crate::piece::Piece;
 use std::alloc::{AllocError, Global};
 use std::marker::Model;
@@ -63,6 +65,13 @@ fn copied_pieces(alloc: Global, pieces: &[Piece]) -> Result<Vec<Piece>, AllocErr
 }
 
 impl Pattern {
+    /// The pattern that a text is.
+    pub fn parse(alloc: Global, text: &str) -> Result<Pattern, PatternError> {
+        Ok(Pattern {
+            pieces: pieces_of(alloc, text)?,
+        })
+    }
+
     /// Whether some part of the text, an empty one too, is spanned by the pattern.
     pub fn is_found(&self, alloc: Global, text: &str) -> Result<bool, AllocError>
         ensures { IfOk result (λ found. IsTrue found ↔ IsFound self.now (chars text.now)) }
