@@ -2,3 +2,5 @@ pub mod Walking
 pub mod Passings
 pub mod Runnings
 pub mod Compiling
+pub mod Readers
+pub mod Digits

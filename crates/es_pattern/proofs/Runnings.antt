@@ -27,7 +27,7 @@ below_at [] count at s below h = cc
 below_at (t ∷ program) count zero s below h = let e : t ≡ s = cc in subst (λ (u : Step). IsPassBelow u count) e below.0
 below_at (t ∷ program) count (suc at) s below h = below_at program count at s below.1 h
 
-lt_from : (a b : ℕ) → a ≤ b → (a ≡ b → ⊥) → a < b
+pub lt_from : (a b : ℕ) → a ≤ b → (a ≡ b → ⊥) → a < b
 lt_from a b le apart = grind (arith)
 
 pub lt_or_same : (a b : ℕ) → a ≤ b → (a < b) ⊎ (a ≡ b)

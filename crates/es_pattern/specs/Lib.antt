@@ -6,3 +6,9 @@ pub mod Passing
 pub mod Reaching
 pub mod Compiled
 pub mod Stored
+pub mod Escapes
+pub mod Grammar
+pub mod Reading
+pub mod ReaderView
+pub mod Bounds
+pub mod Parsing

@@ -6,7 +6,7 @@ pub enum Open {
     /// `(` or `(?:`.
     Group,
     /// `(?=`, or `(?!` where `negated`.
-    Lookahead { negated: bool },
+    Ahead { negated: bool },
 }
 
 /// What may stand next in a pattern's text.

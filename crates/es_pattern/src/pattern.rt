@@ -1,9 +1,11 @@
 // A pattern, and whether it is found.
-ghost use Rattle.std.specs.Prelude.{◌≡◌, List, IfOk, ◌↔◌, IsTrue};
+ghost use Rattle.std.specs.Prelude.{◌≡◌, List, IfOk, IfErr, Some, ◌↔◌, IsTrue};
 ghost use Rattle.std.specs.Str.{chars};
 ghost use Rattle.es_pattern.specs.Spans.{IsFound};
 ghost use Rattle.es_pattern.specs.Tree.{Tree};
 ghost use Rattle.es_pattern.specs.Pieces.{tree_of, with_piece};
+ghost use Rattle.es_pattern.specs.Parsing.{StopsBy};
+ghost use Rattle.es_pattern.specs.Reading.{accepted};
 
 use crate::compile;
 use crate::error::PatternError;
@@ -66,7 +68,10 @@ fn copied_pieces(alloc: Global, pieces: &[Piece]) -> Result<Vec<Piece>, AllocErr
 
 impl Pattern {
     /// The pattern that a text is.
-    pub fn parse(alloc: Global, text: &str) -> Result<Pattern, PatternError> {
+    pub fn parse(alloc: Global, text: &str) -> Result<Pattern, PatternError>
+        ensures ok { IfOk result (λ pattern. accepted (chars text.now) ≡ Some pattern) }
+        ensures syntax { IfErr result (StopsBy (chars text.now)) }
+    {
         Ok(Pattern {
             pieces: pieces_of(alloc, text)?,
         })
