@@ -4,3 +4,5 @@ pub mod Runnings
 pub mod Compiling
 pub mod Readers
 pub mod Digits
+pub mod Parsings
+pub mod Sound

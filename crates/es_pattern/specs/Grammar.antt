@@ -32,10 +32,10 @@ pub data Bounds : List ℕ → ℕ → Option ℕ → Type 0 where
 
 -- a quantifier without what makes it lazy
 pub data Mark : ℕ → Option ℕ → List ℕ → List ℕ → Type 0 where
-  star : {rest : List ℕ} → Mark 0 None (42 ∷ rest) rest
-  plus : {rest : List ℕ} → Mark 1 None (43 ∷ rest) rest
-  question : {rest : List ℕ} → Mark 0 (Some 1) (63 ∷ rest) rest
-  braces : (bounds : List ℕ) {rest : List ℕ} {least : ℕ} {most : Option ℕ} → Bounds bounds least most → Mark least most (123 ∷ (bounds ++ 125 ∷ rest)) rest
+  star_mark : {rest : List ℕ} → Mark 0 None (42 ∷ rest) rest
+  plus_mark : {rest : List ℕ} → Mark 1 None (43 ∷ rest) rest
+  question_mark : {rest : List ℕ} → Mark 0 (Some 1) (63 ∷ rest) rest
+  braces_mark : (bounds : List ℕ) {rest : List ℕ} {least : ℕ} {most : Option ℕ} → Bounds bounds least most → Mark least most (123 ∷ (bounds ++ 125 ∷ rest)) rest
 
 -- the text begins with a quantifier in braces
 abbrev pub BeginsBraces : List ℕ → Type 0
@@ -64,20 +64,20 @@ pub data CharEscape : ℕ → List ℕ → List ℕ → Type 0 where
 -- a character of a class that isn't `-`
 pub data ClassChar : ℕ → List ℕ → List ℕ → Type 0 where
   itself : {c : ℕ} {rest : List ℕ} → (c == 93 || c == 92 || c == 45) ≡ false → ClassChar c (c ∷ rest) rest
-  escape : {c : ℕ} {text rest : List ℕ} → CharEscape c text rest → ClassChar c (92 ∷ text) rest
+  class_escape : {c : ℕ} {text rest : List ℕ} → CharEscape c text rest → ClassChar c (92 ∷ text) rest
   backspace : {rest : List ℕ} → ClassChar 8 (92 ∷ 98 ∷ rest) rest
 
 -- such a character, or the `-` with which a class begins
 pub data FirstChar : Bool → ℕ → List ℕ → List ℕ → Type 0 where
-  other : {is_first : Bool} {c : ℕ} {text rest : List ℕ} → ClassChar c text rest → FirstChar is_first c text rest
-  dash : {rest : List ℕ} → FirstChar true 45 (45 ∷ rest) rest
+  other_char : {is_first : Bool} {c : ℕ} {text rest : List ℕ} → ClassChar c text rest → FirstChar is_first c text rest
+  first_dash : {rest : List ℕ} → FirstChar true 45 (45 ∷ rest) rest
 
 -- the items of a class after those whose ranges were read, up to and with `]`
 pub data Items : Bool → List CharRange → List ℕ → List ℕ → List CharRange → Type 0 where
-  none : {is_first : Bool} {ranges : List CharRange} {rest : List ℕ} → Items is_first ranges (93 ∷ rest) rest ranges
+  no_item : {is_first : Bool} {ranges : List CharRange} {rest : List ℕ} → Items is_first ranges (93 ∷ rest) rest ranges
   last_dash : {is_first : Bool} {ranges : List CharRange} {rest : List ℕ} → Items is_first ranges (45 ∷ 93 ∷ rest) rest (ranges ++ range 45 45 ∷ [])
-  one : {is_first : Bool} {ranges all : List CharRange} {c : ℕ} {text mid rest : List ℕ} → FirstChar is_first c text mid → Items false (ranges ++ range c c ∷ []) mid rest all → Items is_first ranges text rest all
-  set : {is_first : Bool} {ranges more all : List CharRange} {letter : ℕ} {text rest : List ℕ} → set_of letter ≡ Some more → Items false (ranges ++ more) text rest all → Items is_first ranges (92 ∷ letter ∷ text) rest all
+  one_char : {is_first : Bool} {ranges all : List CharRange} {c : ℕ} {text mid rest : List ℕ} → FirstChar is_first c text mid → Items false (ranges ++ range c c ∷ []) mid rest all → Items is_first ranges text rest all
+  one_set : {is_first : Bool} {ranges more all : List CharRange} {letter : ℕ} {text rest : List ℕ} → set_of letter ≡ Some more → Items false (ranges ++ more) text rest all → Items is_first ranges (92 ∷ letter ∷ text) rest all
   from_to : {is_first : Bool} {ranges all : List CharRange} {c d : ℕ} {text mid after rest : List ℕ} → FirstChar is_first c text (45 ∷ mid) → ClassChar d mid after → c ≤ d → Items false (ranges ++ range c d ∷ []) after rest all
     → Items is_first ranges text rest all
   to_dash : {is_first : Bool} {ranges : List CharRange} {c : ℕ} {text rest : List ℕ} → FirstChar is_first c text (45 ∷ 45 ∷ 93 ∷ rest) → c ≤ 45 → Items is_first ranges text rest (ranges ++ range c 45 ∷ [])
@@ -96,12 +96,12 @@ pub data Reads : Form → List ℕ → List ℕ → Type 0 where
   -- alternatives, apart by `|`, each of terms
   ends : {before terms : Tree} {rest : List ℕ} → Reads (alternatives before terms (choice before terms)) rest rest
   bar : {before terms result : Tree} {text rest : List ℕ} → Reads (alternatives (choice before terms) nothing result) text rest → Reads (alternatives before terms result) (124 ∷ text) rest
-  next : {before terms t result : Tree} {text mid rest : List ℕ} → Reads (term t) text mid → Reads (alternatives before (sequence terms t) result) mid rest → Reads (alternatives before terms result) text rest
+  followed : {before terms t result : Tree} {text mid rest : List ℕ} → Reads (term t) text mid → Reads (alternatives before (sequence terms t) result) mid rest → Reads (alternatives before terms result) text rest
   -- a term is an assertion, an atom, or an atom and its quantifier, greedy or lazy
   at_start : {rest : List ℕ} → Reads (term text_start) (94 ∷ rest) rest
   at_end : {rest : List ℕ} → Reads (term text_end) (36 ∷ rest) rest
   at_boundary : {rest : List ℕ} → Reads (term (word_boundary false)) (92 ∷ 98 ∷ rest) rest
-  at_none : {rest : List ℕ} → Reads (term (word_boundary true)) (92 ∷ 66 ∷ rest) rest
+  at_no_boundary : {rest : List ℕ} → Reads (term (word_boundary true)) (92 ∷ 66 ∷ rest) rest
   ahead : {t : Tree} {text rest : List ℕ} → Reads (alternatives never nothing t) text (41 ∷ rest) → Reads (term (lookahead false t)) (40 ∷ 63 ∷ 61 ∷ text) rest
   not_ahead : {t : Tree} {text rest : List ℕ} → Reads (alternatives never nothing t) text (41 ∷ rest) → Reads (term (lookahead true t)) (40 ∷ 63 ∷ 33 ∷ text) rest
   once : {t : Tree} {text rest : List ℕ} → Reads (atom t) text rest → Reads (term t) text rest
@@ -116,7 +116,7 @@ pub data Reads : Form → List ℕ → List ℕ → Type 0 where
   set_escape : {letter : ℕ} {ranges : List CharRange} {rest : List ℕ} → set_of letter ≡ Some ranges → Reads (atom (one_of false ranges)) (92 ∷ letter ∷ rest) rest
   char_escape : {c : ℕ} {text rest : List ℕ} → CharEscape c text rest → Reads (atom (char c)) (92 ∷ text) rest
   -- a `{` only where it doesn't begin a quantifier
-  plain : {c : ℕ} {rest : List ℕ} → is_plain c ≡ true → (BeginsBraces (c ∷ rest) → ⊥) → Reads (atom (char c)) (c ∷ rest) rest
+  ordinary : {c : ℕ} {rest : List ℕ} → is_plain c ≡ true → (BeginsBraces (c ∷ rest) → ⊥) → Reads (atom (char c)) (c ∷ rest) rest
 
 -- the text is a pattern with this tree
 abbrev pub IsPattern : List ℕ → Tree → Type 0
