@@ -6,3 +6,4 @@ pub mod Readers
 pub mod Digits
 pub mod Parsings
 pub mod Sound
+pub mod BracesRead

@@ -93,7 +93,7 @@ hex_to (Some greatest) value left r = cond (left == 0) (Some (with_atom (char gr
 
 abbrev pub hex_by : Option ℕ → ℕ → ℕ → Reading → Option Reading
 hex_by None value left r = None
-hex_by (Some d) value left r = cond (nat_lt 0xfff value) None (hex_to (greatest_from (value * 16 + d) (left - 1)) (value * 16 + d) (left - 1) r)
+hex_by (Some d) value left r = cond (nat_lt 0xfff value || (left == 0)) None (hex_to (greatest_from (value * 16 + d) (left - 1)) (value * 16 + d) (left - 1) r)
 
 -- braces that are no quantifier: their characters stand for themselves
 abbrev pub flushed_chars : List ℕ → Reading → Reading
@@ -189,7 +189,7 @@ class_hex_to (Some greatest) first value left r = cond (can_end first greatest) 
 
 abbrev pub class_hex_by : Option ℕ → Option ℕ → ℕ → ℕ → Reading → Option Reading
 class_hex_by None first value left r = None
-class_hex_by (Some d) first value left r = cond (nat_lt 0xfff value) None (class_hex_to (greatest_from (value * 16 + d) (left - 1)) first (value * 16 + d) (left - 1) r)
+class_hex_by (Some d) first value left r = cond (nat_lt 0xfff value || (left == 0)) None (class_hex_to (greatest_from (value * 16 + d) (left - 1)) first (value * 16 + d) (left - 1) r)
 
 -- what a character makes of what was read, by what may stand there
 abbrev pub step_in : Mode → ℕ → Reading → Option Reading

@@ -1,11 +1,11 @@
 // A pattern, and whether it is found.
-ghost use Rattle.std.specs.Prelude.{◌≡◌, List, IfOk, IfErr, Some, ◌↔◌, IsTrue};
+ghost use Rattle.std.specs.Prelude.{◌≡◌, List, IfOk, IfErr, ◌↔◌, IsTrue};
 ghost use Rattle.std.specs.Str.{chars};
 ghost use Rattle.es_pattern.specs.Spans.{IsFound};
 ghost use Rattle.es_pattern.specs.Tree.{Tree};
 ghost use Rattle.es_pattern.specs.Pieces.{tree_of, with_piece};
 ghost use Rattle.es_pattern.specs.Parsing.{StopsBy};
-ghost use Rattle.es_pattern.specs.Reading.{accepted};
+ghost use Rattle.es_pattern.specs.Grammar.{IsPattern};
 
 use crate::compile;
 use crate::error::PatternError;
@@ -68,8 +68,9 @@ fn copied_pieces(alloc: Global, pieces: &[Piece]) -> Result<Vec<Piece>, AllocErr
 
 impl Pattern {
     /// The pattern that a text is.
+    #[tactic(auto, using(crate::proofs::Sound::accepted_is_pattern))]
     pub fn parse(alloc: Global, text: &str) -> Result<Pattern, PatternError>
-        ensures ok { IfOk result (λ pattern. accepted (chars text.now) ≡ Some pattern) }
+        ensures ok { IfOk result (λ pattern. IsPattern (chars text.now) pattern) }
         ensures syntax { IfErr result (StopsBy (chars text.now)) }
     {
         Ok(Pattern {

@@ -276,7 +276,7 @@ impl Reader {
         let Some(digit) = hex_value(c) else {
             return Ok(Taken::No);
         };
-        if value > 0xfff {
+        if value > 0xfff || left == 0 {
             return Ok(Taken::No);
         }
         let value = value * 16 + digit;
@@ -512,7 +512,7 @@ impl Reader {
         let Some(digit) = hex_value(c) else {
             return Ok(Taken::No);
         };
-        if value > 0xfff {
+        if value > 0xfff || left == 0 {
             return Ok(Taken::No);
         }
         let value = value * 16 + digit;
