@@ -1,10 +1,10 @@
 -- Which texts of braces are bounds.
-use Rattle.std.proofs.Common.{◌≡◌, ℕ, zero, suc, ◌+◌, ◌-◌, ◌*◌, ◌<◌, ◌≤◌, Bool, true, false, cond, List, [], ◌∷◌, ◌++◌, inl, inr, length, get_or, take, drop, Option, Some, None, refl, sym, ap, subst, ◌∙◌, arith, add-one}
-use Rattle.std.specs.Prelude.{◌==◌, ◌&&◌, ◌||◌, ◌⊎◌, not, nat_lt, nat_le, position, option_map}
-use Rattle.std.specs.List.{prefix_len, position_or_len, list_any}
+use Rattle.std.proofs.Common.{◌≡◌, ℕ, ◌+◌, ◌-◌, ◌*◌, ◌<◌, ◌≤◌, Bool, true, false, cond, List, [], ◌∷◌, ◌++◌, inl, inr, length, get_or, take, drop, Option, Some, None, refl, sym, ap, subst, ◌∙◌, arith}
+use Rattle.std.specs.Prelude.{◌==◌, ◌⊎◌, nat_lt, nat_le, position, option_map}
+use Rattle.std.specs.List.{position_or_len, list_any}
 use Rattle.std.proofs.lemmas.List.{take_at, drop_at, length-append, take-append-drop, drop_more, append_assoc, append-nil}
 use Rattle.std.proofs.lemmas.List.Quantifiers.{position-Some}
-use Rattle.std.proofs.lemmas.Option.{same_Some, some_pair_parts}
+use Rattle.std.proofs.lemmas.Option.{some_pair_parts}
 use Rattle.std.proofs.lemmas.Bool.{false≢true}
 use Rattle.std.proofs.lemmas.Bool.Decides.{nat_tests}
 use Rattle.es_pattern.specs.Escapes.{is_digit}
@@ -67,10 +67,10 @@ without_comma ds h = rw (no_comma ds h) (rw (same) refl)
 
 seconds : (ds es : List ℕ) → AllDigits ds → bounds_of (ds ++ 44 ∷ es) ≡ second_bounds (number ds) es
 seconds ds es h =
-  ap (λ (o : Option ℕ). bounds_by o (ds ++ 44 ∷ es)) (at_comma ds es h)
-  ∙ ap (λ (xs : List ℕ). second_bounds (number xs) (drop (length ds + 1) (ds ++ 44 ∷ es))) (take_at ds (44 ∷ es) (length ds) refl)
-  ∙ ap (λ (xs : List ℕ). second_bounds (number ds) (drop (length ds + 1) xs)) (sym (append_assoc ds (44 ∷ []) es))
-  ∙ ap (second_bounds (number ds)) (drop_at (ds ++ 44 ∷ []) es (length ds + 1) (omega (arith, length-append ds (44 ∷ []))))
+    ap (λ (o : Option ℕ). bounds_by o (ds ++ 44 ∷ es)) (at_comma ds es h)
+    ∙ ap (λ (xs : List ℕ). second_bounds (number xs) (drop (length ds + 1) (ds ++ 44 ∷ es))) (take_at ds (44 ∷ es) (length ds) refl)
+    ∙ ap (λ (xs : List ℕ). second_bounds (number ds) (drop (length ds + 1) xs)) (sym (append_assoc ds (44 ∷ []) es))
+    ∙ ap (second_bounds (number ds)) (drop_at (ds ++ 44 ∷ []) es (length ds + 1) (omega (arith, length-append ds (44 ∷ []))))
 
 le_holds : (n m : ℕ) → n ≤ m → nat_le n m ≡ true
 le_holds n m h = grind (arith, nat_tests)
@@ -90,7 +90,7 @@ bounds_complete b n m (exactly ds e) = ap (λ (o : Option ℕ). bounds_by o ds) 
 bounds_complete b n m (at_least ds e) = seconds ds [] (number_digits ds n e).0 ∙ ap (option_map unbounded) e
 bounds_complete b n m (between ds [] e f le) = cc f
 bounds_complete b n m (between ds (c ∷ es) {m = k} e f le) =
-  seconds ds (c ∷ es) (number_digits ds n e).0 ∙ ap (λ (o : Option ℕ). pair_bounds o (number (c ∷ es))) e ∙ ap (pair_bounds (Some n)) f ∙ ap (λ (b : Bool). cond b (Some (n, Some k)) None) (le_holds n k le)
+    seconds ds (c ∷ es) (number_digits ds n e).0 ∙ ap (λ (o : Option ℕ). pair_bounds o (number (c ∷ es))) e ∙ ap (pair_bounds (Some n)) f ∙ ap (λ (b : Bool). cond b (Some (n, Some k)) None) (le_holds n k le)
 
 pub bounds_inner : (b : List ℕ) (n : ℕ) (m : Option ℕ) → Bounds b n m → AllInner b
 bounds_inner b n m (exactly ds e) = digits_inner ds (number_digits ds n e).0
@@ -104,32 +104,37 @@ bounds_sound text n m h = by_place (position (λ c. c == 44) text) refl h
     whole : (o : Option ℕ) → number text ≡ o → option_map exact o ≡ Some (n, m) → Bounds text n m
     whole None e g = cc
     whole (Some k) e g =
-      let parts = some_pair_parts k n (Some k) m g in
-      subst (λ (x : ℕ). Bounds text x m) parts.0 (subst (λ (x : Option ℕ). Bounds text k x) parts.1 (exactly text e))
+        let parts = some_pair_parts k n (Some k) m g in
+        subst (λ (x : ℕ). Bounds text x m) parts.0 (subst (λ (x : Option ℕ). Bounds text k x) parts.1 (exactly text e))
+
     open_bound : (ds : List ℕ) (o : Option ℕ) → number ds ≡ o → option_map unbounded o ≡ Some (n, m) → Bounds (ds ++ 44 ∷ []) n m
     open_bound ds None e g = cc
     open_bound ds (Some k) e g =
-      let parts = some_pair_parts k n None m g in
-      subst (λ (x : ℕ). Bounds (ds ++ 44 ∷ []) x m) parts.0 (subst (λ (x : Option ℕ). Bounds (ds ++ 44 ∷ []) k x) parts.1 (at_least ds e))
+        let parts = some_pair_parts k n None m g in
+        subst (λ (x : ℕ). Bounds (ds ++ 44 ∷ []) x m) parts.0 (subst (λ (x : Option ℕ). Bounds (ds ++ 44 ∷ []) k x) parts.1 (at_least ds e))
+
     ordered : (ds es : List ℕ) (k l : ℕ) (b : Bool) → nat_le k l ≡ b → number ds ≡ Some k → number es ≡ Some l → cond b (two_sided k l) None ≡ Some (n, m) → Bounds (ds ++ 44 ∷ es) n m
     ordered ds es k l true le e f g =
-      let parts = some_pair_parts k n (Some l) m g in
-      subst (λ (x : ℕ). Bounds (ds ++ 44 ∷ es) x m) parts.0 (subst (λ (x : Option ℕ). Bounds (ds ++ 44 ∷ es) k x) parts.1 (between ds es e f (grind (arith, nat_tests))))
+        let parts = some_pair_parts k n (Some l) m g in
+        subst (λ (x : ℕ). Bounds (ds ++ 44 ∷ es) x m) parts.0 (subst (λ (x : Option ℕ). Bounds (ds ++ 44 ∷ es) k x) parts.1 (between ds es e f (grind (arith, nat_tests))))
     ordered ds es k l false le e f g = cc
+
     two : (ds es : List ℕ) (o p : Option ℕ) → number ds ≡ o → number es ≡ p → pair_bounds o p ≡ Some (n, m) → Bounds (ds ++ 44 ∷ es) n m
     two ds es None p e f g = cc
     two ds es (Some k) None e f g = cc
     two ds es (Some k) (Some l) e f g = ordered ds es k l (nat_le k l) refl e f g
+
     second : (ds es : List ℕ) → second_bounds (number ds) es ≡ Some (n, m) → Bounds (ds ++ 44 ∷ es) n m
     second ds [] g = open_bound ds (number ds) refl g
     second ds (c ∷ es) g = two ds (c ∷ es) (number ds) (number (c ∷ es)) refl refl g
+
     by_place : (o : Option ℕ) → position (λ c. c == 44) text ≡ o → bounds_by o text ≡ Some (n, m) → Bounds text n m
     by_place None e g = whole (number text) refl g
     by_place (Some k) e g =
-      let at = position-Some (λ c. c == 44) text k 0 e in
-      let comma : get_or text k 0 ≡ 44 = grind (arith, nat_tests) in
-      let split : take k text ++ 44 ∷ drop (k + 1) text ≡ text = ap (λ (c : ℕ). take k text ++ c ∷ drop (k + 1) text) (sym comma) ∙ ap (λ (xs : List ℕ). take k text ++ xs) (sym (drop_more text k 0 at.0)) ∙ take-append-drop k text in
-      subst (λ (xs : List ℕ). Bounds xs n m) split (second (take k text) (drop (k + 1) text) g)
+        let at = position-Some (λ c. c == 44) text k 0 e in
+        let comma : get_or text k 0 ≡ 44 = grind (arith, nat_tests) in
+        let split : take k text ++ 44 ∷ drop (k + 1) text ≡ text = ap (λ (c : ℕ). take k text ++ c ∷ drop (k + 1) text) (sym comma) ∙ ap (λ (xs : List ℕ). take k text ++ xs) (sym (drop_more text k 0 at.0)) ∙ take-append-drop k text in
+        subst (λ (xs : List ℕ). Bounds xs n m) split (second (take k text) (drop (k + 1) text) g)
 
 -- where a list of digits and commas goes on with something else, and another ends in `}`
 compared : (bs b : List ℕ) (c : ℕ) (w rest : List ℕ) → AllInner bs → bs ++ c ∷ w ≡ b ++ 125 ∷ rest → ((b ≡ bs) × (c ≡ 125)) ⊎ ((more : List ℕ) × (b ≡ bs ++ c ∷ more))
@@ -144,6 +149,7 @@ compared (y ∷ bs) (x ∷ b) c w rest h e = by_cases (compared bs b c w rest h.
   where
     heads : x ≡ y
     heads = cc
+
     by_cases : ((b ≡ bs) × (c ≡ 125)) ⊎ ((more : List ℕ) × (b ≡ bs ++ c ∷ more)) → ((x ∷ b ≡ y ∷ bs) × (c ≡ 125)) ⊎ ((more : List ℕ) × (x ∷ b ≡ y ∷ bs ++ c ∷ more))
     by_cases (inl s) = inl (cc (heads, s.0), s.1)
     by_cases (inr s) = inr (s.0, cc (heads, s.1))
@@ -163,6 +169,7 @@ comma_or_digit (d ∷ ds) es (y ∷ bs) c more hd he e = by_cases (comma_or_digi
   where
     heads : d ≡ y
     heads = cc
+
     by_cases : (is_digit c ≡ true) ⊎ ((c ≡ 44) × (bs ≡ ds)) → (is_digit c ≡ true) ⊎ ((c ≡ 44) × (y ∷ bs ≡ d ∷ ds))
     by_cases (inl h) = inl h
     by_cases (inr h) = inr (h.0, cc (heads, h.1))
@@ -186,7 +193,7 @@ goes_on : (b bs : List ℕ) (c : ℕ) (more : List ℕ) (n : ℕ) (m : Option �
 goes_on b bs c more n m (exactly ds f) e = rw (digit_in ds bs c more (number_digits ds n f).0 e) refl
 goes_on b bs c more n m (at_least ds f) e = let d = number_digits ds n f in allowed bs ds c d.0 d.1 (comma_or_digit ds [] bs c more d.0 tt e)
 goes_on b bs c more n m (between ds es {m = k} f g le) e =
-  let d = number_digits ds n f in allowed bs ds c d.0 d.1 (comma_or_digit ds es bs c more d.0 (number_digits es k g).0 e)
+    let d = number_digits ds n f in allowed bs ds c d.0 d.1 (comma_or_digit ds es bs c more d.0 (number_digits es k g).0 e)
 
 -- braces that can't go on so, and that don't end here as bounds, are no quantifier
 pub breaks : (bs : List ℕ) (c : ℕ) (w : List ℕ) → AllInner bs → is_inner bs c ≡ false → (c ≡ 125 → bounds_of bs ≡ None) → BeginsBraces (123 ∷ (bs ++ c ∷ w)) → ⊥
@@ -212,5 +219,5 @@ ends_short (y ∷ bs) (x ∷ b) rest h e = ends_short bs b rest h.1 cc
 
 pub breaks_at_end : (bs : List ℕ) → AllInner bs → BeginsBraces (123 ∷ (bs ++ [])) → ⊥
 breaks_at_end bs h (b, rest, n, m, bounds, e) =
-  let tails : bs ++ [] ≡ b ++ 125 ∷ rest = cc in
-  ends_short bs b rest h (sym (append-nil bs) ∙ tails)
+    let tails : bs ++ [] ≡ b ++ 125 ∷ rest = cc in
+    ends_short bs b rest h (sym (append-nil bs) ∙ tails)

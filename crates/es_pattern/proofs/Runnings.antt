@@ -1,11 +1,11 @@
 -- Runs of a program over a text.
-use Rattle.std.proofs.Common.{◌≡◌, ℕ, zero, suc, ◌+◌, ◌-◌, ◌*◌, ◌<◌, ◌≤◌, Bool, true, false, cond, List, [], ◌∷◌, ◌++◌, ◌⊎◌, inl, inr, length, get_or, set, take, replicate, Option, Some, None, refl, sym, ap, subst, ◌∙◌, arith, length-append}
+use Rattle.std.proofs.Common.{◌≡◌, ℕ, zero, suc, ◌+◌, ◌-◌, ◌<◌, ◌≤◌, Bool, true, false, cond, List, [], ◌∷◌, ◌++◌, ◌⊎◌, inl, inr, length, get_or, set, take, replicate, Option, Some, None, refl, sym, ap, subst, ◌∙◌, arith, length-append}
 use Rattle.std.specs.Prelude.{slice_get, OnOk, Result, Ok, Err, Contains, ◌==◌, nat_le}
 use Rattle.std.specs.List.{sum_by}
 use Rattle.std.proofs.lemmas.List.{length-set, length-replicate}
 use Rattle.std.proofs.lemmas.Bool.{cases_eq}
 use Rattle.std.proofs.lemmas.Bool.Decides.{nat_tests}
-use Rattle.std.proofs.lemmas.Option.{slice_get_within, slice_get-get_or, slice_get_read}
+use Rattle.std.proofs.lemmas.Option.{slice_get_within, slice_get_read}
 use Rattle.std.proofs.lemmas.List.Elements.{Contains-append_left, Contains-append_right, Contains-append_cases, Contains-push, Contains-push_cases}
 use Rattle.es_pattern.specs.declared.step.Step.{Step}
 use Rattle.es_pattern.specs.declared.step.Step.TheVariants.{Pass, Fork, Jump, Back}
@@ -16,9 +16,9 @@ use Rattle.es_pattern.specs.declared.run.Settled.{Settled}
 use Rattle.std.specs.Global.{Vec}
 use Rattle.es_pattern.specs.Tree.{Tree}
 use Rattle.es_pattern.specs.Spans.{Spans}
-use Rattle.es_pattern.specs.Pieces.{tree_at, top, with_piece, with_pieces}
+use Rattle.es_pattern.specs.Pieces.{top, with_piece, with_pieces}
 use Rattle.es_pattern.specs.Program.{Does, Goes, Runs}
-use Rattle.es_pattern.specs.Passing.{IsSingle, PassesPiece, PassesTo}
+use Rattle.es_pattern.specs.Passing.{IsSingle, PassesPiece}
 use Rattle.es_pattern.specs.Reaching.{Advances, Ends, FromSome, IsPassBelow, PassesBelow, Reaches, Settles, if_within, same_place, next_place, with_start}
 use Rattle.es_pattern.proofs.Passings.{tree_at_is}
 
@@ -79,23 +79,25 @@ module _ (passes : ℕ → ℕ → ℕ → Type 0) (program : List Step) (at : �
   -- appending lists of next steps, each of which the step goes to, and which are all
   module _ (size place : ℕ) (waiting next xs ys : List ℕ) where
     appended : ((q : ℕ) → Contains xs q → Goes passes program at place q place) → ((q : ℕ) → Contains ys q → Goes passes program at place q (place + 1) × (place < size))
-      → ((q j : ℕ) → Goes passes program at place q j → q ≤ length program → ((j ≡ place) × Contains xs q) ⊎ ((j ≡ place + 1) × Contains ys q)) → length xs ≤ 2
-      → Advances passes program size at place waiting next (waiting ++ xs) (next ++ ys)
+        → ((q j : ℕ) → Goes passes program at place q j → q ≤ length program → ((j ≡ place) × Contains xs q) ⊎ ((j ≡ place + 1) × Contains ys q)) → length xs ≤ 2
+        → Advances passes program size at place waiting next (waiting ++ xs) (next ++ ys)
     appended same later all few = record {
       waits = λ q h. Contains-append_left waiting xs q h;
       comes = λ q h. Contains-append_left next ys q h;
       waits_by = λ q h. by_same q (Contains-append_cases waiting xs q h);
       comes_by = λ q h. by_later q (Contains-append_cases next ys q h);
       all = λ q j g le. by_all q j (all q j g le);
-      few = omega (arith, few, length-append waiting xs)
+      few = omega (arith, few, length-append waiting xs);
     }
       where
         by_same : (q : ℕ) → Contains waiting q ⊎ Contains xs q → Contains waiting q ⊎ Goes passes program at place q place
         by_same q (inl h) = inl h
         by_same q (inr h) = inr (same q h)
+
         by_later : (q : ℕ) → Contains next q ⊎ Contains ys q → Contains next q ⊎ (Goes passes program at place q (place + 1) × (place < size))
         by_later q (inl h) = inl h
         by_later q (inr h) = inr (later q h)
+
         by_all : (q j : ℕ) → ((j ≡ place) × Contains xs q) ⊎ ((j ≡ place + 1) × Contains ys q) → ((j ≡ place) × Contains (waiting ++ xs) q) ⊎ ((j ≡ place + 1) × Contains (next ++ ys) q)
         by_all q j (inl h) = inl (h.0, Contains-append_right waiting xs q h.1)
         by_all q j (inr h) = inr (h.0, Contains-append_right next ys q h.1)
@@ -126,41 +128,43 @@ few_within size x = by_test (nat_le x size)
 
 -- the steps after one, appended
 pub advances : (pieces : List Piece) (text : List ℕ) (program : List Step) (at place : ℕ) (s : Step) (end : Option ℕ) (waiting next : List ℕ) → slice_get program at ≡ Some s → Ends pieces text place s end
-  → Advances (PassesPiece pieces text) program (length text) at place waiting next (waiting ++ same_place s at (length program) end place) (next ++ next_place s at end place)
+    → Advances (PassesPiece pieces text) program (length text) at place waiting next (waiting ++ same_place s at (length program) end place) (next ++ next_place s at end place)
 advances pieces text program at place (Pass number) None waiting next h ends =
-  appended (PassesPiece pieces text) program at (Pass number) h (length text) place waiting next [] []
+    appended (PassesPiece pieces text) program at (Pass number) h (length text) place waiting next [] []
     (λ q n. none_later q n) (λ q n. none_later q n)
     (λ q j g le. absurd (ends j (does_by (PassesPiece pieces text) program at (Pass number) h place q j g).1)) (omega arith)
 advances pieces text program at place (Pass number) (Some end) waiting next h ends = by_test (end == place) refl
   where
     passes : ℕ → ℕ → ℕ → Type 0
     passes = PassesPiece pieces text
+
     further : (end ≡ place) ⊎ ((end ≡ place + 1) × (place < length text)) → end == place ≡ false → (end ≡ place + 1) × (place < length text)
     further (inl e) apart = absurd (grind (arith, nat_tests))
     further (inr e) apart = e
+
     by_test : (b : Bool) → end == place ≡ b → Advances (PassesPiece pieces text) program (length text) at place waiting next (waiting ++ cond b ((at + 1) ∷ []) []) (next ++ cond b [] ((at + 1) ∷ []))
     by_test true yes_ =
-      let same : end ≡ place = grind (arith, nat_tests) in
-      appended (PassesPiece pieces text) program at (Pass number) h (length text) place waiting next ((at + 1) ∷ []) []
+        let same : end ≡ place = grind (arith, nat_tests) in
+        appended (PassesPiece pieces text) program at (Pass number) h (length text) place waiting next ((at + 1) ∷ []) []
         (λ q n. goes_by (PassesPiece pieces text) program at (Pass number) h place q place (omega (arith, contains_one (at + 1) q n), subst (λ (x : ℕ). PassesPiece pieces text number place x) same ends.0))
         (λ q n. none_later q n)
         (λ q j g le. let d = does_by (PassesPiece pieces text) program at (Pass number) h place q j g in inl (ends.1 j d.1 ∙ same, is_one (at + 1) q (omega (arith, d.0))))
         (omega arith)
     by_test false no_ =
-      let far = further (ends_near pieces text number place end ends.0) no_ in
-      appended (PassesPiece pieces text) program at (Pass number) h (length text) place waiting next [] ((at + 1) ∷ [])
+        let far = further (ends_near pieces text number place end ends.0) no_ in
+        appended (PassesPiece pieces text) program at (Pass number) h (length text) place waiting next [] ((at + 1) ∷ [])
         (λ q n. none_later q n)
         (λ q n. (goes_by (PassesPiece pieces text) program at (Pass number) h place q (place + 1) (omega (arith, contains_one (at + 1) q n), subst (λ (x : ℕ). PassesPiece pieces text number place x) far.0 ends.0), far.1))
         (λ q j g le. let d = does_by (PassesPiece pieces text) program at (Pass number) h place q j g in inr (ends.1 j d.1 ∙ far.0, is_one (at + 1) q (omega (arith, d.0))))
         (omega arith)
 advances pieces text program at place (Jump by) end waiting next h ends =
-  appended (PassesPiece pieces text) program at (Jump by) h (length text) place waiting next (if_within (length program) (at + by)) []
+    appended (PassesPiece pieces text) program at (Jump by) h (length text) place waiting next (if_within (length program) (at + by)) []
     (λ q n. goes_by (PassesPiece pieces text) program at (Jump by) h place q place (sym (within_is (length program) (at + by) q n), refl))
     (λ q n. none_later q n)
     (λ q j g le. let d = does_by (PassesPiece pieces text) program at (Jump by) h place q j g in inl (d.1, is_within_size (length program) (at + by) q (sym d.0) le))
     (omega (arith, few_within (length program) (at + by)))
 advances pieces text program at place (Fork by) end waiting next h ends =
-  appended (PassesPiece pieces text) program at (Fork by) h (length text) place waiting next ((at + 1) ∷ if_within (length program) (at + by)) []
+    appended (PassesPiece pieces text) program at (Fork by) h (length text) place waiting next ((at + 1) ∷ if_within (length program) (at + by)) []
     (λ q n. goes_by (PassesPiece pieces text) program at (Fork by) h place q place (forked q (Contains-append_cases ((at + 1) ∷ []) (if_within (length program) (at + by)) q n), refl))
     (λ q n. none_later q n)
     (λ q j g le. let d = does_by (PassesPiece pieces text) program at (Fork by) h place q j g in inl (d.1, found q le d.0))
@@ -169,6 +173,7 @@ advances pieces text program at place (Fork by) end waiting next h ends =
     forked : (q : ℕ) → Contains ((at + 1) ∷ []) q ⊎ Contains (if_within (length program) (at + by)) q → (q ≡ suc at) ⊎ (q ≡ at + by)
     forked q (inl n) = inl (omega (arith, contains_one (at + 1) q n))
     forked q (inr n) = inr (sym (within_is (length program) (at + by) q n))
+
     found : (q : ℕ) → q ≤ length program → (q ≡ suc at) ⊎ (q ≡ at + by) → Contains ((at + 1) ∷ if_within (length program) (at + by)) q
     found q le (inl e) = Contains-append_left ((at + 1) ∷ []) (if_within (length program) (at + by)) q (is_one (at + 1) q (omega (arith, e)))
     found q le (inr e) = Contains-append_right ((at + 1) ∷ []) (if_within (length program) (at + by)) q (is_within_size (length program) (at + by) q (sym e) le)
@@ -176,23 +181,23 @@ advances pieces text program at place (Back by) end waiting next h ends = by_tes
   where
     by_test : (b : Bool) → nat_le by at ≡ b → Advances (PassesPiece pieces text) program (length text) at place waiting next (waiting ++ cond b ((at - by) ∷ []) []) (next ++ [])
     by_test true yes_ =
-      let le : by ≤ at = grind (arith, nat_tests) in
-      appended (PassesPiece pieces text) program at (Back by) h (length text) place waiting next ((at - by) ∷ []) []
+        let le : by ≤ at = grind (arith, nat_tests) in
+        appended (PassesPiece pieces text) program at (Back by) h (length text) place waiting next ((at - by) ∷ []) []
         (λ q n. goes_by (PassesPiece pieces text) program at (Back by) h place q place (omega (arith, le, contains_one (at - by) q n), refl))
         (λ q n. none_later q n)
         (λ q j g within. let d = does_by (PassesPiece pieces text) program at (Back by) h place q j g in inl (d.1, is_one (at - by) q (omega (arith, d.0, le))))
         (omega arith)
     by_test false no_ =
-      let gt : at < by = grind (arith, nat_tests) in
-      appended (PassesPiece pieces text) program at (Back by) h (length text) place waiting next [] []
+        let gt : at < by = grind (arith, nat_tests) in
+        appended (PassesPiece pieces text) program at (Back by) h (length text) place waiting next [] []
         (λ q n. none_later q n) (λ q n. none_later q n)
         (λ q j g within. let d = does_by (PassesPiece pieces text) program at (Back by) h place q j g in absurd (omega (arith, d.0, gt)))
         (omega arith)
 
 pub advances_if : {T E : Type 0} (r : Result T E) (passes : ℕ → ℕ → ℕ → Type 0) (program : List Step) (size at place : ℕ) (waiting next xs ys waiting' next' : List ℕ) → OnOk r ((waiting' ≡ xs) × (next' ≡ ys))
-  → Advances passes program size at place waiting next xs ys → OnOk r (Advances passes program size at place waiting next waiting' next')
+    → Advances passes program size at place waiting next xs ys → OnOk r (Advances passes program size at place waiting next waiting' next')
 advances_if (Ok x) passes program size at place waiting next xs ys waiting' next' h a =
-  subst (λ (v : List ℕ). Advances passes program size at place waiting next v next') (sym h.0) (subst (λ (v : List ℕ). Advances passes program size at place waiting next xs v) (sym h.1) a)
+    subst (λ (v : List ℕ). Advances passes program size at place waiting next v next') (sym h.0) (subst (λ (v : List ℕ). Advances passes program size at place waiting next xs v) (sym h.1) a)
 advances_if (Err e) passes program size at place waiting next xs ys waiting' next' h a = h
 
 abbrev pub IsSeen : List Bool → ℕ → Type 0
@@ -253,7 +258,7 @@ module _ (passes : ℕ → ℕ → ℕ → Type 0) (program : List Step) (size :
     comes_by = λ q n h r. absurd (contains_none q h);
     within = λ q h. absurd (contains_none q h);
     closed = λ at q j seen g le. absurd (none_seen (length program) at seen);
-    kept = λ q h le. inl h
+    kept = λ q h le. inl h;
   }
 
   pub popping : (whole waiting : List ℕ) (at : ℕ) (seen : List Bool) (next : List ℕ) → whole ≡ waiting ++ at ∷ [] → Settling passes program size first place whole seen next → Settling passes program size first place (waiting ++ at ∷ []) seen next
@@ -271,18 +276,20 @@ module _ (passes : ℕ → ℕ → ℕ → Type 0) (program : List Step) (size :
       comes_by = s.comes_by;
       within = s.within;
       closed = λ b q j h g le. by_place q j le (s.closed b q j h g le);
-      kept = λ q h le. by_list q le (s.kept q h le)
+      kept = λ q h le. by_list q le (s.kept q h le);
     }
       where
         popped : (q : ℕ) → q ≤ length program → Contains waiting q ⊎ (at ≡ q) → Contains waiting q ⊎ IsSeen seen q
         popped q le (inl h) = inl h
         popped q le (inr e) =
-          let apart : at ≡ length program → ⊥ = no_end in
-          let lt : at < length program = lt_from at (length program) (omega (arith, e, le)) apart in
-          inr (subst (λ (x : ℕ). IsSeen seen x) e (was lt))
+            let apart : at ≡ length program → ⊥ = no_end in
+            let lt : at < length program = lt_from at (length program) (omega (arith, e, le)) apart in
+            inr (subst (λ (x : ℕ). IsSeen seen x) e (was lt))
+
         by_list : (q : ℕ) → q ≤ length program → Contains (waiting ++ at ∷ []) q ⊎ IsSeen seen q → Contains waiting q ⊎ IsSeen seen q
         by_list q le (inl h) = popped q le (Contains-push_cases waiting at q h)
         by_list q le (inr h) = inr h
+
         by_place : (q j : ℕ) → q ≤ length program → ((j ≡ place) × (Contains (waiting ++ at ∷ []) q ⊎ IsSeen seen q)) ⊎ ((j ≡ place + 1) × Contains next q) → ((j ≡ place) × (Contains waiting q ⊎ IsSeen seen q)) ⊎ ((j ≡ place + 1) × Contains next q)
         by_place q j le (inl h) = inl (h.0, by_list q le h.1)
         by_place q j le (inr h) = inr h
@@ -295,32 +302,40 @@ module _ (passes : ℕ → ℕ → ℕ → Type 0) (program : List Step) (size :
       comes_by = λ q n h r. from_next q n r (a.comes_by q h);
       within = λ q h. within_by q (a.comes_by q h);
       closed = λ b q j h g le. by_seen b q j g le (seen_before seen at b h);
-      kept = λ q h le. moved q (s.kept q h le)
+      kept = λ q h le. moved q (s.kept q h le);
     }
       where
         from_waiting : (q n : ℕ) → Runs passes program n q place → Contains waiting q ⊎ Goes passes program at place q place → FromSome passes program first place
         from_waiting q n r (inl h) = s.waits_by q n (Contains-append_left waiting (at ∷ []) q h) r
         from_waiting q n r (inr g) = s.waits_by at (suc n) (Contains-push waiting at) (q, place, g, r)
+
         from_next : (q n : ℕ) → Runs passes program n q (place + 1) → Contains next q ⊎ (Goes passes program at place q (place + 1) × (place < size)) → FromSome passes program first place
         from_next q n r (inl h) = s.comes_by q n h r
         from_next q n r (inr g) = s.waits_by at (suc n) (Contains-push waiting at) (q, place + 1, g.0, r)
+
         within_by : (q : ℕ) → Contains next q ⊎ (Goes passes program at place q (place + 1) × (place < size)) → place < size
         within_by q (inl h) = s.within q h
         within_by q (inr g) = g.1
+
         here : IsSeen (set seen at true) at
         here = seen_there seen at (omega (arith, lt, s.same))
+
         popped : (q : ℕ) → Contains waiting q ⊎ (at ≡ q) → Contains waiting' q ⊎ IsSeen (set seen at true) q
         popped q (inl h) = inl (a.waits q h)
         popped q (inr e) = inr (subst (λ (x : ℕ). IsSeen (set seen at true) x) e here)
+
         moved : (q : ℕ) → Contains (waiting ++ at ∷ []) q ⊎ IsSeen seen q → Contains waiting' q ⊎ IsSeen (set seen at true) q
         moved q (inl h) = popped q (Contains-push_cases waiting at q h)
         moved q (inr h) = inr (seen_still seen at q h)
+
         by_place : (q j : ℕ) → ((j ≡ place) × (Contains (waiting ++ at ∷ []) q ⊎ IsSeen seen q)) ⊎ ((j ≡ place + 1) × Contains next q) → ((j ≡ place) × (Contains waiting' q ⊎ IsSeen (set seen at true) q)) ⊎ ((j ≡ place + 1) × Contains next' q)
         by_place q j (inl h) = inl (h.0, moved q h.1)
         by_place q j (inr h) = inr (h.0, a.comes q h.1)
+
         by_new : (q j : ℕ) → ((j ≡ place) × Contains waiting' q) ⊎ ((j ≡ place + 1) × Contains next' q) → ((j ≡ place) × (Contains waiting' q ⊎ IsSeen (set seen at true) q)) ⊎ ((j ≡ place + 1) × Contains next' q)
         by_new q j (inl h) = inl (h.0, inl h.1)
         by_new q j (inr h) = inr h
+
         by_seen : (b q j : ℕ) → Goes passes program b place q j → q ≤ length program → (at ≡ b) ⊎ IsSeen seen b → ((j ≡ place) × (Contains waiting' q ⊎ IsSeen (set seen at true) q)) ⊎ ((j ≡ place + 1) × Contains next' q)
         by_seen b q j g le (inl e) = by_new q j (a.all q j (subst (λ (x : ℕ). Goes passes program x place q j) (sym e) g) le)
         by_seen b q j g le (inr h) = by_place q j (s.closed b q j h g le)
@@ -328,7 +343,7 @@ module _ (passes : ℕ → ℕ → ℕ → Type 0) (program : List Step) (size :
   -- where none waits any more, the steps at the next place have all
   module _ (seen : List Bool) (next : List ℕ) (s : Settling passes program size first place [] seen next) where
     onward_by : (n : ℕ) → ((q : ℕ) → IsSeen seen q → Runs passes program n q place → FromSome passes program next (place + 1))
-      → (b j : ℕ) → Runs passes program n b j → ((j ≡ place) × (Contains [] b ⊎ IsSeen seen b)) ⊎ ((j ≡ place + 1) × Contains next b) → FromSome passes program next (place + 1)
+        → (b j : ℕ) → Runs passes program n b j → ((j ≡ place) × (Contains [] b ⊎ IsSeen seen b)) ⊎ ((j ≡ place + 1) × Contains next b) → FromSome passes program next (place + 1)
     onward_by n again b j t (inl c) = by_list (subst (λ (x : ℕ). Runs passes program n b x) c.0 t) c.1
       where
         by_list : Runs passes program n b place → Contains [] b ⊎ IsSeen seen b → FromSome passes program next (place + 1)
@@ -369,31 +384,34 @@ module _ (passes : ℕ → ℕ → ℕ → Type 0) (program : List Step) (size f
   seeking_start place le = record {
     sound = λ q n h r. absurd (contains_none q h);
     complete = λ i n low high below r. absurd (omega (arith, low, high, le));
-    within = λ q h. absurd (contains_none q h)
+    within = λ q h. absurd (contains_none q h);
   }
 
   module _ (place : ℕ) (waiting : List ℕ) (s : Seeking passes program size first last place waiting) where
     pub started_here : first ≤ place → place ≤ last → Started passes program first last place (waiting ++ 0 ∷ [])
     started_here low high = record {
       sound = λ q n h r. by_list q n r (Contains-push_cases waiting 0 q h);
-      complete = λ i n from to upto r. by_place i n from upto r to
+      complete = λ i n from to upto r. by_place i n from upto r to;
     }
       where
         by_list : (q n : ℕ) → Runs passes program n q place → Contains waiting q ⊎ (0 ≡ q) → Reaches passes program first last
         by_list q n r (inl h) = s.sound q n h r
         by_list q n r (inr e) = (place, n, low, high, subst (λ (x : ℕ). Runs passes program n x place) (sym e) r)
+
         widened : FromSome passes program waiting place → FromSome passes program (waiting ++ 0 ∷ []) place
         widened f = (f.0, f.1, Contains-append_left waiting (0 ∷ []) f.0 f.2, f.3)
+
         by_order : (i n : ℕ) → first ≤ i → i ≤ last → Runs passes program n 0 i → (i < place) ⊎ (i ≡ place) → FromSome passes program (waiting ++ 0 ∷ []) place
         by_order i n from upto r (inl lt) = widened (s.complete i n from lt upto r)
         by_order i n from upto r (inr e) = (0, n, Contains-push waiting 0, subst (λ (x : ℕ). Runs passes program n 0 x) e r)
+
         by_place : (i n : ℕ) → first ≤ i → i ≤ last → Runs passes program n 0 i → i ≤ place → FromSome passes program (waiting ++ 0 ∷ []) place
         by_place i n from upto r to = by_order i n from upto r (lt_or_same i place to)
 
     pub started_before : last < place → Started passes program first last place waiting
     started_before beyond = record {
       sound = s.sound;
-      complete = λ i n from to upto r. s.complete i n from (omega (arith, upto, beyond)) upto r
+      complete = λ i n from to upto r. s.complete i n from (omega (arith, upto, beyond)) upto r;
     }
 
     pub started : first ≤ place → (waiting' : List ℕ) → waiting' ≡ with_start waiting place last → Started passes program first last place waiting'
@@ -412,14 +430,14 @@ module _ (passes : ℕ → ℕ → ℕ → Type 0) (program : List Step) (size f
 
     pub settled_reached : (lent : List ℕ) → lent ≡ waiting → (settled : Settled) → settled ≡ Reached → Settles passes program size lent place settled → Reaches passes program first last
     settled_reached lent e settled is h =
-      let at_end : FromSome passes program lent place = subst (λ (x : Settled). Settles passes program size lent place x) is h in
-      started_reached (subst (λ (w : List ℕ). FromSome passes program w place) e at_end)
+        let at_end : FromSome passes program lent place = subst (λ (x : Settled). Settles passes program size lent place x) is h in
+        started_reached (subst (λ (w : List ℕ). FromSome passes program w place) e at_end)
 
     pub seeking_next : (next : Vec ℕ) → (lent : List ℕ) → lent ≡ waiting → (settled : Settled) → settled ≡ Waiting next → Settles passes program size lent place settled → Seeking passes program size first last (place + 1) next.items
     seeking_next next lent e settled is g =
-      let h : Settles passes program size waiting place (Waiting next) = subst (λ (w : List ℕ). Settles passes program size w place (Waiting next)) e (subst (λ (x : Settled). Settles passes program size lent place x) is g) in
-      record {
-      sound = λ q n c r. started_reached (h.1 (q, n, c, r));
-      complete = λ i n from to upto r. h.0 (s.complete i n from (omega (arith, to)) upto r);
-      within = λ q c. omega (arith, h.2 q c)
-    }
+        let h : Settles passes program size waiting place (Waiting next) = subst (λ (w : List ℕ). Settles passes program size w place (Waiting next)) e (subst (λ (x : Settled). Settles passes program size lent place x) is g) in
+        record {
+          sound = λ q n c r. started_reached (h.1 (q, n, c, r));
+          complete = λ i n from to upto r. h.0 (s.complete i n from (omega (arith, to)) upto r);
+          within = λ q c. omega (arith, h.2 q c);
+        }

@@ -1,5 +1,5 @@
 -- What escapes stand for, as in ECMAScript, and the numbers in patterns.
-use Rattle.std.specs.Prelude.{◌≡◌, ℕ, zero, suc, ◌+◌, ◌-◌, ◌*◌, ◌≤◌, ◌&&◌, ◌||◌, ◌==◌, Bool, true, false, cond, nat_le, List, [], ◌∷◌, Option, Some, None}
+use Rattle.std.specs.Prelude.{ℕ, ◌-◌, ◌&&◌, ◌||◌, ◌==◌, Bool, cond, nat_le, List, [], ◌∷◌, Option, Some, None}
 use Rattle.es_pattern.specs.Tree.{CharRange}
 
 -- the characters from the one to the other
@@ -17,10 +17,10 @@ set_of letter =
     (cond (letter == 119) (Some (range 48 57 ∷ range 65 90 ∷ range 95 95 ∷ range 97 122 ∷ []))
     (cond (letter == 87) (Some (range 0 47 ∷ range 58 64 ∷ range 91 94 ∷ range 96 96 ∷ range 123 0x10ffff ∷ []))
     (cond (letter == 115)
-      (Some (range 9 13 ∷ range 0x20 0x20 ∷ range 0xa0 0xa0 ∷ range 0x1680 0x1680 ∷ range 0x2000 0x200a ∷ range 0x2028 0x2029 ∷ range 0x202f 0x202f ∷ range 0x205f 0x205f ∷ range 0x3000 0x3000 ∷ range 0xfeff 0xfeff ∷ []))
+    (Some (range 9 13 ∷ range 0x20 0x20 ∷ range 0xa0 0xa0 ∷ range 0x1680 0x1680 ∷ range 0x2000 0x200a ∷ range 0x2028 0x2029 ∷ range 0x202f 0x202f ∷ range 0x205f 0x205f ∷ range 0x3000 0x3000 ∷ range 0xfeff 0xfeff ∷ []))
     (cond (letter == 83)
-      (Some (range 0 8 ∷ range 0xe 0x1f ∷ range 0x21 0x9f ∷ range 0xa1 0x167f ∷ range 0x1681 0x1fff ∷ range 0x200b 0x2027 ∷ range 0x202a 0x202e ∷ range 0x2030 0x205e ∷ range 0x2060 0x2fff ∷ range 0x3001 0xfefe ∷ range 0xff00 0x10ffff ∷ []))
-      None)))))
+    (Some (range 0 8 ∷ range 0xe 0x1f ∷ range 0x21 0x9f ∷ range 0xa1 0x167f ∷ range 0x1681 0x1fff ∷ range 0x200b 0x2027 ∷ range 0x202a 0x202e ∷ range 0x2030 0x205e ∷ range 0x2060 0x2fff ∷ range 0x3001 0xfefe ∷ range 0xff00 0x10ffff ∷ []))
+    None)))))
 
 abbrev pub is_punctuation : ℕ → Bool
 is_punctuation c = nat_le 33 c && nat_le c 47 || nat_le 58 c && nat_le c 64 || nat_le 91 c && nat_le c 96 || nat_le 123 c && nat_le c 126

@@ -1,6 +1,6 @@
 -- The grammar of patterns, over the characters of their texts, after ECMAScript's without flags. Limits are left out.
 -- Each relation is between a text and what is left of it: the text begins with such a thing, and the rest follows.
-use Rattle.std.specs.Prelude.{◌≡◌, ℕ, zero, suc, ◌+◌, ◌-◌, ◌*◌, ◌≤◌, ◌<◌, ◌&&◌, ◌||◌, ◌==◌, Bool, true, false, not, cond, nat_le, List, [], ◌∷◌, ◌++◌, Option, Some, None}
+use Rattle.std.specs.Prelude.{◌≡◌, ℕ, zero, suc, ◌+◌, ◌-◌, ◌*◌, ◌≤◌, ◌||◌, ◌==◌, Bool, true, false, not, cond, List, [], ◌∷◌, ◌++◌, Option, Some, None}
 use Rattle.es_pattern.specs.Tree.{Tree, CharRange, nothing, one_of, text_start, text_end, word_boundary, sequence, choice, repetition, lookahead}
 use Rattle.es_pattern.specs.Escapes.{range, is_digit, set_of, escaped, hex_value, is_surrogate}
 
@@ -79,7 +79,7 @@ pub data Items : Bool → List CharRange → List ℕ → List ℕ → List Char
   one_char : {is_first : Bool} {ranges all : List CharRange} {c : ℕ} {text mid rest : List ℕ} → FirstChar is_first c text mid → Items false (ranges ++ range c c ∷ []) mid rest all → Items is_first ranges text rest all
   one_set : {is_first : Bool} {ranges more all : List CharRange} {letter : ℕ} {text rest : List ℕ} → set_of letter ≡ Some more → Items false (ranges ++ more) text rest all → Items is_first ranges (92 ∷ letter ∷ text) rest all
   from_to : {is_first : Bool} {ranges all : List CharRange} {c d : ℕ} {text mid after rest : List ℕ} → FirstChar is_first c text (45 ∷ mid) → ClassChar d mid after → c ≤ d → Items false (ranges ++ range c d ∷ []) after rest all
-    → Items is_first ranges text rest all
+      → Items is_first ranges text rest all
   to_dash : {is_first : Bool} {ranges : List CharRange} {c : ℕ} {text rest : List ℕ} → FirstChar is_first c text (45 ∷ 45 ∷ 93 ∷ rest) → c ≤ 45 → Items is_first ranges text rest (ranges ++ range c 45 ∷ [])
 
 -- a character that is no part of a pattern's syntax

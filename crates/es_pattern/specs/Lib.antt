@@ -12,3 +12,4 @@ pub mod Reading
 pub mod ReaderView
 pub mod Bounds
 pub mod Parsing
+pub mod Refusals

@@ -1,5 +1,5 @@
 -- Which part a single piece of a pattern spans, and what a table tells of it.
-use Rattle.std.specs.Prelude.{◌≡◌, ℕ, ◌≤◌, Bool, List, length, slice_get, slice_index, Option, Some, None, MatchBool, MatchOption, ◌+◌, ◌==◌, ◌&&◌, nat_lt, true, false, cond, not}
+use Rattle.std.specs.Prelude.{◌≡◌, ℕ, ◌≤◌, Bool, List, length, slice_get, slice_index, Option, Some, None, MatchBool, ◌+◌, ◌==◌, ◌&&◌, nat_lt, cond}
 use Rattle.std.specs.Global.{Vec}
 use Rattle.es_pattern.specs.Spans.{Spans, fits, is_boundary, differs}
 use Rattle.es_pattern.specs.Pieces.{tree_at}

@@ -1,12 +1,12 @@
 -- Which steps of a program come to its end.
-use Rattle.std.specs.Prelude.{◌≡◌, ℕ, suc, ◌+◌, ◌-◌, ◌≤◌, ◌<◌, ◌==◌, nat_le, cond, List, [], ◌∷◌, ◌++◌, ◌⊎◌, length, Contains, Option, Some, None}
+use Rattle.std.specs.Prelude.{◌≡◌, ℕ, ◌+◌, ◌-◌, ◌≤◌, ◌<◌, ◌==◌, nat_le, cond, List, [], ◌∷◌, ◌++◌, ◌⊎◌, length, Contains, Option, Some, None}
 use Rattle.es_pattern.specs.declared.step.Step.{Step}
 use Rattle.es_pattern.specs.declared.step.Step.TheVariants.{Pass, Fork, Jump, Back}
 use Rattle.es_pattern.specs.declared.run.Settled.{Settled}
 use Rattle.es_pattern.specs.declared.run.Settled.TheVariants.{Reached, Waiting}
 use Rattle.es_pattern.specs.declared.piece.Piece.{Piece}
 use Rattle.es_pattern.specs.Program.{Goes, Runs}
-use Rattle.es_pattern.specs.Passing.{PassesTo, PassesPiece}
+use Rattle.es_pattern.specs.Passing.{PassesTo}
 
 -- from one of the waiting steps, at the place, a run comes to the program's end
 abbrev pub FromSome : (ℕ → ℕ → ℕ → Type 0) → List Step → List ℕ → ℕ → Type 0

@@ -1,8 +1,8 @@
 -- How a pattern's text is read, one character after another: what was read so far, and what each character makes of it.
-use Rattle.std.specs.Prelude.{◌≡◌, length, ℕ, zero, suc, ◌+◌, ◌-◌, ◌*◌, ◌==◌, Bool, true, false, cond, not, nat_le, nat_lt, ◌&&◌, ◌||◌, is_none, IsTrue, List, [], ◌∷◌, ◌++◌, map, reverse, take, drop, position, Option, Some, None, option_map, option_and_then}
+use Rattle.std.specs.Prelude.{length, ℕ, ◌+◌, ◌-◌, ◌*◌, ◌==◌, Bool, true, false, cond, not, nat_le, nat_lt, ◌&&◌, ◌||◌, List, [], ◌∷◌, ◌++◌, take, drop, position, Option, Some, None, option_map, option_and_then}
 use Rattle.std.specs.List.{list_any}
 use Rattle.es_pattern.specs.Tree.{Tree, CharRange, nothing, one_of, text_start, text_end, word_boundary, sequence, choice, repetition, lookahead}
-use Rattle.es_pattern.specs.Pieces.{top, below, with_pieces}
+use Rattle.es_pattern.specs.Pieces.{top, below}
 use Rattle.es_pattern.specs.Escapes.{range, is_digit, set_of, escaped, hex_value, is_surrogate}
 use Rattle.es_pattern.specs.Grammar.{never, char, any, number}
 use Rattle.es_pattern.specs.declared.mode.Open.{Open}

@@ -1,7 +1,7 @@
 -- How a pattern tree is stored: as the list of its parts, each after those that it joins.
-use Rattle.std.specs.Prelude.{◌≡◌, ℕ, zero, suc, Bool, true, false, List, [], ◌∷◌, ◌++◌, Option, None, refl}
+use Rattle.std.specs.Prelude.{◌≡◌, ℕ, zero, suc, Bool, false, List, [], ◌∷◌, ◌++◌, Option, None, refl}
 use Rattle.std.specs.Coded.{Coded, code_by, coded×, coded_ℕ, coded_bool, coded_list, coded_option}
-use Rattle.std.proofs.Common.{sym, ap, ◌∙◌, append_assoc, append-nil}
+use Rattle.std.proofs.Common.{ap, ◌∙◌}
 use Rattle.es_pattern.specs.Tree.{Tree, CharRange, nothing, one_of, text_start, text_end, word_boundary, sequence, choice, repetition, lookahead}
 use Rattle.es_pattern.specs.Pieces.{top, below}
 
@@ -49,11 +49,11 @@ with_parts-parts text_start ts = refl
 with_parts-parts text_end ts = refl
 with_parts-parts (word_boundary negated) ts = refl
 with_parts-parts (sequence a b) ts = with_parts-append (parts a) (parts b ++ (part_of 5 false 0 None [] ∷ [])) ts
-  ∙ ap (with_parts (parts b ++ (part_of 5 false 0 None [] ∷ []))) (with_parts-parts a ts) ∙ with_parts-append (parts b) (part_of 5 false 0 None [] ∷ []) (a ∷ ts)
-  ∙ ap (with_parts (part_of 5 false 0 None [] ∷ [])) (with_parts-parts b (a ∷ ts))
+    ∙ ap (with_parts (parts b ++ (part_of 5 false 0 None [] ∷ []))) (with_parts-parts a ts) ∙ with_parts-append (parts b) (part_of 5 false 0 None [] ∷ []) (a ∷ ts)
+    ∙ ap (with_parts (part_of 5 false 0 None [] ∷ [])) (with_parts-parts b (a ∷ ts))
 with_parts-parts (choice a b) ts = with_parts-append (parts a) (parts b ++ (part_of 6 false 0 None [] ∷ [])) ts
-  ∙ ap (with_parts (parts b ++ (part_of 6 false 0 None [] ∷ []))) (with_parts-parts a ts) ∙ with_parts-append (parts b) (part_of 6 false 0 None [] ∷ []) (a ∷ ts)
-  ∙ ap (with_parts (part_of 6 false 0 None [] ∷ [])) (with_parts-parts b (a ∷ ts))
+    ∙ ap (with_parts (parts b ++ (part_of 6 false 0 None [] ∷ []))) (with_parts-parts a ts) ∙ with_parts-append (parts b) (part_of 6 false 0 None [] ∷ []) (a ∷ ts)
+    ∙ ap (with_parts (part_of 6 false 0 None [] ∷ [])) (with_parts-parts b (a ∷ ts))
 with_parts-parts (repetition least most a) ts = with_parts-append (parts a) (part_of 7 false least most [] ∷ []) ts ∙ ap (with_parts (part_of 7 false least most [] ∷ [])) (with_parts-parts a ts)
 with_parts-parts (lookahead negated a) ts = with_parts-append (parts a) (part_of 8 negated 0 None [] ∷ []) ts ∙ ap (with_parts (part_of 8 negated 0 None [] ∷ [])) (with_parts-parts a ts)
 

@@ -6,7 +6,12 @@ ghost use Rattle.es_pattern.specs.Pieces.{tree_of};
 ghost use Rattle.es_pattern.specs.Passing.{AllTell, PassesPiece};
 ghost use Rattle.es_pattern.specs.Reaching.{PassesBelow};
 ghost use Rattle.es_pattern.specs.Compiled.{
-    Compiled, Tabulates, code_below, stack_of, top_code, with_code,
+  Compiled,
+  Tabulates,
+  code_below,
+  stack_of,
+  top_code,
+  with_code,
 };
 
 use crate::piece::Piece;
@@ -162,8 +167,23 @@ pub fn is_found(alloc: Global, pieces: &[Piece], text: &str) -> Result<bool, All
     let mut programs = Vec::new(alloc);
     let mut tables = Vec::new(alloc);
     for number in 0..pieces.len() {
-        take_piece(alloc, pieces, number, &characters, &mut programs, &mut tables)?;
+        take_piece(
+            alloc,
+            pieces,
+            number,
+            &characters,
+            &mut programs,
+            &mut tables,
+        )?;
     }
     let program = pop_last(alloc, &mut programs);
-    reaches(alloc, &program, pieces, &tables, &characters, 0, characters.len())
+    reaches(
+        alloc,
+        &program,
+        pieces,
+        &tables,
+        &characters,
+        0,
+        characters.len(),
+    )
 }

@@ -1,7 +1,13 @@
 // What escapes stand for.
 ghost use Rattle.std.specs.Prelude.{◌≡◌, ◌≤◌, ◌<◌, IfOk, IfSome, Option, List, option_map};
 ghost use Rattle.es_pattern.specs.Escapes.{
-    escaped, hex_value, is_digit, is_punctuation, is_surrogate, range, set_of,
+  escaped,
+  hex_value,
+  is_digit,
+  is_punctuation,
+  is_surrogate,
+  range,
+  set_of,
 };
 ghost use Rattle.es_pattern.specs.Reading.{greatest_from, scalar};
 
@@ -17,24 +23,13 @@ fn range(first: char, last: char) -> CharRange
 fn digits(alloc: Global) -> Result<Vec<CharRange>, AllocError>
     ensures { IfOk result (λ ranges. option_map (λ (x : List CharRange). x) (set_of 100) ≡ Option.Some ranges.items) }
 {
-    Vec::from_slice(
-        alloc,
-        &[
-            range('0', '9'),
-        ],
-    )
+    Vec::from_slice(alloc, &[range('0', '9')])
 }
 
 fn no_digits(alloc: Global) -> Result<Vec<CharRange>, AllocError>
     ensures { IfOk result (λ ranges. option_map (λ (x : List CharRange). x) (set_of 68) ≡ Option.Some ranges.items) }
 {
-    Vec::from_slice(
-        alloc,
-        &[
-            range('\0', '/'),
-            range(':', '\u{10ffff}'),
-        ],
-    )
+    Vec::from_slice(alloc, &[range('\0', '/'), range(':', '\u{10ffff}')])
 }
 
 fn words(alloc: Global) -> Result<Vec<CharRange>, AllocError>

@@ -21,11 +21,16 @@ pub enum Mode {
     /// What may stand after an atom, but no digit: after `\0`.
     Zero,
     /// The rest of braces, which are a quantifier or characters for themselves.
-    Braces { after_atom: bool },
+    Braces {
+        after_atom: bool,
+    },
     /// The rest of an escape after its backslash.
     Escape,
     /// So many more hexadecimal digits.
-    Hex { value: u32, left: u32 },
+    Hex {
+        value: u32,
+        left: u32,
+    },
     /// What follows `(`.
     Paren,
     /// What follows `(?`.
@@ -39,13 +44,21 @@ pub enum Mode {
     /// The end of a class.
     ClassLast,
     /// What follows a character of a class.
-    ClassChar { first: char },
+    ClassChar {
+        first: char,
+    },
     /// What follows a character of a class and `-`.
-    ClassDash { first: char },
+    ClassDash {
+        first: char,
+    },
     /// What follows `\0` in a class, which ends a range where `is_last`.
-    ClassZero { is_last: bool },
+    ClassZero {
+        is_last: bool,
+    },
     /// The rest of an escape in a class after its backslash, which ends a range from `first` on where there is one.
-    ClassEscape { first: Option<char> },
+    ClassEscape {
+        first: Option<char>,
+    },
     /// So many more hexadecimal digits of an escape in a class.
     ClassHex {
         first: Option<char>,

@@ -2,7 +2,19 @@
 ghost use Rattle.std.specs.Prelude.{◌≡◌, ◌≤◌, ◌<◌, length, slice_index, take, ◌+◌, ◌^◌, IfOk, IfErr, OnOk, Some};
 ghost use Rattle.std.specs.Str.{chars};
 ghost use Rattle.es_pattern.specs.Pieces.{tree_of};
-ghost use Rattle.es_pattern.specs.Parsing.{IsRefusal, StopsBy, byte_place};
+ghost use Rattle.es_pattern.specs.Parsing.{Refuses, StopsBy, byte_place};
+ghost use Rattle.es_pattern.specs.Refusals.{
+  begins_group,
+  begins_named_group,
+  begins_surrogate,
+  begins_unsupported_escape,
+  is_d,
+  is_hex,
+  is_surrogate_digit,
+  is_too_deep,
+  is_unsupported,
+  is_unsupported_letter,
+};
 ghost use Rattle.es_pattern.specs.Reading.{accepted, reads, start};
 ghost use Rattle.es_pattern.specs.ReaderView.{reading};
 
@@ -14,43 +26,95 @@ use std::alloc::Global;
 /// The greatest number of groups within one another.
 const DEPTH_LIMIT: usize = 200;
 
-fn is_hex(c: Option<&char>) -> bool {
-    c.is_some_and(|c| c.is_ascii_hexdigit())
+fn is_hex(c: char) -> bool
+    ensures { result ≡ is_hex c }
+{
+    matches!(c, '0'..='9' | 'A'..='F' | 'a'..='f')
 }
 
-/// Whether the text begins with `\u` of a surrogate.
-fn is_surrogate(rest: &[char]) -> bool {
+fn is_d(c: char) -> bool
+    ensures { result ≡ is_d c }
+{
+    c == 'd' || c == 'D'
+}
+
+fn is_surrogate_digit(c: char) -> bool
+    ensures { result ≡ is_surrogate_digit c }
+{
+    matches!(c, '8' | '9' | 'a'..='f' | 'A'..='F')
+}
+
+/// Whether the text begins with the digits of a surrogate.
+fn begins_surrogate(rest: &[char]) -> bool
+    ensures { result ≡ begins_surrogate rest.now }
+{
     match rest {
-        ['\\', 'u', 'd' | 'D', '8' | '9' | 'a'..='f' | 'A'..='F', ..] => {
-            is_hex(rest.get(4)) && is_hex(rest.get(5))
+        [a, b, c, d, ..] => is_d(*a) && is_surrogate_digit(*b) && is_hex(*c) && is_hex(*d),
+        _ => false,
+    }
+}
+
+fn is_unsupported_letter(c: char) -> bool
+    ensures { result ≡ is_unsupported_letter c }
+{
+    matches!(c, 'k' | 'p' | 'P' | 'c' | '1'..='9')
+}
+
+/// Whether the text begins with an escape that isn't supported.
+fn begins_unsupported_escape(rest: &[char]) -> bool
+    ensures { result ≡ begins_unsupported_escape rest.now }
+{
+    match rest {
+        [a, b, others @ ..] => {
+            *a == '\\' && (is_unsupported_letter(*b) || *b == 'u' && begins_surrogate(others))
         }
         _ => false,
     }
 }
 
-/// Whether the text begins with an escape that isn't supported.
-fn is_unsupported_escape(rest: &[char]) -> bool {
+/// Whether the text begins with `(?<`.
+fn begins_named_group(rest: &[char]) -> bool
+    ensures { result ≡ begins_named_group rest.now }
+{
     match rest {
-        ['\\', 'k' | 'p' | 'P' | 'c' | '1'..='9', ..] => true,
-        _ => is_surrogate(rest),
+        [a, b, c, ..] => *a == '(' && *b == '?' && *c == '<',
+        _ => false,
     }
+}
+
+fn begins_group(rest: &[char]) -> bool
+    ensures { result ≡ begins_group rest.now }
+{
+    match rest {
+        [a, ..] => *a == '(',
+        _ => false,
+    }
+}
+
+/// Whether something that isn't supported begins here.
+fn is_unsupported(reader: &Reader, rest: &[char]) -> bool
+    ensures { result ≡ is_unsupported reader.now.mode rest.now }
+{
+    reader.may_escape() && begins_unsupported_escape(rest)
+        || reader.may_open() && begins_named_group(rest)
+}
+
+/// Whether a group begins here within too many others.
+fn is_too_deep(reader: &Reader, rest: &[char]) -> bool
+    ensures { result ≡ is_too_deep (length reader.now.groups.items) reader.now.mode rest.now }
+{
+    reader.may_open() && begins_group(rest) && reader.depth() >= DEPTH_LIMIT
 }
 
 /// Whether something that is refused begins here, whatever the grammar says.
 fn refused(reader: &Reader, rest: &[char], place: usize) -> Result<(), PatternError>
-    ensures { IfErr result IsRefusal }
+    ensures { Refuses (length reader.now.groups.items) reader.now.mode rest.now place result }
 {
-    if reader.may_escape() && is_unsupported_escape(rest) {
+    if is_unsupported(reader, rest) {
         return Err(PatternError::Unsupported { place });
     }
-    if reader.may_open() {
-        match rest {
-            ['(', '?', '<', ..] => return Err(PatternError::Unsupported { place }),
-            ['(', ..] if reader.depth() >= DEPTH_LIMIT => {
-                return Err(PatternError::CountTooLarge { place });
-            }
-            _ => {}
-        }
+    if is_too_deep(reader, rest) {
+        return Err(PatternError::CountTooLarge { place });
     }
     Ok(())
 }

@@ -25,13 +25,20 @@ pub enum Piece {
     /// The end of the text.
     TextEnd,
     /// A place where a word begins or ends, or, where `negated`, where none does.
-    WordBoundary { negated: bool },
+    WordBoundary {
+        negated: bool,
+    },
     /// The last two parts, one after the other.
     Sequence,
     /// One of the last two parts.
     Choice,
     /// The last part `least` times, and up to `more` times more, without a bound where that is `None`.
-    Repetition { least: u32, more: Option<u32> },
+    Repetition {
+        least: u32,
+        more: Option<u32>,
+    },
     /// A place from which the last part is found, or, where `negated`, isn't.
-    Lookahead { negated: bool },
+    Lookahead {
+        negated: bool,
+    },
 }

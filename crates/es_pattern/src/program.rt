@@ -1,7 +1,12 @@
 // The steps of parts that are joined.
 ghost use Rattle.std.specs.Prelude.{◌≡◌, ◌++◌, ◌∷◌, [], IfOk, OnOk};
 ghost use Rattle.es_pattern.specs.Program.{
-    choice_steps, copies, further_steps, maybe_steps, repetition_steps, star_steps,
+  choice_steps,
+  copies,
+  further_steps,
+  maybe_steps,
+  repetition_steps,
+  star_steps,
 };
 
 use crate::step::Step;

@@ -49,16 +49,52 @@ pub struct Reader {
 }
 
 impl Reader {
-    ghost use Rattle.std.specs.Prelude.{◌≡◌, ◌≤◌, ◌+◌, ℕ, OnOk, IfOk, Option, Some, None, if◌then◌else◌, option_map, [], ◌∷◌};
+    ghost use Rattle.std.specs.Prelude.{◌≡◌, ◌≤◌, ◌+◌, ℕ, OnOk, IfOk, length, Option, Some, None, if◌then◌else◌, option_map, [], ◌∷◌};
     ghost use Rattle.es_pattern.specs.Tree.{one_of};
     ghost use Rattle.es_pattern.specs.Escapes.{hex_value, is_digit, set_of};
     ghost use Rattle.es_pattern.specs.Grammar.{any, char};
     ghost use Rattle.es_pattern.specs.Reading.{
-        after_char, after_dash, at, begun, can_end, chosen, class_char, class_end, class_hex_by, class_set, class_zero, closed_by, ended, finished, flushed, flushed_chars, hex_by, in_braces, in_braces_end, item, joined, marked, next_item, opened, plain, quantified, ranged, settled, start, step, step_in, term_begun, with_atom, with_ranges, with_set,
+      after_char,
+      after_dash,
+      at,
+      begun,
+      bounds_of,
+      can_end,
+      chosen,
+      class_char,
+      class_end,
+      class_hex_by,
+      class_set,
+      class_zero,
+      closed_by,
+      ended,
+      finished,
+      flushed,
+      flushed_chars,
+      hex_by,
+      in_braces,
+      in_braces_end,
+      item,
+      joined,
+      marked,
+      next_item,
+      opened,
+      plain,
+      quantified,
+      ranged,
+      settled,
+      start,
+      step,
+      step_in,
+      term_begun,
+      with_atom,
+      with_ranges,
+      with_set,
     };
     ghost use Rattle.es_pattern.specs.Pieces.{tree_of};
-    ghost use Rattle.es_pattern.specs.ReaderView.{EndsAs, IsClass, Steps, pushed, reading};
+    ghost use Rattle.es_pattern.specs.ReaderView.{EndsAs, IsClass, Steps, Takes, pushed, reading};
     ghost use Rattle.es_pattern.specs.Bounds.{Bounded};
+    ghost use Rattle.es_pattern.specs.Refusals.{may_escape, may_open, pending};
 
     /// Appends a piece.
     #[tactic(auto, using(crate::proofs::Readers::push_piece))]
@@ -128,10 +164,22 @@ impl Reader {
         ensures { OnOk result (reading self.new ≡ with_atom any (reading self.old)) }
     {
         let line_ends = [
-            CharRange { first: '\n', last: '\n' },
-            CharRange { first: '\r', last: '\r' },
-            CharRange { first: '\u{2028}', last: '\u{2028}' },
-            CharRange { first: '\u{2029}', last: '\u{2029}' },
+            CharRange {
+                first: '\n',
+                last: '\n',
+            },
+            CharRange {
+                first: '\r',
+                last: '\r',
+            },
+            CharRange {
+                first: '\u{2028}',
+                last: '\u{2028}',
+            },
+            CharRange {
+                first: '\u{2029}',
+                last: '\u{2029}',
+            },
         ];
         let ranges = Vec::from_slice(self.alloc, &line_ends)?;
         self.push_atom(true, ranges)
@@ -183,7 +231,12 @@ impl Reader {
     }
 
     /// Takes a quantifier without braces.
-    fn take_mark(&mut self, after_atom: bool, least: u32, more: Option<u32>) -> Result<Taken, AllocError>
+    fn take_mark(
+        &mut self,
+        after_atom: bool,
+        least: u32,
+        more: Option<u32>,
+    ) -> Result<Taken, AllocError>
         ensures { IfOk result (λ taken. Steps (marked after_atom least (option_map (λ n. least + n) more) (reading self.old)) taken (reading self.new)) }
     {
         if !after_atom {
@@ -221,7 +274,12 @@ impl Reader {
     }
 
     /// Takes a character where a term may begin, or, after an atom, a quantifier.
-    fn take_plain(&mut self, after_atom: bool, may_be_lazy: bool, c: char) -> Result<Taken, AllocError>
+    fn take_plain(
+        &mut self,
+        after_atom: bool,
+        may_be_lazy: bool,
+        c: char,
+    ) -> Result<Taken, AllocError>
         ensures { IfOk result (λ taken. Steps (plain after_atom may_be_lazy c (reading self.old)) taken (reading self.new)) }
     {
         match c {
@@ -315,7 +373,9 @@ impl Reader {
 
     /// Takes a quantifier in braces.
     fn take_bounds(&mut self, after_atom: bool, bounds: Bounds) -> Result<Taken, AllocError>
-        ensures { (spec : Option (ℕ × Option ℕ)) → Bounded spec (Some bounds) → IfOk result (λ taken. Steps (in_braces_end spec after_atom 125 (reading self.old)) taken (reading self.new)) }
+        requires mode { self.old.mode ≡ Mode.Braces after_atom }
+        requires bounds { Bounded (bounds_of self.old.braces.items) (Some bounds) }
+        ensures { IfOk result (λ taken. Takes (in_braces_end (bounds_of self.old.braces.items) after_atom 125 (reading self.old)) 125 (reading self.old) taken (reading self.new)) }
     {
         let most = bounds.most.unwrap_or(bounds.least);
         if most > LIMIT || bounds.least > LIMIT {
@@ -335,7 +395,8 @@ impl Reader {
 
     /// Takes a character after `{`.
     fn take_in_braces(&mut self, after_atom: bool, c: char) -> Result<Taken, AllocError>
-        ensures { IfOk result (λ taken. Steps (in_braces after_atom c (reading self.old)) taken (reading self.new)) }
+        requires { self.old.mode ≡ Mode.Braces after_atom }
+        ensures { IfOk result (λ taken. Takes (in_braces after_atom c (reading self.old)) c (reading self.old) taken (reading self.new)) }
     {
         if is_inner(&self.braces, c) {
             self.braces.push(c)?;
@@ -606,7 +667,7 @@ impl Reader {
 
     /// Takes the next character of the text.
     pub fn take(&mut self, c: char) -> Result<Taken, AllocError>
-        ensures { IfOk result (λ taken. Steps (step c (reading self.old)) taken (reading self.new)) }
+        ensures { IfOk result (λ taken. Takes (step c (reading self.old)) c (reading self.old) taken (reading self.new)) }
     {
         match self.mode {
             Mode::Term => self.take_plain(false, false, c),
@@ -665,13 +726,20 @@ impl Reader {
     }
 
     /// How many groups are open.
-    pub fn depth(&self) -> usize {
-        let pending = usize::from(self.mode == Mode::Paren);
-        self.groups.len().saturating_add(pending)
+    pub fn depth(&self) -> usize
+        ensures { result ≡ length self.now.groups.items + pending self.now.mode }
+    {
+        if self.mode == Mode::Paren {
+            self.groups.len() + 1
+        } else {
+            self.groups.len()
+        }
     }
 
     /// Whether an escape may begin here, as far as the text before tells.
-    pub fn may_escape(&self) -> bool {
+    pub fn may_escape(&self) -> bool
+        ensures { result ≡ may_escape self.now.mode }
+    {
         !matches!(
             self.mode,
             Mode::Escape
@@ -683,7 +751,9 @@ impl Reader {
     }
 
     /// Whether a group may begin here.
-    pub fn may_open(&self) -> bool {
+    pub fn may_open(&self) -> bool
+        ensures { result ≡ may_open self.now.mode }
+    {
         matches!(
             self.mode,
             Mode::Term

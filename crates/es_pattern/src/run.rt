@@ -2,7 +2,15 @@
 ghost use Rattle.std.specs.Prelude.{◌≡◌, ◌++◌, ◌<◌, ◌≤◌, ◌↔◌, IfOk, IsTrue, OnOk, length};
 ghost use Rattle.es_pattern.specs.Passing.{AllTell, PassesPiece};
 ghost use Rattle.es_pattern.specs.Reaching.{
-    Advances, Ends, IsPassBelow, PassesBelow, Reaches, Settles, next_place, same_place, with_start,
+  Advances,
+  Ends,
+  IsPassBelow,
+  PassesBelow,
+  Reaches,
+  Settles,
+  next_place,
+  same_place,
+  with_start,
 };
 
 use crate::passing::passed;
@@ -126,7 +134,16 @@ fn settle(
         }
         if at < program.len() && !seen[at] {
             seen[at] = true;
-            advance(program, pieces, tables, text, at, place, &mut waiting, &mut next)?;
+            advance(
+                program,
+                pieces,
+                tables,
+                text,
+                at,
+                place,
+                &mut waiting,
+                &mut next,
+            )?;
         }
     }
     Ok(Settled::Waiting(next))

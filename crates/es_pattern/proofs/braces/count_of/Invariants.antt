@@ -1,4 +1,4 @@
-use Rattle.std.proofs.Common.{◌≡◌, ℕ, ◌≤◌, min, drop}
+use Rattle.std.proofs.Common.{◌≡◌, ℕ, min, drop}
 use Rattle.es_pattern.specs.Grammar.{number_from}
 use Rattle.es_pattern.proofs.braces.count_of.Given as goal
 

@@ -1,4 +1,3 @@
-use Rattle.std.proofs.Common.{◌≡◌, ℕ, ◌<◌, length}
 use Rattle.es_pattern.specs.Passing.{PassesPiece}
 use Rattle.es_pattern.proofs.Compiling.{Tabulating}
 use Rattle.es_pattern.proofs.compile.table_of.Given as goal

@@ -9,10 +9,10 @@ use Rattle.es_pattern.proofs.parse.pieces_of.Goals as goal
 
 pub returns-clause-ok : goal.returns-clause-ok
 returns-clause-ok c =
-  let all_chars : c.in_ok-characters.characters.items ≡ chars c.args.text.now = search (rules, chars_from_encodes) in
-  subst (λ (cs : List ℕ). IfOk c.pieces_from.result (λ pieces. accepted cs ≡ Some (tree_of pieces.items))) (c.deref.ensures.value ∙ all_chars) c.pieces_from.ensures.ok
+    let all_chars : c.in_ok-characters.characters.items ≡ chars c.args.text.now = search (rules, chars_from_encodes) in
+    subst (λ (cs : List ℕ). IfOk c.pieces_from.result (λ pieces. accepted cs ≡ Some (tree_of pieces.items))) (c.deref.ensures.value ∙ all_chars) c.pieces_from.ensures.ok
 
 pub returns-clause-syntax : goal.returns-clause-syntax
 returns-clause-syntax c =
-  let all_chars : c.in_ok-characters.characters.items ≡ chars c.args.text.now = search (rules, chars_from_encodes) in
-  subst (λ (cs : List ℕ). IfErr c.pieces_from.result (StopsBy cs)) (c.deref.ensures.value ∙ all_chars) c.pieces_from.ensures.syntax
+    let all_chars : c.in_ok-characters.characters.items ≡ chars c.args.text.now = search (rules, chars_from_encodes) in
+    subst (λ (cs : List ℕ). IfErr c.pieces_from.result (StopsBy cs)) (c.deref.ensures.value ∙ all_chars) c.pieces_from.ensures.syntax

@@ -1,4 +1,4 @@
-use Rattle.std.proofs.Common.{ℕ, ◌+◌, length}
+use Rattle.std.proofs.Common.{◌+◌, length}
 use Rattle.es_pattern.specs.Passing.{PassesPiece}
 use Rattle.es_pattern.proofs.Runnings.{Settling, weight}
 use Rattle.es_pattern.proofs.run.settle.Given as goal
