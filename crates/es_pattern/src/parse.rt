@@ -2,7 +2,7 @@
 ghost use Rattle.std.specs.Prelude.{◌≡◌, ◌≤◌, ◌<◌, length, slice_index, take, ◌+◌, ◌^◌, IfOk, IfErr, OnOk, Some};
 ghost use Rattle.std.specs.Str.{chars};
 ghost use Rattle.es_pattern.specs.Pieces.{tree_of};
-ghost use Rattle.es_pattern.specs.Parsing.{Refuses, StopsBy, byte_place};
+ghost use Rattle.es_pattern.specs.Parsing.{IsClearBefore, Refuses, StopsBy, byte_place};
 ghost use Rattle.es_pattern.specs.Refusals.{
   begins_group,
   begins_named_group,
@@ -130,8 +130,10 @@ fn take_next(
     requires number { number < length characters.now }
     requires place { place ≡ byte_place characters.now number }
     requires reads { reads (take number characters.now) start ≡ Some (reading reader.old) }
+    requires clear { IsClearBefore characters.now number }
     ensures reads { OnOk result (reads (take (number + 1) characters.now) start ≡ Some (reading reader.new)) }
-    ensures syntax { IfErr result (StopsBy characters.now) }
+    ensures clear { OnOk result (IsClearBefore characters.now (number + 1)) }
+    ensures fault { IfErr result (StopsBy characters.now) }
 {
     refused(reader, &characters[number..], place)?;
     match reader.take(characters[number])? {
@@ -145,7 +147,8 @@ fn take_next(
 fn pieces_from(alloc: Global, characters: &[char]) -> Result<Vec<Piece>, PatternError>
     requires { byte_place characters.now (length characters.now) < 2 ^ 64 }
     ensures ok { IfOk result (λ pieces. accepted characters.now ≡ Some (tree_of pieces.items)) }
-    ensures syntax { IfErr result (StopsBy characters.now) }
+    ensures clear { OnOk result (IsClearBefore characters.now (length characters.now)) }
+    ensures fault { IfErr result (StopsBy characters.now) }
 {
     let mut reader = Reader::new(alloc)?;
     let mut place = 0usize;
@@ -167,7 +170,8 @@ fn pieces_from(alloc: Global, characters: &[char]) -> Result<Vec<Piece>, Pattern
 /// The pieces of the pattern that the text is.
 pub fn pieces_of(alloc: Global, text: &str) -> Result<Vec<Piece>, PatternError>
     ensures ok { IfOk result (λ pieces. accepted (chars text.now) ≡ Some (tree_of pieces.items)) }
-    ensures syntax { IfErr result (StopsBy (chars text.now)) }
+    ensures clear { OnOk result (IsClearBefore (chars text.now) (length (chars text.now))) }
+    ensures fault { IfErr result (StopsBy (chars text.now)) }
 {
     let characters: Vec<char> = text.chars().collect(alloc)?;
     pieces_from(alloc, &characters)

@@ -1,10 +1,10 @@
 // A pattern, and whether it is found.
-ghost use Rattle.std.specs.Prelude.{◌≡◌, List, IfOk, IfErr, ◌↔◌, IsTrue};
+ghost use Rattle.std.specs.Prelude.{◌≡◌, List, IfOk, IfErr, OnOk, length, ◌↔◌, IsTrue};
 ghost use Rattle.std.specs.Str.{chars};
 ghost use Rattle.es_pattern.specs.Spans.{IsFound};
 ghost use Rattle.es_pattern.specs.Tree.{Tree};
 ghost use Rattle.es_pattern.specs.Pieces.{tree_of, with_piece};
-ghost use Rattle.es_pattern.specs.Parsing.{StopsBy};
+ghost use Rattle.es_pattern.specs.Parsing.{IsClearBefore, StopsBy};
 ghost use Rattle.es_pattern.specs.Grammar.{IsPattern};
 
 use crate::compile;
@@ -71,7 +71,10 @@ impl Pattern {
     #[tactic(auto, using(crate::proofs::Sound::accepted_is_pattern))]
     pub fn parse(alloc: Global, text: &str) -> Result<Pattern, PatternError>
         ensures ok { IfOk result (λ pattern. IsPattern (chars text.now) pattern) }
-        ensures syntax { IfErr result (StopsBy (chars text.now)) }
+        // Nothing that isn't supported, and no group too deep, begins anywhere.
+        ensures clear { OnOk result (IsClearBefore (chars text.now) (length (chars text.now))) }
+        // The first fault: its kind and its place.
+        ensures fault { IfErr result (StopsBy (chars text.now)) }
     {
         Ok(Pattern {
             pieces: pieces_of(alloc, text)?,

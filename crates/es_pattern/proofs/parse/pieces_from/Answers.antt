@@ -8,4 +8,4 @@ overflow_add-place c =
 
 pub loop-number-preserved : goal.loop-number-preserved
 loop-number-preserved c =
-    (c.in_ok-take_next.ensures.reads, omega (arith, c.len_utf8-place.ensures.value, c.loop-number.invariant.1, byte_place_next c.args.characters.now c.loop-number.number c.index-characters-number.result c.loop-number-test.true c.index-characters-number.is))
+    (c.in_ok-take_next.ensures.reads, omega (arith, c.len_utf8-place.ensures.value, c.loop-number.invariant.1, byte_place_next c.args.characters.now c.loop-number.number c.index-characters-number.result c.loop-number-test.true c.index-characters-number.is), c.in_ok-take_next.ensures.clear)
