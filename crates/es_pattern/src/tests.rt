@@ -366,6 +366,13 @@ fn accepted() -> &'static [(&'static str, &'static str)] {
         ("[\\b]", "\u{8}"),
         ("^.$", "😀"),
         ("(?:(?:a{100}){1000})?", ""),
+        ("^\\d\\D$", "1a"),
+        ("^\\w\\W$", "_-"),
+        ("^\\s\\S$", "\u{feff}x"),
+        ("^\\t\\n\\v\\f\\r$", "\t\n\u{b}\u{c}\r"),
+        ("^\\x41[\\x42-\\u0043]$", "AB"),
+        ("^[\\D\\d][^\\S]\\$$", "5 $"),
+        ("^[à-ü]😀$", "é😀"),
     ]
 }
 
@@ -412,5 +419,30 @@ fn a_copy_is_the_same_pattern(rt: HostRuntime) -> Result<(), Fail> {
     let copy = Pattern::parse(rt.alloc(), "^a")?.try_clone(rt.alloc())?;
     assert!(rt; copy.is_found(rt.alloc(), "ab")?);
     assert!(rt; !copy.is_found(rt.alloc(), "ba")?);
+    Ok(())
+}
+
+/// The ignore pattern that Yarn writes for its folder of editor files.
+fn ignored() -> &'static str {
+    "(^(?:\\.yarn\\/sdks(?:\\/(?!\\.{1,2}(?:\\/|$))(?:(?:(?!(?:^|\\/)\\.{1,2}(?:\\/|$)).)*?)|$))$)"
+}
+
+#[test]
+fn finds_what_yarn_ignores(rt: HostRuntime) -> Result<(), Fail> {
+    let pattern = Pattern::parse(rt.alloc(), ignored())?;
+    for text in [
+        ".yarn/sdks",
+        ".yarn/sdks/",
+        ".yarn/sdks/.bin",
+        ".yarn/sdks/typescript/lib/tsc.js",
+    ] {
+        assert!(rt; pattern.is_found(rt.alloc(), text)?, "{text}");
+    }
+    for text in ["node_modules/foo", ".yarn/sdksx", ".yarn/sdk"] {
+        assert!(rt; !pattern.is_found(rt.alloc(), text)?, "{text}");
+    }
+    let slashed = Pattern::parse(rt.alloc(), "^a\\/b$")?;
+    assert!(rt; slashed.is_found(rt.alloc(), "a/b")?);
+    assert!(rt; !slashed.is_found(rt.alloc(), "axb")?);
     Ok(())
 }
