@@ -1,0 +1,15 @@
+pub mod Tree
+pub mod Spans
+pub mod Pieces
+pub mod Program
+pub mod Passing
+pub mod Reaching
+pub mod Compiled
+pub mod Stored
+pub mod Escapes
+pub mod Grammar
+pub mod Reading
+pub mod ReaderView
+pub mod Bounds
+pub mod Parsing
+pub mod Refusals

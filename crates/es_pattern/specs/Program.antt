@@ -1,0 +1,53 @@
+-- A program that walks over a text, and what it means that one walks as a relation says.
+use Rattle.std.specs.Prelude.{◌≡◌, ℕ, zero, suc, ◌+◌, ◌≤◌, List, [], ◌∷◌, ◌++◌, ◌⊎◌, length, slice_get, Option, Some, None}
+use Rattle.es_pattern.specs.declared.step.Step.{Step}
+use Rattle.es_pattern.specs.declared.step.Step.TheVariants.{Pass, Fork, Jump, Back}
+
+-- from a step at a place of the text to the next step at its place
+abbrev pub Does : (ℕ → ℕ → ℕ → Type 0) → Step → ℕ → ℕ → ℕ → ℕ → Type 0
+Does passes (Pass number) at i next j = (next ≡ suc at) × passes number i j
+Does passes (Fork by) at i next j = ((next ≡ suc at) ⊎ (next ≡ at + by)) × (j ≡ i)
+Does passes (Jump by) at i next j = (next ≡ at + by) × (j ≡ i)
+Does passes (Back by) at i next j = (next + by ≡ at) × (j ≡ i)
+
+pub record Goes (passes : ℕ → ℕ → ℕ → Type 0) (program : List Step) (at i next j : ℕ) : Type 0 where
+  pub step : Step
+  pub stands : slice_get program at ≡ Some step
+  pub does : Does passes step at i next j
+
+-- in that many steps to the program's end
+abbrev pub Runs : (ℕ → ℕ → ℕ → Type 0) → List Step → ℕ → ℕ → ℕ → Type 0
+Runs passes program zero at i = at ≡ length program
+Runs passes program (suc n) at i = (next : ℕ) × (j : ℕ) × Goes passes program at i next j × Runs passes program n next j
+
+-- these steps stand at the place in the program
+abbrev pub Stands : List Step → ℕ → List Step → Type 0
+Stands program at [] = at ≤ length program
+Stands program at (s ∷ steps) = (slice_get program at ≡ Some s) × Stands program (suc at) steps
+
+-- wherever the steps stand, they lead from one place to another just as the relation says
+pub record Walks (passes : ℕ → ℕ → ℕ → Type 0) (steps : List Step) (R : ℕ → ℕ → Type 0) : Type 0 where
+  pub enters : (program : List Step) (at : ℕ) → Stands program at steps → (i j n : ℕ) → R i j → Runs passes program n (at + length steps) j → (m : ℕ) × Runs passes program m at i
+  pub leaves : (program : List Step) (at : ℕ) → Stands program at steps → (i n : ℕ) → Runs passes program n at i → (j : ℕ) × (m : ℕ) × R i j × (m ≤ n) × Runs passes program m (at + length steps) j
+
+-- the steps of one part or the other, of a part at most once, any number of times, and that many times
+abbrev pub choice_steps : List Step → List Step → List Step
+choice_steps a b = Fork (length a + 2) ∷ (a ++ (Jump (length b + 1) ∷ b))
+
+abbrev pub maybe_steps : List Step → List Step
+maybe_steps a = Fork (length a + 1) ∷ a
+
+abbrev pub star_steps : List Step → List Step
+star_steps a = Fork (length a + 2) ∷ (a ++ (Back (length a + 1) ∷ []))
+
+abbrev pub copies : ℕ → List Step → List Step
+copies zero a = []
+copies (suc n) a = copies n a ++ a
+
+abbrev pub further_steps : Option ℕ → List Step → List Step
+further_steps None a = star_steps a
+further_steps (Some more) a = copies more (maybe_steps a)
+
+-- the steps of a part at least so many times, and up to that many more
+abbrev pub repetition_steps : ℕ → Option ℕ → List Step → List Step
+repetition_steps least more a = copies least a ++ further_steps more a

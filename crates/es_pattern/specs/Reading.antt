@@ -1,0 +1,256 @@
+-- How a pattern's text is read, one character after another: what was read so far, and what each character makes of it.
+use Rattle.std.specs.Prelude.{length, ℕ, ◌+◌, ◌-◌, ◌*◌, ◌==◌, Bool, true, false, cond, not, nat_le, nat_lt, ◌&&◌, ◌||◌, List, [], ◌∷◌, ◌++◌, take, drop, position, Option, Some, None, option_map, option_and_then}
+use Rattle.std.specs.List.{list_any}
+use Rattle.es_pattern.specs.Tree.{Tree, CharRange, nothing, one_of, text_start, text_end, word_boundary, sequence, choice, repetition, lookahead}
+use Rattle.es_pattern.specs.Pieces.{top, below}
+use Rattle.es_pattern.specs.Escapes.{range, is_digit, set_of, escaped, hex_value, is_surrogate}
+use Rattle.es_pattern.specs.Grammar.{never, char, any, number}
+use Rattle.es_pattern.specs.declared.mode.Open.{Open}
+use Rattle.es_pattern.specs.declared.mode.Open.TheVariants.{Group, Ahead}
+use Rattle.es_pattern.specs.declared.mode.Mode.{Mode}
+use Rattle.es_pattern.specs.declared.mode.Mode.TheVariants.{Term, Atom, Quantified, Zero, Braces, Escape, Hex, Paren, ParenQuestion, ClassOpen, ClassFirst, ClassNext, ClassLast, ClassChar, ClassDash, ClassZero, ClassEscape, ClassHex}
+
+-- The trees: for each open group, and for the whole, the last alternative's terms and the alternatives before it, and an atom that no term follows yet; the last one first. The groups, the last one first.
+pub record Reading : Type 0 where
+  pub trees : List Tree
+  pub groups : List Open
+  pub mode : Mode
+  pub braces : List ℕ
+  pub negated : Bool
+  pub ranges : List CharRange
+
+abbrev pub at : Mode → Reading → Reading
+at m r = record r { mode = m }
+
+abbrev pub leaf : Tree → Reading → Reading
+leaf t r = record r { trees = t ∷ r.trees }
+
+-- the last two trees as a sequence, and as a choice
+abbrev pub joined : Reading → Reading
+joined r = record r { trees = sequence (top (below r.trees)) (top r.trees) ∷ below (below r.trees) }
+
+abbrev pub chosen : Reading → Reading
+chosen r = record r { trees = choice (top (below r.trees)) (top r.trees) ∷ below (below r.trees) }
+
+abbrev pub settled : Bool → Reading → Reading
+settled after_atom r = cond after_atom (joined r) r
+
+abbrev pub asserted : Tree → Reading → Reading
+asserted t r = at Term (joined (leaf t r))
+
+abbrev pub with_atom : Tree → Reading → Reading
+with_atom t r = at Atom (leaf t r)
+
+abbrev pub begun : Reading → Reading
+begun r = at Term (leaf nothing (leaf never r))
+
+abbrev pub opened : Open → Reading → Reading
+opened open_ r = begun (record r { groups = open_ ∷ r.groups })
+
+abbrev pub closed_by : List Open → Reading → Option Reading
+closed_by [] r = None
+closed_by (Group ∷ gs) r = Some (at Atom (chosen (record r { groups = gs })))
+closed_by (Ahead negated ∷ gs) r = Some (at Term (joined (record r { groups = gs; trees = lookahead negated (choice (top (below r.trees)) (top r.trees)) ∷ below (below r.trees) })))
+
+abbrev pub quantified : ℕ → Option ℕ → Reading → Reading
+quantified least most r = at Quantified (joined (record r { trees = repetition least most (top r.trees) ∷ below r.trees }))
+
+abbrev pub marked : Bool → ℕ → Option ℕ → Reading → Option Reading
+marked after_atom least most r = cond after_atom (Some (quantified least most r)) None
+
+-- a character where a term may begin, that marks no quantifier
+abbrev pub term_begun : ℕ → Reading → Option Reading
+term_begun c r =
+    cond (c == 94) (Some (asserted text_start r)) (cond (c == 36) (Some (asserted text_end r)) (cond (c == 124) (Some (at Term (leaf nothing (chosen r)))) (cond (c == 41) (closed_by r.groups r) (cond (c == 40) (Some (at Paren r))
+    (cond (c == 91) (Some (at ClassOpen (record r { negated = false; ranges = [] }))) (cond (c == 92) (Some (at Escape r)) (cond (c == 46) (Some (with_atom any r)) (Some (with_atom (char c) r)))))))))
+
+abbrev pub plain : Bool → Bool → ℕ → Reading → Option Reading
+plain after_atom may_be_lazy c r =
+    cond (c == 42) (marked after_atom 0 None r) (cond (c == 43) (marked after_atom 1 None r) (cond (c == 63) (cond may_be_lazy (Some (at Term r)) (marked after_atom 0 (Some 1) r))
+    (cond (c == 123) (Some (at (Braces after_atom) (record r { braces = [] }))) (term_begun c (settled after_atom r)))))
+
+abbrev pub with_char : Option ℕ → Reading → Option Reading
+with_char None r = None
+with_char (Some c) r = Some (with_atom (char c) r)
+
+abbrev pub with_set : Option (List CharRange) → ℕ → Reading → Option Reading
+with_set (Some ranges) c r = Some (with_atom (one_of false ranges) r)
+with_set None c r =
+    cond (c == 98) (Some (asserted (word_boundary false) r)) (cond (c == 66) (Some (asserted (word_boundary true) r)) (cond (c == 120) (Some (at (Hex 0 2) r)) (cond (c == 117) (Some (at (Hex 0 4) r))
+    (cond (c == 48) (Some (at Zero (leaf (char 0) r))) (with_char (escaped c) r)))))
+
+abbrev pub scalar : ℕ → Option ℕ
+scalar c = cond (is_surrogate c || nat_lt 0x10ffff c) None (Some c)
+
+-- the greatest character whose hexadecimal digits go on from the value with so many more, if there is one
+abbrev pub greatest_from : ℕ → ℕ → Option ℕ
+greatest_from value left =
+    cond (left == 0) (scalar value) (cond (left == 1) (scalar (value * 16 + 15)) (cond (left == 2) (scalar (value * 256 + 255)) (cond (is_surrogate (value * 4096 + 4095)) (Some 0xd7ff) (scalar (value * 4096 + 4095)))))
+
+abbrev pub hex_to : Option ℕ → ℕ → ℕ → Reading → Option Reading
+hex_to None value left r = None
+hex_to (Some greatest) value left r = cond (left == 0) (Some (with_atom (char greatest) r)) (Some (at (Hex value left) r))
+
+abbrev pub hex_by : Option ℕ → ℕ → ℕ → Reading → Option Reading
+hex_by None value left r = None
+hex_by (Some d) value left r = cond (nat_lt 0xfff value || (left == 0)) None (hex_to (greatest_from (value * 16 + d) (left - 1)) (value * 16 + d) (left - 1) r)
+
+-- braces that are no quantifier: their characters stand for themselves
+abbrev pub flushed_chars : List ℕ → Reading → Reading
+flushed_chars [] r = r
+flushed_chars (c ∷ cs) r = flushed_chars cs (with_atom (char c) (joined r))
+
+abbrev pub flushed : Bool → Reading → Reading
+flushed after_atom r = flushed_chars r.braces (record (with_atom (char 123) (settled after_atom r)) { braces = [] })
+
+-- what a number in braces, or two, say
+abbrev pub pair_bounds : Option ℕ → Option ℕ → Option (ℕ × Option ℕ)
+pair_bounds (Some n) (Some m) = cond (nat_le n m) (Some (n, Some m)) None
+pair_bounds (Some n) None = None
+pair_bounds None m = None
+
+abbrev pub second_bounds : Option ℕ → List ℕ → Option (ℕ × Option ℕ)
+second_bounds n [] = option_map (λ (k : ℕ). (k, None)) n
+second_bounds n (c ∷ cs) = pair_bounds n (number (c ∷ cs))
+
+abbrev pub bounds_by : Option ℕ → List ℕ → Option (ℕ × Option ℕ)
+bounds_by None text = option_map (λ (k : ℕ). (k, Some k)) (number text)
+bounds_by (Some comma) text = second_bounds (number (take comma text)) (drop (comma + 1) text)
+
+-- the bounds that the text of braces has, from after `{` to before `}`
+abbrev pub bounds_of : List ℕ → Option (ℕ × Option ℕ)
+bounds_of text = bounds_by (position (λ c. c == 44) text) text
+
+abbrev pub in_braces_end : Option (ℕ × Option ℕ) → Bool → ℕ → Reading → Option Reading
+in_braces_end (Some bounds) after_atom c r = marked after_atom bounds.0 bounds.1 r
+in_braces_end None after_atom c r = plain true false c (flushed after_atom r)
+
+abbrev pub may_be_comma : List ℕ → Bool
+may_be_comma braces = not (length braces == 0) && not (list_any (λ x. x == 44) braces)
+
+abbrev pub is_inner : List ℕ → ℕ → Bool
+is_inner braces c = is_digit c || (c == 44) && may_be_comma braces
+
+abbrev pub in_braces : Bool → ℕ → Reading → Option Reading
+in_braces after_atom c r =
+    cond (is_inner r.braces c) (Some (record r { braces = r.braces ++ c ∷ [] }))
+    (cond (c == 125) (in_braces_end (bounds_of r.braces) after_atom c r) (plain true false c (flushed after_atom r)))
+
+abbrev pub ranged : ℕ → ℕ → Reading → Reading
+ranged first last r = record r { ranges = r.ranges ++ range first last ∷ [] }
+
+abbrev pub class_end : Reading → Reading
+class_end r = record (with_atom (one_of r.negated r.ranges) r) { ranges = [] }
+
+abbrev pub item : ℕ → Reading → Option Reading
+item c r = cond (c == 93) (Some (class_end r)) (cond (c == 92) (Some (at (ClassEscape None) r)) (Some (at (ClassChar c) r)))
+
+abbrev pub next_item : ℕ → Reading → Option Reading
+next_item c r = cond (c == 45) (Some (at ClassLast (ranged 45 45 r))) (item c r)
+
+abbrev pub after_char : ℕ → ℕ → Reading → Option Reading
+after_char first c r = cond (c == 45) (Some (at (ClassDash first) r)) (item c (ranged first first r))
+
+abbrev pub class_char : Option ℕ → ℕ → Reading → Option Reading
+class_char None c r = Some (at (ClassChar c) r)
+class_char (Some first) c r = cond (nat_le first c) (Some (at ClassNext (ranged first c r))) None
+
+abbrev pub after_dash : ℕ → ℕ → Reading → Option Reading
+after_dash first c r =
+    cond (c == 93) (Some (class_end (ranged 45 45 (ranged first first r)))) (cond (c == 92) (cond (nat_le first 0xffff) (Some (at (ClassEscape (Some first)) r)) None)
+    (cond (c == 45) (cond (nat_le first 45) (Some (at ClassLast (ranged first 45 r))) None) (class_char (Some first) c r)))
+
+abbrev pub class_char_if : Option ℕ → Option ℕ → Reading → Option Reading
+class_char_if first None r = None
+class_char_if first (Some c) r = class_char first c r
+
+-- whether the range, if one has begun, can end at the character
+abbrev pub can_end : Option ℕ → ℕ → Bool
+can_end None c = true
+can_end (Some first) c = nat_le first c
+
+abbrev pub class_zero : Option ℕ → Reading → Option Reading
+class_zero None r = Some (at (ClassZero false) r)
+class_zero (Some first) r = cond (first == 0) (Some (at (ClassZero true) (ranged 0 0 r))) None
+
+abbrev pub with_ranges : List CharRange → Reading → Reading
+with_ranges ranges r = at ClassNext (record r { ranges = r.ranges ++ ranges })
+
+abbrev pub class_set : Option (List CharRange) → Option ℕ → ℕ → Reading → Option Reading
+class_set (Some ranges) None c r = Some (with_ranges ranges r)
+class_set (Some ranges) (Some first) c r = None
+class_set None first c r =
+    cond (c == 98) (class_char first 8 r) (cond (c == 120) (cond (can_end first 0xff) (Some (at (ClassHex first 0 2) r)) None) (cond (c == 117) (cond (can_end first 0xffff) (Some (at (ClassHex first 0 4) r)) None)
+    (cond (c == 48) (class_zero first r) (class_char_if first (escaped c) r))))
+
+abbrev pub class_hex_to : Option ℕ → Option ℕ → ℕ → ℕ → Reading → Option Reading
+class_hex_to None first value left r = None
+class_hex_to (Some greatest) first value left r = cond (can_end first greatest) (cond (left == 0) (class_char first greatest r) (Some (at (ClassHex first value left) r))) None
+
+abbrev pub class_hex_by : Option ℕ → Option ℕ → ℕ → ℕ → Reading → Option Reading
+class_hex_by None first value left r = None
+class_hex_by (Some d) first value left r = cond (nat_lt 0xfff value || (left == 0)) None (class_hex_to (greatest_from (value * 16 + d) (left - 1)) first (value * 16 + d) (left - 1) r)
+
+-- what a character makes of what was read, by what may stand there
+abbrev pub step_in : Mode → ℕ → Reading → Option Reading
+step_in Term c r = plain false false c r
+step_in Atom c r = plain true false c r
+step_in Quantified c r = plain false true c r
+step_in Zero c r = cond (is_digit c) None (plain true false c r)
+step_in (Braces after_atom) c r = in_braces after_atom c r
+step_in Escape c r = with_set (set_of c) c r
+step_in (Hex value left) c r = hex_by (hex_value c) value left r
+step_in Paren c r = cond (c == 63) (Some (at ParenQuestion r)) (plain false false c (opened Group r))
+step_in ParenQuestion c r = cond (c == 58) (Some (opened Group r)) (cond (c == 61) (Some (opened (Ahead false) r)) (cond (c == 33) (Some (opened (Ahead true) r)) None))
+step_in ClassOpen c r = cond (c == 94) (Some (at ClassFirst (record r { negated = true }))) (item c r)
+step_in ClassFirst c r = item c r
+step_in ClassNext c r = next_item c r
+step_in ClassLast c r = cond (c == 93) (Some (class_end r)) None
+step_in (ClassChar first) c r = after_char first c r
+step_in (ClassDash first) c r = after_dash first c r
+step_in (ClassZero is_last) c r = cond (is_digit c) None (cond is_last (next_item c r) (after_char 0 c r))
+step_in (ClassEscape first) c r = class_set (set_of c) first c r
+step_in (ClassHex first value left) c r = class_hex_by (hex_value c) first value left r
+
+abbrev pub step : ℕ → Reading → Option Reading
+step c r = step_in r.mode c r
+
+-- the tree, where the text ends
+abbrev pub ended : List Open → Reading → Option Tree
+ended [] r = Some (top (chosen r).trees)
+ended (g ∷ gs) r = None
+
+abbrev pub finished_in : Mode → Reading → Option Tree
+finished_in Term r = ended r.groups r
+finished_in Atom r = ended r.groups (joined r)
+finished_in Quantified r = ended r.groups r
+finished_in Zero r = ended r.groups (joined r)
+finished_in (Braces after_atom) r = ended (flushed after_atom r).groups (joined (flushed after_atom r))
+finished_in Escape r = None
+finished_in (Hex value left) r = None
+finished_in Paren r = None
+finished_in ParenQuestion r = None
+finished_in ClassOpen r = None
+finished_in ClassFirst r = None
+finished_in ClassNext r = None
+finished_in ClassLast r = None
+finished_in (ClassChar first) r = None
+finished_in (ClassDash first) r = None
+finished_in (ClassZero is_last) r = None
+finished_in (ClassEscape first) r = None
+finished_in (ClassHex first value left) r = None
+
+abbrev pub finished : Reading → Option Tree
+finished r = finished_in r.mode r
+
+abbrev pub start : Reading
+start = begun (record { trees = []; groups = []; mode = Term; braces = []; negated = false; ranges = [] })
+
+-- a text, character by character
+abbrev pub reads : List ℕ → Reading → Option Reading
+reads [] r = Some r
+reads (c ∷ cs) r = option_and_then (reads cs) (step c r)
+
+-- the tree of a whole text, if it is a pattern
+abbrev pub accepted : List ℕ → Option Tree
+accepted text = option_and_then finished (reads text start)

@@ -1,0 +1,21 @@
+//! Patterns: regular expressions after ECMAScript without flags, and whether one is found in a text.
+#![tactic(auto)]
+
+mod braces;
+mod compile;
+mod error;
+mod escape;
+mod mode;
+mod parse;
+mod passing;
+mod pattern;
+mod piece;
+mod program;
+mod reader;
+mod run;
+mod step;
+#[cfg(test)]
+mod tests;
+
+pub use error::PatternError;
+pub use pattern::Pattern;

@@ -1,0 +1,178 @@
+// From a text to the pieces of its pattern, or the place of its first fault.
+ghost use Rattle.std.specs.Prelude.{◌≡◌, ◌≤◌, ◌<◌, length, slice_index, take, ◌+◌, ◌^◌, IfOk, IfErr, OnOk, Some};
+ghost use Rattle.std.specs.Str.{chars};
+ghost use Rattle.es_pattern.specs.Pieces.{tree_of};
+ghost use Rattle.es_pattern.specs.Parsing.{IsClearBefore, Refuses, StopsBy, byte_place};
+ghost use Rattle.es_pattern.specs.Refusals.{
+  begins_group,
+  begins_named_group,
+  begins_surrogate,
+  begins_unsupported_escape,
+  is_d,
+  is_hex,
+  is_surrogate_digit,
+  is_too_deep,
+  is_unsupported,
+  is_unsupported_letter,
+};
+ghost use Rattle.es_pattern.specs.Reading.{accepted, reads, start};
+ghost use Rattle.es_pattern.specs.ReaderView.{reading};
+
+use crate::error::PatternError;
+use crate::piece::Piece;
+use crate::reader::{Reader, Taken};
+use std::alloc::Global;
+
+/// The greatest number of groups within one another.
+const DEPTH_LIMIT: usize = 200;
+
+fn is_hex(c: char) -> bool
+    ensures { result ≡ is_hex c }
+{
+    matches!(c, '0'..='9' | 'A'..='F' | 'a'..='f')
+}
+
+fn is_d(c: char) -> bool
+    ensures { result ≡ is_d c }
+{
+    c == 'd' || c == 'D'
+}
+
+fn is_surrogate_digit(c: char) -> bool
+    ensures { result ≡ is_surrogate_digit c }
+{
+    matches!(c, '8' | '9' | 'a'..='f' | 'A'..='F')
+}
+
+/// Whether the text begins with the digits of a surrogate.
+fn begins_surrogate(rest: &[char]) -> bool
+    ensures { result ≡ begins_surrogate rest.now }
+{
+    match rest {
+        [a, b, c, d, ..] => is_d(*a) && is_surrogate_digit(*b) && is_hex(*c) && is_hex(*d),
+        _ => false,
+    }
+}
+
+fn is_unsupported_letter(c: char) -> bool
+    ensures { result ≡ is_unsupported_letter c }
+{
+    matches!(c, 'k' | 'p' | 'P' | 'c' | '1'..='9')
+}
+
+/// Whether the text begins with an escape that isn't supported.
+fn begins_unsupported_escape(rest: &[char]) -> bool
+    ensures { result ≡ begins_unsupported_escape rest.now }
+{
+    match rest {
+        [a, b, others @ ..] => {
+            *a == '\\' && (is_unsupported_letter(*b) || *b == 'u' && begins_surrogate(others))
+        }
+        _ => false,
+    }
+}
+
+/// Whether the text begins with `(?<`.
+fn begins_named_group(rest: &[char]) -> bool
+    ensures { result ≡ begins_named_group rest.now }
+{
+    match rest {
+        [a, b, c, ..] => *a == '(' && *b == '?' && *c == '<',
+        _ => false,
+    }
+}
+
+fn begins_group(rest: &[char]) -> bool
+    ensures { result ≡ begins_group rest.now }
+{
+    match rest {
+        [a, ..] => *a == '(',
+        _ => false,
+    }
+}
+
+/// Whether something that isn't supported begins here.
+fn is_unsupported(reader: &Reader, rest: &[char]) -> bool
+    ensures { result ≡ is_unsupported reader.now.mode rest.now }
+{
+    reader.may_escape() && begins_unsupported_escape(rest)
+        || reader.may_open() && begins_named_group(rest)
+}
+
+/// Whether a group begins here within too many others.
+fn is_too_deep(reader: &Reader, rest: &[char]) -> bool
+    ensures { result ≡ is_too_deep (length reader.now.groups.items) reader.now.mode rest.now }
+{
+    reader.may_open() && begins_group(rest) && reader.depth() >= DEPTH_LIMIT
+}
+
+/// Whether something that is refused begins here, whatever the grammar says.
+fn refused(reader: &Reader, rest: &[char], place: usize) -> Result<(), PatternError>
+    ensures { Refuses (length reader.now.groups.items) reader.now.mode rest.now place result }
+{
+    if is_unsupported(reader, rest) {
+        return Err(PatternError::Unsupported { place });
+    }
+    if is_too_deep(reader, rest) {
+        return Err(PatternError::CountTooLarge { place });
+    }
+    Ok(())
+}
+
+/// Takes the character at that number, which is at the byte `place`; `braces` is the byte of the last `{`.
+fn take_next(
+    reader: &mut Reader,
+    characters: &[char],
+    number: usize,
+    place: usize,
+    braces: usize,
+) -> Result<(), PatternError>
+    requires number { number < length characters.now }
+    requires place { place ≡ byte_place characters.now number }
+    requires reads { reads (take number characters.now) start ≡ Some (reading reader.old) }
+    requires clear { IsClearBefore characters.now number }
+    ensures reads { OnOk result (reads (take (number + 1) characters.now) start ≡ Some (reading reader.new)) }
+    ensures clear { OnOk result (IsClearBefore characters.now (number + 1)) }
+    ensures fault { IfErr result (StopsBy characters.now) }
+{
+    refused(reader, &characters[number..], place)?;
+    match reader.take(characters[number])? {
+        Taken::Yes => Ok(()),
+        Taken::No => Err(PatternError::Syntax { place }),
+        Taken::TooLarge => Err(PatternError::CountTooLarge { place: braces }),
+    }
+}
+
+/// The pieces of the pattern that the characters are.
+fn pieces_from(alloc: Global, characters: &[char]) -> Result<Vec<Piece>, PatternError>
+    requires { byte_place characters.now (length characters.now) < 2 ^ 64 }
+    ensures ok { IfOk result (λ pieces. accepted characters.now ≡ Some (tree_of pieces.items)) }
+    ensures clear { OnOk result (IsClearBefore characters.now (length characters.now)) }
+    ensures fault { IfErr result (StopsBy characters.now) }
+{
+    let mut reader = Reader::new(alloc)?;
+    let mut place = 0usize;
+    let mut braces = 0usize;
+    for number in 0..characters.len() {
+        let c = characters[number];
+        if c == '{' {
+            braces = place;
+        }
+        take_next(&mut reader, characters, number, place, braces)?;
+        place += c.len_utf8();
+    }
+    match reader.finish()? {
+        Some(pieces) => Ok(pieces),
+        None => Err(PatternError::Syntax { place }),
+    }
+}
+
+/// The pieces of the pattern that the text is.
+pub fn pieces_of(alloc: Global, text: &str) -> Result<Vec<Piece>, PatternError>
+    ensures ok { IfOk result (λ pieces. accepted (chars text.now) ≡ Some (tree_of pieces.items)) }
+    ensures clear { OnOk result (IsClearBefore (chars text.now) (length (chars text.now))) }
+    ensures fault { IfErr result (StopsBy (chars text.now)) }
+{
+    let characters: Vec<char> = text.chars().collect(alloc)?;
+    pieces_from(alloc, &characters)
+}

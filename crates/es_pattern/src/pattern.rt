@@ -1,0 +1,99 @@
+// A pattern, and whether it is found.
+ghost use Rattle.std.specs.Prelude.{◌≡◌, List, IfOk, IfErr, OnOk, length, ◌↔◌, IsTrue};
+ghost use Rattle.std.specs.Str.{chars};
+ghost use Rattle.es_pattern.specs.Spans.{IsFound};
+ghost use Rattle.es_pattern.specs.Tree.{Tree};
+ghost use Rattle.es_pattern.specs.Pieces.{tree_of, with_piece};
+ghost use Rattle.es_pattern.specs.Parsing.{IsClearBefore, StopsBy};
+ghost use Rattle.es_pattern.specs.Grammar.{IsPattern};
+
+use crate::compile;
+use crate::error::PatternError;
+use crate::parse::pieces_of;
+use crate::piece::Piece;
+use std::alloc::{AllocError, Global};
+use std::marker::Model;
+
+/// A regular expression after ECMAScript without flags, seen as its tree.
+#[derive(Drop)]
+pub struct Pattern {
+    pieces: Vec<Piece>,
+}
+
+impl Model for Pattern {
+    ghost use Rattle.es_pattern.specs.Tree.{Tree};
+    ghost use Rattle.es_pattern.specs.Stored.{tree_code};
+    ghost use Rattle.es_pattern.specs.Pieces.{tree_of};
+
+    ghost Value = { Tree };
+
+    ghost coded = { tree_code };
+
+    ghost view = { λ p. tree_of p.pieces.items };
+}
+
+/// An equal piece.
+fn copied_piece(alloc: Global, piece: &Piece) -> Result<Piece, AllocError>
+    ensures { IfOk result (λ copy. (ts : List Tree) → with_piece copy ts ≡ with_piece piece.now ts) }
+{
+    Ok(match piece {
+        Piece::Nothing => Piece::Nothing,
+        Piece::OneOf { negated, ranges } => Piece::OneOf {
+            negated: *negated,
+            ranges: Vec::from_slice(alloc, ranges)?,
+        },
+        Piece::TextStart => Piece::TextStart,
+        Piece::TextEnd => Piece::TextEnd,
+        Piece::WordBoundary { negated } => Piece::WordBoundary { negated: *negated },
+        Piece::Sequence => Piece::Sequence,
+        Piece::Choice => Piece::Choice,
+        Piece::Repetition { least, more } => Piece::Repetition {
+            least: *least,
+            more: *more,
+        },
+        Piece::Lookahead { negated } => Piece::Lookahead { negated: *negated },
+    })
+}
+
+/// Pieces of the same tree.
+fn copied_pieces(alloc: Global, pieces: &[Piece]) -> Result<Vec<Piece>, AllocError>
+    ensures { IfOk result (λ copies. tree_of copies.items ≡ tree_of pieces.now) }
+{
+    let mut copies = Vec::new(alloc);
+    for piece in pieces {
+        copies.push(copied_piece(alloc, piece)?)?;
+    }
+    Ok(copies)
+}
+
+impl Pattern {
+    /// The pattern that a text is.
+    #[tactic(auto, using(crate::proofs::Sound::accepted_is_pattern))]
+    pub fn parse(alloc: Global, text: &str) -> Result<Pattern, PatternError>
+        ensures ok { IfOk result (λ pattern. IsPattern (chars text.now) pattern) }
+        // Nothing that isn't supported, and no group too deep, begins anywhere.
+        ensures clear { OnOk result (IsClearBefore (chars text.now) (length (chars text.now))) }
+        // The first fault: its kind and its place.
+        ensures fault { IfErr result (StopsBy (chars text.now)) }
+    {
+        Ok(Pattern {
+            pieces: pieces_of(alloc, text)?,
+        })
+    }
+
+    /// Whether some part of the text, an empty one too, is spanned by the pattern.
+    pub fn is_found(&self, alloc: Global, text: &str) -> Result<bool, AllocError>
+        ensures { IfOk result (λ found. IsTrue found ↔ IsFound self.now (chars text.now)) }
+    {
+        compile::is_found(alloc, &self.pieces, text)
+    }
+
+    /// An equal pattern.
+    pub fn try_clone(&self, alloc: Global) -> Result<Pattern, AllocError>
+        ensures { IfOk result (λ copy. copy ≡ self.now) }
+    {
+        Ok(Pattern {
+            pieces: copied_pieces(alloc, &self.pieces)?,
+        })
+    }
+}
