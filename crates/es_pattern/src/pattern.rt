@@ -81,7 +81,7 @@ impl Pattern {
         })
     }
 
-    /// Whether some part of the text, an empty one too, is spanned by the pattern.
+    /// Whether the pattern spans a part of the text, wherever it stands. The part may be empty.
     pub fn is_found(&self, alloc: Global, text: &str) -> Result<bool, AllocError>
         ensures { IfOk result (λ found. IsTrue found ↔ IsFound self.now (chars text.now)) }
     {
