@@ -3,7 +3,7 @@ use crate::{ReadManifestError, payload_of, read_manifest};
 use serde_json::Value;
 use std::test::Fail;
 
-// An application with a package `foo`, whose peer `peer` it has to bring, and a package `tool` that falls back.
+// An application with packages `foo` and `alone`, and a package `hidden` that owns no path.
 fn manifest_text() -> &'static str {
     r#"const RAW_RUNTIME_STATE =
 '{"dependencyTreeRoots":[{"name":"app","reference":"workspace:."}],"enableTopLevelFallback":true,"ignorePatternData":null,"fallbackExclusionList":[["app",["workspace:."]],["alone",["npm:1.0.0"]]],"fallbackPool":[["pooled","npm:3.0.0"]],"packageRegistryData":[[null,[[null,{"packageLocation":"./","packageDependencies":[["foo","npm:1.0.0"],["top","npm:4.0.0"]]}]]],["app",[["workspace:.",{"packageLocation":"./","packageDependencies":[["foo","npm:1.0.0"],["other",["foo","npm:1.0.0"]]]}]]],["foo",[["npm:1.0.0",{"packageLocation":"./.yarn/foo/","packageDependencies":[["peer",null],["top",null]]}]]],["alone",[["npm:1.0.0",{"packageLocation":"./.yarn/alone/","packageDependencies":[["peer",null]]}]]],["hidden",[["npm:1.0.0",{"packageLocation":"./.yarn/foo/hidden/","discardFromLookup":true,"packageDependencies":[]}]]]]}';
