@@ -1,13 +1,14 @@
 -- Numbers by their decimal digits.
 use Rattle.std.proofs.Common.{inl, inr, ◌≡◌, ℕ, zero, suc, ◌+◌, ◌-◌, ◌*◌, ◌<◌, ◌≤◌, Bool, true, false, cond, List, [], ◌∷◌, ◌++◌, length, get_or, take, replicate, Option, Some, None, refl, sym, ap, subst, ◌∙◌, arith}
-use Rattle.std.specs.Prelude.{IsTrue, nat_lt, nat_le, min, option_map, unwrap_or, ◌↔◌, ◌⊎◌}
+use Rattle.std.specs.Prelude.{IsTrue, nat_lt, nat_le, min, max, ◌^◌, ◌&&◌, ◌||◌, option_map, unwrap_or, ◌↔◌, ◌⊎◌}
 use Rattle.std.specs.Bool.{then_some}
 use Rattle.std.proofs.lemmas.Bool.{cases_lt, false≢true}
 use Rattle.std.proofs.lemmas.Bool.Decides.{nat_tests}
 use Rattle.std.proofs.lemmas.List.{length-append, length-replicate, take_all}
 use Rattle.std.proofs.lemmas.Option.{same_Some}
 use Rattle.es_pattern.specs.declared.braces.Bounds.{Bounds}
-use Rattle.es_pattern.specs.Reading.{Reading, second_bounds, pair_bounds, bounds_by, in_braces_end, marked, quantified}
+use Rattle.es_pattern.specs.Reading.{Reading, second_bounds, pair_bounds, bounds_by, in_braces_end, marked, quantified, charged, overcounts}
+use Rattle.es_pattern.specs.Limits.{is_above_limit, count_of}
 use Rattle.es_pattern.specs.Spans.{IsUpTo}
 use Rattle.es_pattern.proofs.Runnings.{lt_from}
 use Rattle.es_pattern.specs.Escapes.{is_digit}
@@ -128,15 +129,40 @@ module _ (b : Bool) (count last : ℕ) where
 pub one_bounded : (text : List ℕ) (count : ℕ) → Counts text (Some count) → Bounded (bounds_by None text) (Some (record { least = count; most = Some count }))
 one_bounded text count c = (c.0, Some c.0, ap (option_map (λ (k : ℕ). (k, Some k))) c.1, c.2, ap (λ (k : ℕ). Some k) c.2, omega arith)
 
--- a quantifier in braces whose counts are within the limit
+-- a quantifier in braces whose counts and product are within the limits
 pub taken_bounds : (spec : Option (ℕ × Option ℕ)) (b : Bounds) (more : Option ℕ) (after : Bool) (old new : Reading) → Bounded spec (Some b) → after ≡ true → unwrap_or b.most b.least ≤ 1000 → b.least ≤ 1000 → more ≡ option_map (λ most. most - b.least) b.most
-    → new ≡ quantified b.least (option_map (λ n. b.least + n) more) old → in_braces_end spec after 125 old ≡ Some new
-taken_bounds spec b more after old new h yes_ le_most le_least more_is new_is =
-    ap (λ (s : Option (ℕ × Option ℕ)). in_braces_end s after 125 old) h.2 ∙ ap (λ (t : Bool). marked t h.0 h.1 old) yes_
-    ∙ ap (λ (r : Reading). Some r) (sym (new_is ∙ ap (λ (n : ℕ). quantified n (option_map (λ k. b.least + k) more) old) least_is ∙ ap (λ (m : Option ℕ). quantified h.0 m old) most_is))
+    → (product : ℕ) → product ≡ min (old.atom_product * max (unwrap_or b.most b.least) 1) (2 ^ 32 - 1) → product ≤ 100000
+    → new ≡ quantified b.least (option_map (λ n. b.least + n) more) (charged product old) → (overcounts spec after old ≡ false) × (in_braces_end spec after 125 old ≡ Some new)
+taken_bounds spec b more after old new h yes_ le_most le_least more_is product product_is product_small new_is =
+    (ap (λ (s : Option (ℕ × Option ℕ)). overcounts s after old) h.2 ∙ within,
+    ap (λ (s : Option (ℕ × Option ℕ)). in_braces_end s after 125 old) h.2 ∙ ap (λ (t : Bool). marked t (old.atom_product * count_of h.0 h.1) h.0 h.1 old) yes_
+    ∙ ap (λ (r : Reading). Some r) (sym (new_is ∙ ap (λ (p : ℕ). quantified b.least (option_map (λ k. b.least + k) more) (charged p old)) whole_product ∙ ap (λ (n : ℕ). quantified n (option_map (λ k. b.least + k) more) (charged (old.atom_product * count_of h.0 h.1) old)) least_is
+    ∙ ap (λ (m : Option ℕ). quantified h.0 m (charged (old.atom_product * count_of h.0 h.1) old)) most_is)))
   where
     least_is : b.least ≡ h.0
     least_is = omega (arith, h.3, le_least)
+
+    small_bound : (m : Option ℕ) → b.most ≡ option_map (λ k. min k 1001) m → unwrap_or b.most b.least ≡ unwrap_or m h.0
+    small_bound None e = ap (λ (o : Option ℕ). unwrap_or o b.least) e ∙ least_is
+    small_bound (Some k) e =
+        let small : min k 1001 ≤ 1000 = subst (λ (o : Option ℕ). unwrap_or o b.least ≤ 1000) e le_most in
+        let whole : min k 1001 ≡ k = omega (arith, small) in
+        ap (λ (o : Option ℕ). unwrap_or o b.least) e ∙ whole
+
+    same_most : unwrap_or b.most b.least ≡ unwrap_or h.1 h.0
+    same_most = small_bound h.1 h.4
+
+    whole_product : product ≡ old.atom_product * count_of h.0 h.1
+    whole_product =
+        let e : old.atom_product * max (unwrap_or b.most b.least) 1 ≡ old.atom_product * count_of h.0 h.1 = ap (λ (k : ℕ). old.atom_product * max k 1) same_most in
+        omega (arith, product_is, product_small, e)
+
+    not_above : (a : ℕ) (k : ℕ) → a ≤ k → nat_lt k a ≡ false
+    not_above a k le = grind (arith, nat_tests)
+
+    within : is_above_limit h.0 h.1 || after && nat_lt 100000 (old.atom_product * count_of h.0 h.1) ≡ false
+    within =
+        rw (not_above h.0 1000 (omega (arith, least_is, le_least)), not_above (unwrap_or h.1 h.0) 1000 (omega (arith, same_most, le_most)), not_above (old.atom_product * count_of h.0 h.1) 100000 (omega (arith, whole_product, product_small)), yes_) refl
 
     by_bound : (m : Option ℕ) → b.most ≡ option_map (λ k. min k 1001) m → IsUpTo m h.0 → option_map (λ n. b.least + n) (option_map (λ most. most - b.least) b.most) ≡ m
     by_bound None e u = ap (λ (o : Option ℕ). option_map (λ n. b.least + n) (option_map (λ most. most - b.least) o)) e

@@ -7,3 +7,4 @@ pub mod Digits
 pub mod Parsings
 pub mod Sound
 pub mod BracesRead
+pub mod Sane

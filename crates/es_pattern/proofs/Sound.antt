@@ -1,6 +1,6 @@
 -- What is read as a pattern is one, with the tree that was read.
 use Rattle.std.proofs.Common.{◌≡◌, ℕ, zero, suc, ◌+◌, ◌-◌, ◌*◌, ◌<◌, ◌≤◌, Bool, true, false, cond, List, [], ◌∷◌, ◌++◌, inl, inr, Option, Some, None, refl, sym, ap, subst, ◌∙◌, arith}
-use Rattle.std.specs.Prelude.{◌==◌, ◌&&◌, ◌||◌, ◌⊎◌, nat_le, nat_lt, option_and_then}
+use Rattle.std.specs.Prelude.{◌==◌, ◌&&◌, ◌||◌, ◌⊎◌, max, nat_le, nat_lt, option_and_then}
 use Rattle.std.proofs.lemmas.List.{append_assoc}
 use Rattle.std.proofs.lemmas.Option.{same_Some}
 use Rattle.std.proofs.lemmas.Bool.{false≢true}
@@ -16,7 +16,8 @@ use Rattle.es_pattern.specs.declared.mode.Open.TheVariants.{Group, Ahead}
 use Rattle.es_pattern.specs.declared.mode.Mode.{Mode}
 use Rattle.es_pattern.specs.declared.mode.Mode.TheVariants.{Term, Atom, Quantified, Zero, Braces, Escape, Paren, ParenQuestion, ClassOpen, ClassFirst, ClassNext, ClassLast}
 use Rattle.es_pattern.specs.declared.mode.Mode.TheVariants as modes
-use Rattle.es_pattern.specs.Reading.{Reading, closed_by, quantified, marked, term_begun, plain, with_set, with_char, asserted, joined, settled, with_atom, opened, at, leaf, chosen, greatest_from, scalar, hex_to, hex_by, flushed, flushed_chars, bounds_of, in_braces_end, is_inner, may_be_comma, in_braces, ranged, class_end, item, next_item, after_char, class_char, after_dash, class_char_if, can_end, class_zero, with_ranges, class_set, class_hex_to, class_hex_by, step_in, step, ended, finished_in, finished, start, reads, accepted}
+use Rattle.es_pattern.specs.Reading.{Reading, charged, with_term, top_product, products_below, closed_by, quantified, marked, term_begun, plain, with_set, with_char, asserted, joined, settled, with_atom, opened, at, leaf, chosen, greatest_from, scalar, hex_to, hex_by, flushed, flushed_chars, bounds_of, in_braces_end, is_inner, may_be_comma, in_braces, ranged, class_end, item, next_item, after_char, class_char, after_dash, class_char_if, can_end, class_zero, with_ranges, class_set, class_hex_to, class_hex_by, step_in, step, ended, finished_in, finished, start, reads, accepted}
+use Rattle.es_pattern.specs.Limits.{count_of}
 use Rattle.es_pattern.proofs.BracesRead.{AllInner, inner-append, bounds_sound, breaks, breaks_at_end}
 
 -- a test's two ways
@@ -36,7 +37,7 @@ pub data Suffix : Tree → Tree → List ℕ → List ℕ → Type 0 where
   greedy_suffix : {a : Tree} {least : ℕ} {most : Option ℕ} {text rest : List ℕ} → Mark least most text rest → Suffix a (repetition least most a) text rest
   lazy_suffix : {a : Tree} {least : ℕ} {most : Option ℕ} {text rest : List ℕ} → Mark least most text (63 ∷ rest) → Suffix a (repetition least most a) text rest
 
-suffix_term : {a t : Tree} {text mid rest : List ℕ} → Reads (atom a) text mid → Suffix a t mid rest → Reads (term t) text rest
+pub suffix_term : {a t : Tree} {text mid rest : List ℕ} → Reads (atom a) text mid → Suffix a t mid rest → Reads (term t) text rest
 suffix_term r no_suffix = once r
 suffix_term r (greedy_suffix m) = greedy r m
 suffix_term r (lazy_suffix m) = lazy r m
@@ -62,7 +63,7 @@ pub data After : ℕ → List CharRange → List ℕ → List ℕ → List CharR
   after_range : {c d : ℕ} {ranges all : List CharRange} {mid after rest : List ℕ} → ClassChar d mid after → c ≤ d → Items false (ranges ++ range c d ∷ []) after rest all → After c ranges (45 ∷ mid) rest all
   after_dash_end : {c : ℕ} {ranges : List CharRange} {rest : List ℕ} → c ≤ 45 → After c ranges (45 ∷ 45 ∷ 93 ∷ rest) rest (ranges ++ range c 45 ∷ [])
 
-first_after : {f : Bool} {c : ℕ} {ranges all : List CharRange} {text mid rest : List ℕ} → FirstChar f c text mid → After c ranges mid rest all → Items f ranges text rest all
+pub first_after : {f : Bool} {c : ℕ} {ranges all : List CharRange} {text mid rest : List ℕ} → FirstChar f c text mid → After c ranges mid rest all → Items f ranges text rest all
 first_after r (after_one i) = one_char r i
 first_after r (after_range d le i) = from_to r d le i
 first_after r (after_dash_end le) = to_dash r le
@@ -71,7 +72,7 @@ pub data EscapeItem : List CharRange → List ℕ → List ℕ → List CharRang
   escape_set : {letter : ℕ} {ranges more all : List CharRange} {text rest : List ℕ} → set_of letter ≡ Some more → Items false (ranges ++ more) text rest all → EscapeItem ranges (letter ∷ text) rest all
   escape_char : {c : ℕ} {ranges all : List CharRange} {text mid rest : List ℕ} → ClassChar c (92 ∷ text) mid → After c ranges mid rest all → EscapeItem ranges text rest all
 
-escape_item : {f : Bool} {ranges all : List CharRange} {text rest : List ℕ} → EscapeItem ranges text rest all → Items f ranges (92 ∷ text) rest all
+pub escape_item : {f : Bool} {ranges all : List CharRange} {text rest : List ℕ} → EscapeItem ranges text rest all → Items f ranges (92 ∷ text) rest all
 escape_item (escape_set e i) = one_set e i
 escape_item (escape_char r a) = first_after (other_char r) a
 
@@ -127,58 +128,58 @@ abbrev pub Completes : Reading → List ℕ → Tree → Type 0
 Completes r rest t = CompletesIn r.mode r rest t
 
 -- what is completed from the new reading on
-completes_at : (x s : Reading) (w : List ℕ) (t : Tree) → Some x ≡ Some s → Completes s w t → Completes x w t
+pub completes_at : (x s : Reading) (w : List ℕ) (t : Tree) → Some x ≡ Some s → Completes s w t → Completes x w t
 completes_at x s w t e h = subst (λ (y : Reading). Completes y w t) (sym (same_Some x s e)) h
 
-no_reading : {P : Type 0} (s : Reading) → ◌≡◌ {A = Option Reading} None (Some s) → P
+pub no_reading : {P : Type 0} (s : Reading) → ◌≡◌ {A = Option Reading} None (Some s) → P
 no_reading s e = cc
 
 module _ (ts : List Tree) (gs : List Open) (t : Tree) where
-  term_next : (u : Tree) (text mid : List ℕ) → Reads (term u) text mid → InTerm (sequence (top ts) u ∷ below ts) gs mid t → InTerm ts gs text t
+  pub term_next : (u : Tree) (text mid : List ℕ) → Reads (term u) text mid → InTerm (sequence (top ts) u ∷ below ts) gs mid t → InTerm ts gs text t
   term_next u text mid r i = (i.0, i.1, followed r i.2, i.3)
 
-  atom_next : (a : Tree) (text mid : List ℕ) → Reads (atom a) text mid → AfterAtom a ts gs mid t → InTerm ts gs text t
+  pub atom_next : (a : Tree) (text mid : List ℕ) → Reads (atom a) text mid → AfterAtom a ts gs mid t → InTerm ts gs text t
   atom_next a text mid r h = term_next h.0 text h.1 (suffix_term r h.2) h.3
 
-  unsuffixed : (a : Tree) (rest : List ℕ) → InTerm (sequence (top ts) a ∷ below ts) gs rest t → AfterAtom a ts gs rest t
+  pub unsuffixed : (a : Tree) (rest : List ℕ) → InTerm (sequence (top ts) a ∷ below ts) gs rest t → AfterAtom a ts gs rest t
   unsuffixed a rest i = (a, rest, no_suffix, i)
 
   -- at a given character
-  term_at : (c k : ℕ) (w : List ℕ) → c == k ≡ true → InTerm ts gs (k ∷ w) t → InTerm ts gs (c ∷ w) t
+  pub term_at : (c k : ℕ) (w : List ℕ) → c == k ≡ true → InTerm ts gs (k ∷ w) t → InTerm ts gs (c ∷ w) t
   term_at c k w e i = subst (λ (d : ℕ). InTerm ts gs (d ∷ w) t) (sym (is_char c k e)) i
 
-  opened_next : (text w : List ℕ) → ((g : Tree) (rest : List ℕ) → Reads (alternatives never nothing g) w (41 ∷ rest) → Reads (atom g) text rest) → InTerm (nothing ∷ never ∷ ts) (Group ∷ gs) w t → InTerm ts gs text t
+  pub opened_next : (text w : List ℕ) → ((g : Tree) (rest : List ℕ) → Reads (alternatives never nothing g) w (41 ∷ rest) → Reads (atom g) text rest) → InTerm (nothing ∷ never ∷ ts) (Group ∷ gs) w t → InTerm ts gs text t
   opened_next text w build i =
       let c = i.3 in
       let body = subst (λ (o : List ℕ). Reads (alternatives never nothing i.1) w o) c.1 i.2 in
       atom_next i.1 text c.0 (build i.1 c.0 body) c.2
 
-  ahead_next : (negated : Bool) (text w : List ℕ) → ((g : Tree) (rest : List ℕ) → Reads (alternatives never nothing g) w (41 ∷ rest) → Reads (term (lookahead negated g)) text rest) → InTerm (nothing ∷ never ∷ ts) (Ahead negated ∷ gs) w t → InTerm ts gs text t
+  pub ahead_next : (negated : Bool) (text w : List ℕ) → ((g : Tree) (rest : List ℕ) → Reads (alternatives never nothing g) w (41 ∷ rest) → Reads (term (lookahead negated g)) text rest) → InTerm (nothing ∷ never ∷ ts) (Ahead negated ∷ gs) w t → InTerm ts gs text t
   ahead_next negated text w build i =
       let c = i.3 in
       let body = subst (λ (o : List ℕ). Reads (alternatives never nothing i.1) w o) c.1 i.2 in
       term_next (lookahead negated i.1) text c.0 (build i.1 c.0 body) c.2
 
 -- the end of a group
-closed_next : (gs : List Open) (r s : Reading) (w : List ℕ) (t : Tree) → r.groups ≡ gs → closed_by gs r ≡ Some s → Completes s w t → InTerm r.trees gs (41 ∷ w) t
+pub closed_next : (gs : List Open) (r s : Reading) (w : List ℕ) (t : Tree) → r.groups ≡ gs → closed_by gs r ≡ Some s → Completes s w t → InTerm r.trees gs (41 ∷ w) t
 closed_next [] r s w t g e h = no_reading s e
 closed_next (Group ∷ gs) r s w t g e h =
-    let i = completes_at (at Atom (chosen (record r { groups = gs }))) s w t e h in
+    let i = completes_at (at Atom (chosen (record r { groups = gs; products = products_below r.products; product = top_product r.products; atom_product = r.product }))) s w t e h in
     (41 ∷ w, choice (top (below r.trees)) (top r.trees), ends, (w, refl, i))
 closed_next (Ahead negated ∷ gs) r s w t g e h =
     let lower = below (below r.trees) in
-    let x : Reading = at Term (joined (record r { groups = gs; trees = lookahead negated (choice (top (below r.trees)) (top r.trees)) ∷ lower })) in
+    let x : Reading = at Term (joined (record r { groups = gs; products = products_below r.products; product = max r.product (top_product r.products); trees = lookahead negated (choice (top (below r.trees)) (top r.trees)) ∷ lower })) in
     let i = completes_at x s w t e h in
     (41 ∷ w, choice (top (below r.trees)) (top r.trees), ends, (w, refl, i))
 
-all_false : (c : ℕ) → c == 94 ≡ false → c == 36 ≡ false → c == 92 ≡ false → c == 46 ≡ false → c == 42 ≡ false → c == 43 ≡ false → c == 63 ≡ false → c == 40 ≡ false → c == 41 ≡ false → c == 91 ≡ false → c == 124 ≡ false → is_plain c ≡ true
+pub all_false : (c : ℕ) → c == 94 ≡ false → c == 36 ≡ false → c == 92 ≡ false → c == 46 ≡ false → c == 42 ≡ false → c == 43 ≡ false → c == 63 ≡ false → c == 40 ≡ false → c == 41 ≡ false → c == 91 ≡ false → c == 124 ≡ false → is_plain c ≡ true
 all_false c a b d e f g h i j k l = rw (a, b, d, e, f, g, h, i, j, k, l)
 
-no_braces : (c : ℕ) (w : List ℕ) → (c ≡ 123 → ⊥) → BeginsBraces (c ∷ w) → ⊥
+pub no_braces : (c : ℕ) (w : List ℕ) → (c ≡ 123 → ⊥) → BeginsBraces (c ∷ w) → ⊥
 no_braces c w apart h = apart (cc (h.5))
 
 -- a character where a term may begin, that is no quantifier and no `{`
-term_step : (c : ℕ) (r s : Reading) (w : List ℕ) (t : Tree) → c == 42 ≡ false → c == 43 ≡ false → c == 63 ≡ false → c == 123 ≡ false → term_begun c r ≡ Some s → Completes s w t → InTerm r.trees r.groups (c ∷ w) t
+pub term_step : (c : ℕ) (r s : Reading) (w : List ℕ) (t : Tree) → c == 42 ≡ false → c == 43 ≡ false → c == 63 ≡ false → c == 123 ≡ false → term_begun c r ≡ Some s → Completes s w t → InTerm r.trees r.groups (c ∷ w) t
 term_step c r s w t n42 n43 n63 n123 e h =
     let P : Type 0 = InTerm r.trees r.groups (c ∷ w) t in
     let ts = r.trees in
@@ -193,13 +194,13 @@ term_step c r s w t n42 n43 n63 n123 e h =
     if_else (c == 46) _ _ s P e8 (λ y x. term_at ts gs t c 46 w y (atom_next ts gs t any (46 ∷ w) w dot (completes_at (with_atom any r) s w t x h))) (λ n46 x.
     atom_next ts gs t (char c) (c ∷ w) w (ordinary (all_false c n94 n36 n92 n46 n42 n43 n63 n40 n41 n91 n124) (no_braces c w (is_no_char c 123 n123))) (completes_at (with_atom (char c) r) s w t x h)))))))))
   where
-    class_opened : (ts : List Tree) (gs : List Open) (w : List ℕ) → CompletesIn ClassOpen (record { trees = ts; groups = gs; mode = ClassOpen; braces = []; negated = false; ranges = [] }) w t → InTerm ts gs (91 ∷ w) t
+    class_opened : (ts : List Tree) (gs : List Open) (w : List ℕ) → CompletesIn ClassOpen (record { trees = ts; groups = gs; mode = ClassOpen; braces = []; negated = false; ranges = []; product = 1; atom_product = 1; products = [] }) w t → InTerm ts gs (91 ∷ w) t
     class_opened ts gs w (inl h) = let i = h.1 in atom_next ts gs t (one_of false i.0) (91 ∷ w) i.1 (class h.0 i.2) i.3
     class_opened ts gs w (inr h) = let i = h.2 in subst (λ (v : List ℕ). InTerm ts gs (91 ∷ v) t) (sym h.1) (atom_next ts gs t (one_of true i.0) (91 ∷ 94 ∷ h.0) i.1 (negated_class i.2) i.3)
 
 -- a quantifier after an atom
-mark_step : (r s : Reading) (least : ℕ) (most : Option ℕ) (w text : List ℕ) (t : Tree) → ((rest : List ℕ) → rest ≡ w → Mark least most text rest) → quantified least most r ≡ s → Completes s w t → AfterAtom (top r.trees) (below r.trees) r.groups text t
-mark_step r s least most w text t mark e h = by_lazy (subst (λ (y : Reading). Completes y w t) (sym e) h)
+pub mark_step : (r s : Reading) (product least : ℕ) (most : Option ℕ) (w text : List ℕ) (t : Tree) → ((rest : List ℕ) → rest ≡ w → Mark least most text rest) → quantified least most (charged product r) ≡ s → Completes s w t → AfterAtom (top r.trees) (below r.trees) r.groups text t
+mark_step r s product least most w text t mark e h = by_lazy (subst (λ (y : Reading). Completes y w t) (sym e) h)
   where
     ts : List Tree
     ts = sequence (top (below r.trees)) (repetition least most (top r.trees)) ∷ below (below r.trees)
@@ -209,7 +210,7 @@ mark_step r s least most w text t mark e h = by_lazy (subst (λ (y : Reading). C
     by_lazy (inr l) = (repetition least most (top r.trees), l.0, lazy_suffix (mark (63 ∷ l.0) (sym l.1)), l.2)
 
 -- where a term may begin, or a quantifier after an atom
-plain_step : (after_atom may_be_lazy : Bool) (c : ℕ) (r s : Reading) (w : List ℕ) (t : Tree) → plain after_atom may_be_lazy c r ≡ Some s → Completes s w t → Base after_atom r (c ∷ w) t ⊎ ((may_be_lazy ≡ true) × (c ≡ 63) × InTerm r.trees r.groups w t)
+pub plain_step : (after_atom may_be_lazy : Bool) (c : ℕ) (r s : Reading) (w : List ℕ) (t : Tree) → plain after_atom may_be_lazy c r ≡ Some s → Completes s w t → Base after_atom r (c ∷ w) t ⊎ ((may_be_lazy ≡ true) × (c ≡ 63) × InTerm r.trees r.groups w t)
 plain_step after_atom may_be_lazy c r s w t e h =
     let P : Type 0 = Base after_atom r (c ∷ w) t ⊎ ((may_be_lazy ≡ true) × (c ≡ 63) × InTerm r.trees r.groups w t) in
     if_else (c == 42) _ _ s P e (λ y x. inl (marked_step after_atom 0 None 42 y (λ rest same. subst (λ (v : List ℕ). Mark 0 None (42 ∷ w) v) (sym same) star_mark) x)) (λ n42 e2.
@@ -220,15 +221,15 @@ plain_step after_atom may_be_lazy c r s w t e h =
     based : (after : Bool) (k : ℕ) → c == k ≡ true → Base after r (k ∷ w) t → Base after r (c ∷ w) t
     based after k y b = subst (λ (d : ℕ). Base after r (d ∷ w) t) (sym (is_char c k y)) b
 
-    marked_step : (after : Bool) (least : ℕ) (most : Option ℕ) (k : ℕ) → c == k ≡ true → ((rest : List ℕ) → rest ≡ w → Mark least most (k ∷ w) rest) → marked after least most r ≡ Some s → Base after r (c ∷ w) t
-    marked_step true least most k y mark x = based true k y (mark_step r s least most w (k ∷ w) t mark (same_Some (quantified least most r) s x) h)
+    marked_step : (after : Bool) (least : ℕ) (most : Option ℕ) (k : ℕ) → c == k ≡ true → ((rest : List ℕ) → rest ≡ w → Mark least most (k ∷ w) rest) → marked after r.atom_product least most r ≡ Some s → Base after r (c ∷ w) t
+    marked_step true least most k y mark x = based true k y (mark_step r s r.atom_product least most w (k ∷ w) t mark (same_Some (quantified least most (charged r.atom_product r)) s x) h)
     marked_step false least most k y mark x = no_reading s x
 
-    lazy_by : (after may : Bool) → c == 63 ≡ true → cond may (Some (at Term r)) (marked after 0 (Some 1) r) ≡ Some s → Base after r (c ∷ w) t ⊎ ((may ≡ true) × (c ≡ 63) × InTerm r.trees r.groups w t)
+    lazy_by : (after may : Bool) → c == 63 ≡ true → cond may (Some (at Term r)) (marked after r.atom_product 0 (Some 1) r) ≡ Some s → Base after r (c ∷ w) t ⊎ ((may ≡ true) × (c ≡ 63) × InTerm r.trees r.groups w t)
     lazy_by after true y x = inr (refl, is_char c 63 y, completes_at (at Term r) s w t x h)
     lazy_by after false y x = inl (marked_step after 0 (Some 1) 63 y (λ rest same. subst (λ (v : List ℕ). Mark 0 (Some 1) (63 ∷ w) v) (sym same) question_mark) x)
 
-    lazy_step : c == 63 ≡ true → cond may_be_lazy (Some (at Term r)) (marked after_atom 0 (Some 1) r) ≡ Some s → Base after_atom r (c ∷ w) t ⊎ ((may_be_lazy ≡ true) × (c ≡ 63) × InTerm r.trees r.groups w t)
+    lazy_step : c == 63 ≡ true → cond may_be_lazy (Some (at Term r)) (marked after_atom r.atom_product 0 (Some 1) r) ≡ Some s → Base after_atom r (c ∷ w) t ⊎ ((may_be_lazy ≡ true) × (c ≡ 63) × InTerm r.trees r.groups w t)
     lazy_step y x = lazy_by after_atom may_be_lazy y x
 
     braced : (after : Bool) → c == 123 ≡ true → Some (at (Braces after) (record r { braces = [] })) ≡ Some s → Base after r (c ∷ w) t
@@ -239,11 +240,11 @@ plain_step after_atom may_be_lazy c r s w t e h =
         unbraced false b = b
 
     settled_step : (after : Bool) → c == 42 ≡ false → c == 43 ≡ false → c == 63 ≡ false → c == 123 ≡ false → term_begun c (settled after r) ≡ Some s → Base after r (c ∷ w) t
-    settled_step true n42 n43 n63 n123 x = unsuffixed (below r.trees) r.groups t (top r.trees) (c ∷ w) (term_step c (joined r) s w t n42 n43 n63 n123 x h)
+    settled_step true n42 n43 n63 n123 x = unsuffixed (below r.trees) r.groups t (top r.trees) (c ∷ w) (term_step c (with_term r) s w t n42 n43 n63 n123 x h)
     settled_step false n42 n43 n63 n123 x = term_step c r s w t n42 n43 n63 n123 x h
 
 -- the same without what makes a quantifier lazy
-base_step : (after_atom : Bool) (c : ℕ) (r s : Reading) (w : List ℕ) (t : Tree) → plain after_atom false c r ≡ Some s → Completes s w t → Base after_atom r (c ∷ w) t
+pub base_step : (after_atom : Bool) (c : ℕ) (r s : Reading) (w : List ℕ) (t : Tree) → plain after_atom false c r ≡ Some s → Completes s w t → Base after_atom r (c ∷ w) t
 base_step after_atom c r s w t e h = by_cases (plain_step after_atom false c r s w t e h)
   where
     by_cases : Base after_atom r (c ∷ w) t ⊎ ((false ≡ true) × (c ≡ 63) × InTerm r.trees r.groups w t) → Base after_atom r (c ∷ w) t
@@ -251,7 +252,7 @@ base_step after_atom c r s w t e h = by_cases (plain_step after_atom false c r s
     by_cases (inr l) = absurd (false≢true l.0)
 
 -- digits and commas stand for themselves
-digit_plain : (c : ℕ) → is_digit c ≡ true → is_plain c ≡ true
+pub digit_plain : (c : ℕ) → is_digit c ≡ true → is_plain c ≡ true
 digit_plain c h =
     let low : 48 ≤ c = grind (arith, nat_tests) in
     let high : c ≤ 57 = grind (arith, nat_tests) in
@@ -264,31 +265,31 @@ digit_plain c h =
     apart_low : (k : ℕ) → k < c → c == k ≡ false
     apart_low k lt = grind (arith, nat_tests)
 
-inner_atom : (c : ℕ) (rest : List ℕ) → (is_digit c ≡ true) ⊎ (c ≡ 44) → Reads (atom (char c)) (c ∷ rest) rest
+pub inner_atom : (c : ℕ) (rest : List ℕ) → (is_digit c ≡ true) ⊎ (c ≡ 44) → Reads (atom (char c)) (c ∷ rest) rest
 inner_atom c rest (inl h) = ordinary (digit_plain c h) (no_braces c rest (λ e. no_digit c h e))
   where
     no_digit : (c : ℕ) → is_digit c ≡ true → c ≡ 123 → ⊥
     no_digit c h e = grind (arith, nat_tests)
 inner_atom c rest (inr h) = subst (λ (d : ℕ). Reads (atom (char d)) (d ∷ rest) rest) (sym h) (ordinary refl (no_braces 44 rest (λ e. absurd (omega (arith, e)))))
 
-flushed_chars_next : (cs : List ℕ) (r : Reading) (rest : List ℕ) (t : Tree) → AllInner cs → AfterAtom (top (flushed_chars cs r).trees) (below (flushed_chars cs r).trees) (flushed_chars cs r).groups rest t
+pub flushed_chars_next : (cs : List ℕ) (r : Reading) (rest : List ℕ) (t : Tree) → AllInner cs → AfterAtom (top (flushed_chars cs r).trees) (below (flushed_chars cs r).trees) (flushed_chars cs r).groups rest t
     → AfterAtom (top r.trees) (below r.trees) r.groups (cs ++ rest) t
 flushed_chars_next [] r rest t h a = a
 flushed_chars_next (c ∷ cs) r rest t h a =
-    let later = flushed_chars_next cs (with_atom (char c) (joined r)) rest t h.1 a in
+    let later = flushed_chars_next cs (with_atom (char c) (with_term r)) rest t h.1 a in
     unsuffixed (below r.trees) r.groups t (top r.trees) (c ∷ (cs ++ rest)) (atom_next (joined r).trees r.groups t (char c) (c ∷ (cs ++ rest)) (cs ++ rest) (inner_atom c (cs ++ rest) h.0) later)
 
 -- braces that are no quantifier
-flushed_next : (after_atom : Bool) (r : Reading) (rest : List ℕ) (t : Tree) → AllInner r.braces → (BeginsBraces (123 ∷ (r.braces ++ rest)) → ⊥)
+pub flushed_next : (after_atom : Bool) (r : Reading) (rest : List ℕ) (t : Tree) → AllInner r.braces → (BeginsBraces (123 ∷ (r.braces ++ rest)) → ⊥)
     → AfterAtom (top (flushed after_atom r).trees) (below (flushed after_atom r).trees) (flushed after_atom r).groups rest t → Base after_atom r (123 ∷ (r.braces ++ rest)) t
 flushed_next true r rest t h no_b a =
-    let later = flushed_chars_next r.braces (record (with_atom (char 123) (joined r)) { braces = [] }) rest t h a in
+    let later = flushed_chars_next r.braces (record (with_atom (char 123) (with_term r)) { braces = [] }) rest t h a in
     unsuffixed (below r.trees) r.groups t (top r.trees) (123 ∷ (r.braces ++ rest)) (atom_next (joined r).trees r.groups t (char 123) (123 ∷ (r.braces ++ rest)) (r.braces ++ rest) (ordinary refl no_b) later)
 flushed_next false r rest t h no_b a =
     let later = flushed_chars_next r.braces (record (with_atom (char 123) r) { braces = [] }) rest t h a in
     atom_next r.trees r.groups t (char 123) (123 ∷ (r.braces ++ rest)) (r.braces ++ rest) (ordinary refl no_b) later
 
-inner_is : (bs : List ℕ) (c : ℕ) → is_inner bs c ≡ true → (is_digit c ≡ true) ⊎ (c ≡ 44)
+pub inner_is : (bs : List ℕ) (c : ℕ) → is_inner bs c ≡ true → (is_digit c ≡ true) ⊎ (c ≡ 44)
 inner_is bs c h = by_digit (is_digit c) refl h
   where
     by_comma : (b : Bool) → c == 44 ≡ b → b && may_be_comma bs ≡ true → (is_digit c ≡ true) ⊎ (c ≡ 44)
@@ -299,7 +300,7 @@ inner_is bs c h = by_digit (is_digit c) refl h
     by_digit true e g = inl e
     by_digit false e g = by_comma (c == 44) refl g
 
-braces_step : (after_atom : Bool) (c : ℕ) (r s : Reading) (w : List ℕ) (t : Tree) → r.mode ≡ Braces after_atom → in_braces after_atom c r ≡ Some s → Completes s w t → AllInner r.braces → Base after_atom r (123 ∷ (r.braces ++ c ∷ w)) t
+pub braces_step : (after_atom : Bool) (c : ℕ) (r s : Reading) (w : List ℕ) (t : Tree) → r.mode ≡ Braces after_atom → in_braces after_atom c r ≡ Some s → Completes s w t → AllInner r.braces → Base after_atom r (123 ∷ (r.braces ++ c ∷ w)) t
 braces_step after_atom c r s w t m e h inner =
     let P : Type 0 = Base after_atom r (123 ∷ (r.braces ++ c ∷ w)) t in
     if_else (is_inner r.braces c) _ _ s P e (λ y x. goes_on y x) (λ out e2.
@@ -321,10 +322,10 @@ braces_step after_atom c r s w t m e h inner =
     broken : is_inner r.braces c ≡ false → (c ≡ 125 → bounds_of r.braces ≡ None) → plain true false c (flushed after_atom r) ≡ Some s → Base after_atom r (123 ∷ (r.braces ++ c ∷ w)) t
     broken out none x = flushed_next after_atom r (c ∷ w) t inner (breaks r.braces c w inner out none) (base_step true c (flushed after_atom r) s w t x h)
 
-    counted : (after : Bool) (n : ℕ) (k : Option ℕ) → bounds_of r.braces ≡ Some (n, k) → c == 125 ≡ true → marked after n k r ≡ Some s → Base after r (123 ∷ (r.braces ++ c ∷ w)) t
+    counted : (after : Bool) (n : ℕ) (k : Option ℕ) → bounds_of r.braces ≡ Some (n, k) → c == 125 ≡ true → marked after (r.atom_product * count_of n k) n k r ≡ Some s → Base after r (123 ∷ (r.braces ++ c ∷ w)) t
     counted true n k b y x =
         subst (λ (d : ℕ). AfterAtom (top r.trees) (below r.trees) r.groups (123 ∷ (r.braces ++ d ∷ w)) t) (sym (is_char c 125 y))
-        (mark_step r s n k w (123 ∷ (r.braces ++ 125 ∷ w)) t (λ rest same. subst (λ (v : List ℕ). Mark n k (123 ∷ (r.braces ++ 125 ∷ w)) v) (sym same) (braces_mark r.braces (bounds_sound r.braces n k b))) (same_Some (quantified n k r) s x) h)
+        (mark_step r s (r.atom_product * count_of n k) n k w (123 ∷ (r.braces ++ 125 ∷ w)) t (λ rest same. subst (λ (v : List ℕ). Mark n k (123 ∷ (r.braces ++ 125 ∷ w)) v) (sym same) (braces_mark r.braces (bounds_sound r.braces n k b))) (same_Some (quantified n k (charged (r.atom_product * count_of n k) r)) s x) h)
     counted false n k b y x = no_reading s x
 
     at_end : (o : Option (ℕ × Option ℕ)) → bounds_of r.braces ≡ o → c == 125 ≡ true → is_inner r.braces c ≡ false → in_braces_end o after_atom c r ≡ Some s → Base after_atom r (123 ∷ (r.braces ++ c ∷ w)) t
@@ -333,7 +334,7 @@ braces_step after_atom c r s w t m e h inner =
 
 -- hexadecimal digits
 module _ (value : ℕ) (greatest : ℕ) where
-  scalar_is : (v : ℕ) → scalar v ≡ Some greatest → (v ≡ greatest) × (is_surrogate v ≡ false)
+  pub scalar_is : (v : ℕ) → scalar v ≡ Some greatest → (v ≡ greatest) × (is_surrogate v ≡ false)
   scalar_is v e = by_test (is_surrogate v) refl (nat_lt 0x10ffff v) e
     where
       by_test : (b : Bool) → is_surrogate v ≡ b → (d : Bool) → cond (b || d) None (Some v) ≡ Some greatest → (v ≡ greatest) × (is_surrogate v ≡ false)
@@ -341,10 +342,10 @@ module _ (value : ℕ) (greatest : ℕ) where
       by_test false e true g = cc
       by_test false e false g = (same_Some v greatest g, e)
 
-  last_digit : greatest_from value 0 ≡ Some greatest → (value ≡ greatest) × (is_surrogate value ≡ false)
+  pub last_digit : greatest_from value 0 ≡ Some greatest → (value ≡ greatest) × (is_surrogate value ≡ false)
   last_digit e = scalar_is value e
 
-hex_guard : (value left : ℕ) (x y : Option Reading) (s : Reading) (P : Type 0) → cond (nat_lt 0xfff value || (left == 0)) None y ≡ Some s → ((l : ℕ) → left ≡ suc l → y ≡ Some s → P) → P
+pub hex_guard : (value left : ℕ) (x y : Option Reading) (s : Reading) (P : Type 0) → cond (nat_lt 0xfff value || (left == 0)) None y ≡ Some s → ((l : ℕ) → left ≡ suc l → y ≡ Some s → P) → P
 hex_guard value zero x y s P e then_ = absurd (never_both (nat_lt 0xfff value) e)
   where
     never_both : (b : Bool) → cond (b || true) None y ≡ Some s → ⊥
@@ -353,10 +354,10 @@ hex_guard value zero x y s P e then_ = absurd (never_both (nat_lt 0xfff value) e
 hex_guard value (suc l) x y s P e then_ = if_else (nat_lt 0xfff value || (suc l == 0)) None y s P e (λ b g. no_reading s g) (λ b g. then_ l refl g)
 
 -- a digit more, in front of those that lead to the character
-hex_more : (value l c d ch : ℕ) (w mid : List ℕ) → hex_value c ≡ Some d → Hex l (value * 16 + d) w mid ch → Hex (suc l) value (c ∷ w) mid ch
+pub hex_more : (value l c d ch : ℕ) (w mid : List ℕ) → hex_value c ≡ Some d → Hex l (value * 16 + d) w mid ch → Hex (suc l) value (c ∷ w) mid ch
 hex_more value l c d ch w mid e h = (c, d, w, refl, e, h)
 
-hex_step : (value left c : ℕ) (r s : Reading) (w : List ℕ) (t : Tree) → hex_by (hex_value c) value left r ≡ Some s → Completes s w t → CompletesIn (modes.Hex value left) r (c ∷ w) t
+pub hex_step : (value left c : ℕ) (r s : Reading) (w : List ℕ) (t : Tree) → hex_by (hex_value c) value left r ≡ Some s → Completes s w t → CompletesIn (modes.Hex value left) r (c ∷ w) t
 hex_step value left c r s w t e h = by_digit (hex_value c) refl e
   where
     P : Type 0
@@ -383,7 +384,7 @@ hex_step value left c r s w t e h = by_digit (hex_value c) refl e
         (λ l is y. let same : left - 1 ≡ l = omega (arith, is) in by_left d l here is (greatest_from (value * 16 + d) l) refl
         (subst (λ (k : ℕ). hex_to (greatest_from (value * 16 + d) k) (value * 16 + d) k r ≡ Some s) same y))
 
-escape_step : (c : ℕ) (r s : Reading) (w : List ℕ) (t : Tree) → with_set (set_of c) c r ≡ Some s → Completes s w t → InTerm r.trees r.groups (92 ∷ c ∷ w) t
+pub escape_step : (c : ℕ) (r s : Reading) (w : List ℕ) (t : Tree) → with_set (set_of c) c r ≡ Some s → Completes s w t → InTerm r.trees r.groups (92 ∷ c ∷ w) t
 escape_step c r s w t e h = by_set (set_of c) refl e
   where
     ts : List Tree
@@ -409,14 +410,14 @@ escape_step c r s w t e h = by_set (set_of c) refl e
         if_else (c == 66) _ _ s P x2 (λ y z. at_char 66 y (term_next ts gs t (word_boundary true) (92 ∷ 66 ∷ w) w at_no_boundary (completes_at (asserted (word_boundary true) r) s w t z h))) (λ n66 x3.
         if_else (c == 120) _ _ s P x3 (λ y z. at_char 120 y (let i = completes_at (at (modes.Hex 0 2) r) s w t z h in atom_next ts gs t (char i.0) (92 ∷ 120 ∷ w) i.1 (char_escape (two_digits i.2)) i.4)) (λ n120 x4.
         if_else (c == 117) _ _ s P x4 (λ y z. at_char 117 y (let i = completes_at (at (modes.Hex 0 4) r) s w t z h in atom_next ts gs t (char i.0) (92 ∷ 117 ∷ w) i.1 (char_escape (four_digits i.2 i.3)) i.4)) (λ n117 x5.
-        if_else (c == 48) _ _ s P x5 (λ y z. at_char 48 y (let i = completes_at (at Zero (leaf (char 0) r)) s w t z h in atom_next ts gs t (char 0) (92 ∷ 48 ∷ w) w (char_escape (zero_char i.0)) i.1)) (λ n48 x6.
+        if_else (c == 48) _ _ s P x5 (λ y z. at_char 48 y (let i = completes_at (at Zero (with_atom (char 0) r)) s w t z h in atom_next ts gs t (char 0) (92 ∷ 48 ∷ w) w (char_escape (zero_char i.0)) i.1)) (λ n48 x6.
         by_char (escaped c) refl x6)))))
 
 -- classes
-class_ended : (is_first : Bool) (r s : Reading) (w : List ℕ) (t : Tree) → Some (class_end r) ≡ Some s → Completes s w t → AfterClass r t r.ranges w
+pub class_ended : (is_first : Bool) (r s : Reading) (w : List ℕ) (t : Tree) → Some (class_end r) ≡ Some s → Completes s w t → AfterClass r t r.ranges w
 class_ended is_first r s w t e h = completes_at (class_end r) s w t e h
 
-item_step : (is_first : Bool) (c : ℕ) (r s : Reading) (w : List ℕ) (t : Tree) → (c == 45 ≡ true → is_first ≡ true) → item c r ≡ Some s → Completes s w t → InClass is_first r (c ∷ w) t
+pub item_step : (is_first : Bool) (c : ℕ) (r s : Reading) (w : List ℕ) (t : Tree) → (c == 45 ≡ true → is_first ≡ true) → item c r ≡ Some s → Completes s w t → InClass is_first r (c ∷ w) t
 item_step is_first c r s w t dash e h =
     let P : Type 0 = InClass is_first r (c ∷ w) t in
     if_else (c == 93) _ _ s P e (λ y x. at_char 93 y (r.ranges, w, no_item, completes_at (class_end r) s w t x h)) (λ n93 e2.
@@ -430,7 +431,7 @@ item_step is_first c r s w t dash e h =
     first true y n93 n92 = subst (λ (f : Bool). FirstChar f c (c ∷ w) w) (sym (dash y)) (subst (λ (d : ℕ). FirstChar true d (d ∷ w) w) (sym (is_char c 45 y)) first_dash)
     first false y n93 n92 = other_char (itself (rw (n93, n92, y)))
 
-next_item_step : (c : ℕ) (r s : Reading) (w : List ℕ) (t : Tree) → next_item c r ≡ Some s → Completes s w t → InClass false r (c ∷ w) t
+pub next_item_step : (c : ℕ) (r s : Reading) (w : List ℕ) (t : Tree) → next_item c r ≡ Some s → Completes s w t → InClass false r (c ∷ w) t
 next_item_step c r s w t e h =
     let P : Type 0 = InClass false r (c ∷ w) t in
     if_else (c == 45) _ _ s P e
@@ -440,7 +441,7 @@ next_item_step c r s w t e h =
     (subst (λ (v : List ℕ). InClass false r (45 ∷ v) t) (sym i.1) (r.ranges ++ range 45 45 ∷ [], i.0, last_dash, i.2)))
     (λ n45 x. item_step false c r s w t (λ y. absurd (false≢true (sym n45 ∙ y))) x h)
 
-after_char_step : (first c : ℕ) (r s : Reading) (w : List ℕ) (t : Tree) → after_char first c r ≡ Some s → Completes s w t → AfterChar first r (c ∷ w) t
+pub after_char_step : (first c : ℕ) (r s : Reading) (w : List ℕ) (t : Tree) → after_char first c r ≡ Some s → Completes s w t → AfterChar first r (c ∷ w) t
 after_char_step first c r s w t e h =
     let P : Type 0 = AfterChar first r (c ∷ w) t in
     if_else (c == 45) _ _ s P e
@@ -448,7 +449,7 @@ after_char_step first c r s w t e h =
     (λ n45 x. let i = item_step false c (ranged first first r) s w t (λ y. absurd (false≢true (sym n45 ∙ y))) x h in (i.0, i.1, after_one i.2, i.3))
 
 -- a character that ends a range, or begins an item
-class_char_step : (first : Option ℕ) (d : ℕ) (r s : Reading) (w : List ℕ) (t : Tree) → class_char first d r ≡ Some s → Completes s w t → (all : List CharRange) × (mid : List ℕ) × Ended first d r.ranges w mid all × AfterClass r t all mid
+pub class_char_step : (first : Option ℕ) (d : ℕ) (r s : Reading) (w : List ℕ) (t : Tree) → class_char first d r ≡ Some s → Completes s w t → (all : List CharRange) × (mid : List ℕ) × Ended first d r.ranges w mid all × AfterClass r t all mid
 class_char_step None d r s w t e h = let i = completes_at (at (modes.ClassChar d) r) s w t e h in (i.0, i.1, i.2, i.3)
 class_char_step (Some c) d r s w t e h =
     if_else (nat_le c d) _ _ s ((all : List CharRange) × (mid : List ℕ) × Ended (Some c) d r.ranges w mid all × AfterClass r t all mid) e
@@ -458,7 +459,7 @@ class_char_step (Some c) d r s w t e h =
     le_from : (a b : ℕ) → nat_le a b ≡ true → a ≤ b
     le_from a b e = grind (arith, nat_tests)
 
-after_dash_step : (first c : ℕ) (r s : Reading) (w : List ℕ) (t : Tree) → after_dash first c r ≡ Some s → Completes s w t → AfterChar first r (45 ∷ c ∷ w) t
+pub after_dash_step : (first c : ℕ) (r s : Reading) (w : List ℕ) (t : Tree) → after_dash first c r ≡ Some s → Completes s w t → AfterChar first r (45 ∷ c ∷ w) t
 after_dash_step first c r s w t e h =
     let P : Type 0 = AfterChar first r (45 ∷ c ∷ w) t in
     if_else (c == 93) _ _ s P e
@@ -486,11 +487,11 @@ after_dash_step first c r s w t e h =
         (λ z g. no_reading s g)
 
 -- an escape in a class, of a character that was read
-escape_ended : (first : Option ℕ) (d : ℕ) (r : Reading) (text after : List ℕ) (t : Tree) → ClassChar d (92 ∷ text) after → (all : List CharRange) × (mid : List ℕ) × Ended first d r.ranges after mid all × AfterClass r t all mid → InEscape first r text t
+pub escape_ended : (first : Option ℕ) (d : ℕ) (r : Reading) (text after : List ℕ) (t : Tree) → ClassChar d (92 ∷ text) after → (all : List CharRange) × (mid : List ℕ) × Ended first d r.ranges after mid all × AfterClass r t all mid → InEscape first r text t
 escape_ended None d r text after t read i = (i.0, i.1, escape_char read i.2, i.3)
 escape_ended (Some c) d r text after t read i = (i.0, i.1, d, after, read, i.2.0, i.2.1, i.3)
 
-class_escape_step : (first : Option ℕ) (c : ℕ) (r s : Reading) (w : List ℕ) (t : Tree) → class_set (set_of c) first c r ≡ Some s → Completes s w t → InEscape first r (c ∷ w) t
+pub class_escape_step : (first : Option ℕ) (c : ℕ) (r s : Reading) (w : List ℕ) (t : Tree) → class_set (set_of c) first c r ≡ Some s → Completes s w t → InEscape first r (c ∷ w) t
 class_escape_step first c r s w t e h = by_set (set_of c) first refl e
   where
     at_char : (f : Option ℕ) (k : ℕ) → c == k ≡ true → InEscape f r (k ∷ w) t → InEscape f r (c ∷ w) t
@@ -524,7 +525,7 @@ class_escape_step first c r s w t e h = by_set (set_of c) first refl e
     by_set (Some ranges) (Some k) here x = no_reading s x
     by_set None f here x = rest_step f x
 
-class_hex_step : (first : Option ℕ) (value left c : ℕ) (r s : Reading) (w : List ℕ) (t : Tree) → class_hex_by (hex_value c) first value left r ≡ Some s → Completes s w t → CompletesIn (modes.ClassHex first value left) r (c ∷ w) t
+pub class_hex_step : (first : Option ℕ) (value left c : ℕ) (r s : Reading) (w : List ℕ) (t : Tree) → class_hex_by (hex_value c) first value left r ≡ Some s → Completes s w t → CompletesIn (modes.ClassHex first value left) r (c ∷ w) t
 class_hex_step first value left c r s w t e h = by_digit (hex_value c) refl e
   where
     P : Type 0
@@ -554,7 +555,7 @@ class_hex_step first value left c r s w t e h = by_digit (hex_value c) refl e
         (subst (λ (k : ℕ). class_hex_to (greatest_from (value * 16 + d) k) first (value * 16 + d) k r ≡ Some s) same y))
 
 -- each character
-step_completes : (m : Mode) (c : ℕ) (r s : Reading) (w : List ℕ) (t : Tree) → r.mode ≡ m → step_in m c r ≡ Some s → Completes s w t → CompletesIn m r (c ∷ w) t
+pub step_completes : (m : Mode) (c : ℕ) (r s : Reading) (w : List ℕ) (t : Tree) → r.mode ≡ m → step_in m c r ≡ Some s → Completes s w t → CompletesIn m r (c ∷ w) t
 step_completes Term c r s w t m e h = base_step false c r s w t e h
 step_completes Atom c r s w t m e h = base_step true c r s w t e h
 step_completes Quantified c r s w t m e h = by_lazy (plain_step false true c r s w t e h)
@@ -590,21 +591,21 @@ step_completes (modes.ClassEscape first) c r s w t m e h = class_escape_step fir
 step_completes (modes.ClassHex first value left) c r s w t m e h = class_hex_step first value left c r s w t e h
 
 -- the end of the text
-no_tree : {P : Type 0} (t : Tree) → ◌≡◌ {A = Option Tree} None (Some t) → P
+pub no_tree : {P : Type 0} (t : Tree) → ◌≡◌ {A = Option Tree} None (Some t) → P
 no_tree t e = cc
 
-ended_completes : (gs : List Open) (r : Reading) (t : Tree) → r.groups ≡ gs → ended gs r ≡ Some t → InTerm r.trees gs [] t
+pub ended_completes : (gs : List Open) (r : Reading) (t : Tree) → r.groups ≡ gs → ended gs r ≡ Some t → InTerm r.trees gs [] t
 ended_completes [] r t g e = ([], top (chosen r).trees, ends, (refl, same_Some (top (chosen r).trees) t e))
 ended_completes (k ∷ gs) r t g e = no_tree t e
 
-end_completes : (m : Mode) (r : Reading) (t : Tree) → r.mode ≡ m → finished_in m r ≡ Some t → CompletesIn m r [] t
+pub end_completes : (m : Mode) (r : Reading) (t : Tree) → r.mode ≡ m → finished_in m r ≡ Some t → CompletesIn m r [] t
 end_completes Term r t m e = ended_completes r.groups r t refl e
-end_completes Atom r t m e = unsuffixed (below r.trees) r.groups t (top r.trees) [] (ended_completes r.groups (joined r) t refl e)
+end_completes Atom r t m e = unsuffixed (below r.trees) r.groups t (top r.trees) [] (ended_completes r.groups (with_term r) t refl e)
 end_completes Quantified r t m e = inl (ended_completes r.groups r t refl e)
-end_completes Zero r t m e = ((λ d. d), unsuffixed (below r.trees) r.groups t (top r.trees) [] (ended_completes r.groups (joined r) t refl e))
+end_completes Zero r t m e = ((λ d. d), unsuffixed (below r.trees) r.groups t (top r.trees) [] (ended_completes r.groups (with_term r) t refl e))
 end_completes (Braces after_atom) r t m e = λ inner.
     let f = flushed after_atom r in
-    flushed_next after_atom r [] t inner (breaks_at_end r.braces inner) (unsuffixed (below f.trees) f.groups t (top f.trees) [] (ended_completes f.groups (joined f) t refl e))
+    flushed_next after_atom r [] t inner (breaks_at_end r.braces inner) (unsuffixed (below f.trees) f.groups t (top f.trees) [] (ended_completes f.groups (with_term f) t refl e))
 end_completes Escape r t m e = no_tree t e
 end_completes (modes.Hex value left) r t m e = no_tree t e
 end_completes Paren r t m e = no_tree t e

@@ -8,6 +8,10 @@ pub mod Compiled
 pub mod Stored
 pub mod Escapes
 pub mod Grammar
+pub mod Limits
+pub mod Forms
+pub mod Places
+pub mod Faults
 pub mod Reading
 pub mod ReaderView
 pub mod Bounds

@@ -1,10 +1,11 @@
 -- How a pattern's text is read, one character after another: what was read so far, and what each character makes of it.
-use Rattle.std.specs.Prelude.{length, ℕ, ◌+◌, ◌-◌, ◌*◌, ◌==◌, Bool, true, false, cond, not, nat_le, nat_lt, ◌&&◌, ◌||◌, List, [], ◌∷◌, ◌++◌, take, drop, position, Option, Some, None, option_map, option_and_then}
+use Rattle.std.specs.Prelude.{length, max, ℕ, ◌+◌, ◌-◌, ◌*◌, ◌==◌, Bool, true, false, cond, not, nat_le, nat_lt, ◌&&◌, ◌||◌, List, [], ◌∷◌, ◌++◌, take, drop, position, Option, Some, None, option_map, option_and_then}
 use Rattle.std.specs.List.{list_any}
 use Rattle.es_pattern.specs.Tree.{Tree, CharRange, nothing, one_of, text_start, text_end, word_boundary, sequence, choice, repetition, lookahead}
 use Rattle.es_pattern.specs.Pieces.{top, below}
 use Rattle.es_pattern.specs.Escapes.{range, is_digit, set_of, escaped, hex_value, is_surrogate}
 use Rattle.es_pattern.specs.Grammar.{never, char, any, number}
+use Rattle.es_pattern.specs.Limits.{is_above_limit, count_of}
 use Rattle.es_pattern.specs.declared.mode.Open.{Open}
 use Rattle.es_pattern.specs.declared.mode.Open.TheVariants.{Group, Ahead}
 use Rattle.es_pattern.specs.declared.mode.Mode.{Mode}
@@ -18,6 +19,10 @@ pub record Reading : Type 0 where
   pub braces : List ℕ
   pub negated : Bool
   pub ranges : List CharRange
+  -- the greatest products of the counts of nested quantifiers: in the alternatives that are open, in the atom, and before each open group
+  pub product : ℕ
+  pub atom_product : ℕ
+  pub products : List ℕ
 
 abbrev pub at : Mode → Reading → Reading
 at m r = record r { mode = m }
@@ -32,31 +37,48 @@ joined r = record r { trees = sequence (top (below r.trees)) (top r.trees) ∷ b
 abbrev pub chosen : Reading → Reading
 chosen r = record r { trees = choice (top (below r.trees)) (top r.trees) ∷ below (below r.trees) }
 
+-- a part of that product in the alternatives
+abbrev pub charged : ℕ → Reading → Reading
+charged product r = record r { product = max r.product product }
+
+abbrev pub with_term : Reading → Reading
+with_term r = charged r.atom_product (joined r)
+
 abbrev pub settled : Bool → Reading → Reading
-settled after_atom r = cond after_atom (joined r) r
+settled after_atom r = cond after_atom (with_term r) r
 
 abbrev pub asserted : Tree → Reading → Reading
 asserted t r = at Term (joined (leaf t r))
 
 abbrev pub with_atom : Tree → Reading → Reading
-with_atom t r = at Atom (leaf t r)
+with_atom t r = record (at Atom (leaf t r)) { atom_product = 1 }
 
 abbrev pub begun : Reading → Reading
 begun r = at Term (leaf nothing (leaf never r))
 
 abbrev pub opened : Open → Reading → Reading
-opened open_ r = begun (record r { groups = open_ ∷ r.groups })
+opened open_ r = begun (record r { groups = open_ ∷ r.groups; products = r.product ∷ r.products; product = 1 })
+
+abbrev pub top_product : List ℕ → ℕ
+top_product [] = 1
+top_product (p ∷ ps) = p
+
+abbrev pub products_below : List ℕ → List ℕ
+products_below [] = []
+products_below (p ∷ ps) = ps
 
 abbrev pub closed_by : List Open → Reading → Option Reading
 closed_by [] r = None
-closed_by (Group ∷ gs) r = Some (at Atom (chosen (record r { groups = gs })))
-closed_by (Ahead negated ∷ gs) r = Some (at Term (joined (record r { groups = gs; trees = lookahead negated (choice (top (below r.trees)) (top r.trees)) ∷ below (below r.trees) })))
+closed_by (Group ∷ gs) r = Some (at Atom (chosen (record r { groups = gs; products = products_below r.products; product = top_product r.products; atom_product = r.product })))
+closed_by (Ahead negated ∷ gs) r =
+    Some (at Term (joined (record r { groups = gs; products = products_below r.products; product = max r.product (top_product r.products); trees = lookahead negated (choice (top (below r.trees)) (top r.trees)) ∷ below (below r.trees) })))
 
 abbrev pub quantified : ℕ → Option ℕ → Reading → Reading
 quantified least most r = at Quantified (joined (record r { trees = repetition least most (top r.trees) ∷ below r.trees }))
 
-abbrev pub marked : Bool → ℕ → Option ℕ → Reading → Option Reading
-marked after_atom least most r = cond after_atom (Some (quantified least most r)) None
+-- a quantifier, with the product that it makes
+abbrev pub marked : Bool → ℕ → ℕ → Option ℕ → Reading → Option Reading
+marked after_atom product least most r = cond after_atom (Some (quantified least most (charged product r))) None
 
 -- a character where a term may begin, that marks no quantifier
 abbrev pub term_begun : ℕ → Reading → Option Reading
@@ -66,7 +88,7 @@ term_begun c r =
 
 abbrev pub plain : Bool → Bool → ℕ → Reading → Option Reading
 plain after_atom may_be_lazy c r =
-    cond (c == 42) (marked after_atom 0 None r) (cond (c == 43) (marked after_atom 1 None r) (cond (c == 63) (cond may_be_lazy (Some (at Term r)) (marked after_atom 0 (Some 1) r))
+    cond (c == 42) (marked after_atom r.atom_product 0 None r) (cond (c == 43) (marked after_atom r.atom_product 1 None r) (cond (c == 63) (cond may_be_lazy (Some (at Term r)) (marked after_atom r.atom_product 0 (Some 1) r))
     (cond (c == 123) (Some (at (Braces after_atom) (record r { braces = [] }))) (term_begun c (settled after_atom r)))))
 
 abbrev pub with_char : Option ℕ → Reading → Option Reading
@@ -77,7 +99,7 @@ abbrev pub with_set : Option (List CharRange) → ℕ → Reading → Option Rea
 with_set (Some ranges) c r = Some (with_atom (one_of false ranges) r)
 with_set None c r =
     cond (c == 98) (Some (asserted (word_boundary false) r)) (cond (c == 66) (Some (asserted (word_boundary true) r)) (cond (c == 120) (Some (at (Hex 0 2) r)) (cond (c == 117) (Some (at (Hex 0 4) r))
-    (cond (c == 48) (Some (at Zero (leaf (char 0) r))) (with_char (escaped c) r)))))
+    (cond (c == 48) (Some (at Zero (with_atom (char 0) r))) (with_char (escaped c) r)))))
 
 abbrev pub scalar : ℕ → Option ℕ
 scalar c = cond (is_surrogate c || nat_lt 0x10ffff c) None (Some c)
@@ -98,7 +120,7 @@ hex_by (Some d) value left r = cond (nat_lt 0xfff value || (left == 0)) None (he
 -- braces that are no quantifier: their characters stand for themselves
 abbrev pub flushed_chars : List ℕ → Reading → Reading
 flushed_chars [] r = r
-flushed_chars (c ∷ cs) r = flushed_chars cs (with_atom (char c) (joined r))
+flushed_chars (c ∷ cs) r = flushed_chars cs (with_atom (char c) (with_term r))
 
 abbrev pub flushed : Bool → Reading → Reading
 flushed after_atom r = flushed_chars r.braces (record (with_atom (char 123) (settled after_atom r)) { braces = [] })
@@ -122,7 +144,7 @@ abbrev pub bounds_of : List ℕ → Option (ℕ × Option ℕ)
 bounds_of text = bounds_by (position (λ c. c == 44) text) text
 
 abbrev pub in_braces_end : Option (ℕ × Option ℕ) → Bool → ℕ → Reading → Option Reading
-in_braces_end (Some bounds) after_atom c r = marked after_atom bounds.0 bounds.1 r
+in_braces_end (Some bounds) after_atom c r = marked after_atom (r.atom_product * count_of bounds.0 bounds.1) bounds.0 bounds.1 r
 in_braces_end None after_atom c r = plain true false c (flushed after_atom r)
 
 abbrev pub may_be_comma : List ℕ → Bool
@@ -222,10 +244,10 @@ ended (g ∷ gs) r = None
 
 abbrev pub finished_in : Mode → Reading → Option Tree
 finished_in Term r = ended r.groups r
-finished_in Atom r = ended r.groups (joined r)
+finished_in Atom r = ended r.groups (with_term r)
 finished_in Quantified r = ended r.groups r
-finished_in Zero r = ended r.groups (joined r)
-finished_in (Braces after_atom) r = ended (flushed after_atom r).groups (joined (flushed after_atom r))
+finished_in Zero r = ended r.groups (with_term r)
+finished_in (Braces after_atom) r = ended (flushed after_atom r).groups (with_term (flushed after_atom r))
 finished_in Escape r = None
 finished_in (Hex value left) r = None
 finished_in Paren r = None
@@ -244,7 +266,20 @@ abbrev pub finished : Reading → Option Tree
 finished r = finished_in r.mode r
 
 abbrev pub start : Reading
-start = begun (record { trees = []; groups = []; mode = Term; braces = []; negated = false; ranges = [] })
+start = begun (record { trees = []; groups = []; mode = Term; braces = []; negated = false; ranges = []; product = 1; atom_product = 1; products = [] })
+
+-- a quantifier's bounds count above 1,000, or, with what the atom's quantifiers count, above 100,000
+abbrev pub overcounts : Option (ℕ × Option ℕ) → Bool → Reading → Bool
+overcounts None after_atom r = false
+overcounts (Some bounds) after_atom r = is_above_limit bounds.0 bounds.1 || after_atom && nat_lt 100000 (r.atom_product * count_of bounds.0 bounds.1)
+
+-- the character ends a quantifier that counts too much
+abbrev pub overcounts_in : Mode → ℕ → Reading → Bool
+overcounts_in (Braces after_atom) c r = (c == 125) && overcounts (bounds_of r.braces) after_atom r
+overcounts_in mode c r = false
+
+abbrev pub overcounts_at : ℕ → Reading → Bool
+overcounts_at c r = overcounts_in r.mode c r
 
 -- a text, character by character
 abbrev pub reads : List ℕ → Reading → Option Reading

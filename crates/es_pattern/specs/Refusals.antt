@@ -1,5 +1,6 @@
 -- What is refused whatever the grammar says: forms that aren't supported, and groups too deep.
-use Rattle.std.specs.Prelude.{ℕ, ◌+◌, ◌==◌, ◌&&◌, ◌||◌, Bool, true, false, nat_le, List, [], ◌∷◌}
+use Rattle.std.specs.Prelude.{ℕ, ◌+◌, ◌&&◌, ◌||◌, Bool, true, false, nat_le, List}
+use Rattle.es_pattern.specs.Forms.{begins_unsupported_escape, begins_named_group, begins_group}
 use Rattle.es_pattern.specs.declared.mode.Mode.{Mode}
 use Rattle.es_pattern.specs.declared.mode.Mode.TheVariants.{Term, Atom, Quantified, Zero, Braces, Escape, Hex, Paren, ParenQuestion, ClassOpen, ClassFirst, ClassNext, ClassLast, ClassChar, ClassDash, ClassZero, ClassEscape, ClassHex}
 
@@ -44,44 +45,6 @@ may_open (ClassDash first) = false
 may_open (ClassZero is_last) = false
 may_open (ClassEscape first) = false
 may_open (ClassHex first value left) = false
-
-abbrev pub is_hex : ℕ → Bool
-is_hex c = nat_le 48 c && nat_le c 57 || nat_le 65 c && nat_le c 70 || nat_le 97 c && nat_le c 102
-
-abbrev pub is_d : ℕ → Bool
-is_d c = (c == 100) || (c == 68)
-
-abbrev pub is_surrogate_digit : ℕ → Bool
-is_surrogate_digit c = (c == 56) || (c == 57) || nat_le 97 c && nat_le c 102 || nat_le 65 c && nat_le c 70
-
--- four hexadecimal digits of a surrogate
-abbrev pub begins_surrogate : List ℕ → Bool
-begins_surrogate [] = false
-begins_surrogate (a ∷ []) = false
-begins_surrogate (a ∷ b ∷ []) = false
-begins_surrogate (a ∷ b ∷ c ∷ []) = false
-begins_surrogate (a ∷ b ∷ c ∷ d ∷ rest) = is_d a && is_surrogate_digit b && is_hex c && is_hex d
-
-abbrev pub is_unsupported_letter : ℕ → Bool
-is_unsupported_letter c = (c == 107) || (c == 112) || (c == 80) || (c == 99) || nat_le 49 c && nat_le c 57
-
--- `\k`, `\p`, `\P`, `\c`, `\1` to `\9`, and `\u` of a surrogate
-abbrev pub begins_unsupported_escape : List ℕ → Bool
-begins_unsupported_escape [] = false
-begins_unsupported_escape (a ∷ []) = false
-begins_unsupported_escape (a ∷ b ∷ rest) =
-    (a == 92) && (is_unsupported_letter b || (b == 117) && begins_surrogate rest)
-
--- `(?<`
-abbrev pub begins_named_group : List ℕ → Bool
-begins_named_group [] = false
-begins_named_group (a ∷ []) = false
-begins_named_group (a ∷ b ∷ []) = false
-begins_named_group (a ∷ b ∷ c ∷ rest) = (a == 40) && (b == 63) && (c == 60)
-
-abbrev pub begins_group : List ℕ → Bool
-begins_group [] = false
-begins_group (a ∷ rest) = a == 40
 
 -- the groups that are open, one that has just begun too
 abbrev pub pending : Mode → ℕ

@@ -2,8 +2,9 @@
 ghost use Rattle.std.specs.Prelude.{◌≡◌, ◌≤◌, ◌<◌, length, slice_index, take, ◌+◌, ◌^◌, IfOk, IfErr, OnOk, Some};
 ghost use Rattle.std.specs.Str.{chars};
 ghost use Rattle.es_pattern.specs.Pieces.{tree_of};
-ghost use Rattle.es_pattern.specs.Parsing.{IsClearBefore, Refuses, StopsBy, byte_place};
-ghost use Rattle.es_pattern.specs.Refusals.{
+ghost use Rattle.es_pattern.specs.Faults.{IsCaused, IsClear, byte_place};
+ghost use Rattle.es_pattern.specs.Parsing.{PassesBefore, Refuses};
+ghost use Rattle.es_pattern.specs.Forms.{
   begins_group,
   begins_named_group,
   begins_surrogate,
@@ -11,10 +12,9 @@ ghost use Rattle.es_pattern.specs.Refusals.{
   is_d,
   is_hex,
   is_surrogate_digit,
-  is_too_deep,
-  is_unsupported,
   is_unsupported_letter,
 };
+ghost use Rattle.es_pattern.specs.Refusals.{is_too_deep, is_unsupported};
 ghost use Rattle.es_pattern.specs.Reading.{accepted, reads, start};
 ghost use Rattle.es_pattern.specs.ReaderView.{reading};
 
@@ -119,27 +119,36 @@ fn refused(reader: &Reader, rest: &[char], place: usize) -> Result<(), PatternEr
     Ok(())
 }
 
-/// Takes the character at that number, which is at the byte `place`; `braces` is the byte of the last `{`.
+/// The byte of the `{` of the braces that the reader is in.
+fn braces_place(reader: &Reader, place: usize) -> usize
+    requires { length reader.now.braces.items < place }
+    ensures { result + (length reader.now.braces.items + 1) ≡ place }
+{
+    place - reader.braces.len() - 1
+}
+
+/// Takes the character at that number, which is at the byte `place`.
 fn take_next(
     reader: &mut Reader,
     characters: &[char],
     number: usize,
     place: usize,
-    braces: usize,
 ) -> Result<(), PatternError>
     requires number { number < length characters.now }
     requires place { place ≡ byte_place characters.now number }
     requires reads { reads (take number characters.now) start ≡ Some (reading reader.old) }
-    requires clear { IsClearBefore characters.now number }
+    requires passes { PassesBefore characters.now number }
     ensures reads { OnOk result (reads (take (number + 1) characters.now) start ≡ Some (reading reader.new)) }
-    ensures clear { OnOk result (IsClearBefore characters.now (number + 1)) }
-    ensures fault { IfErr result (StopsBy characters.now) }
+    ensures passes { OnOk result (PassesBefore characters.now (number + 1)) }
+    ensures fault { IfErr result (IsCaused characters.now) }
 {
     refused(reader, &characters[number..], place)?;
     match reader.take(characters[number])? {
         Taken::Yes => Ok(()),
         Taken::No => Err(PatternError::Syntax { place }),
-        Taken::TooLarge => Err(PatternError::CountTooLarge { place: braces }),
+        Taken::TooLarge => Err(PatternError::CountTooLarge {
+            place: braces_place(reader, place),
+        }),
     }
 }
 
@@ -147,19 +156,14 @@ fn take_next(
 fn pieces_from(alloc: Global, characters: &[char]) -> Result<Vec<Piece>, PatternError>
     requires { byte_place characters.now (length characters.now) < 2 ^ 64 }
     ensures ok { IfOk result (λ pieces. accepted characters.now ≡ Some (tree_of pieces.items)) }
-    ensures clear { OnOk result (IsClearBefore characters.now (length characters.now)) }
-    ensures fault { IfErr result (StopsBy characters.now) }
+    ensures clear { OnOk result (IsClear characters.now) }
+    ensures fault { IfErr result (IsCaused characters.now) }
 {
     let mut reader = Reader::new(alloc)?;
     let mut place = 0usize;
-    let mut braces = 0usize;
     for number in 0..characters.len() {
-        let c = characters[number];
-        if c == '{' {
-            braces = place;
-        }
-        take_next(&mut reader, characters, number, place, braces)?;
-        place += c.len_utf8();
+        take_next(&mut reader, characters, number, place)?;
+        place += characters[number].len_utf8();
     }
     match reader.finish()? {
         Some(pieces) => Ok(pieces),
@@ -170,8 +174,8 @@ fn pieces_from(alloc: Global, characters: &[char]) -> Result<Vec<Piece>, Pattern
 /// The pieces of the pattern that the text is.
 pub fn pieces_of(alloc: Global, text: &str) -> Result<Vec<Piece>, PatternError>
     ensures ok { IfOk result (λ pieces. accepted (chars text.now) ≡ Some (tree_of pieces.items)) }
-    ensures clear { OnOk result (IsClearBefore (chars text.now) (length (chars text.now))) }
-    ensures fault { IfErr result (StopsBy (chars text.now)) }
+    ensures clear { OnOk result (IsClear (chars text.now)) }
+    ensures fault { IfErr result (IsCaused (chars text.now)) }
 {
     let characters: Vec<char> = text.chars().collect(alloc)?;
     pieces_from(alloc, &characters)

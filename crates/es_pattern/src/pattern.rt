@@ -1,10 +1,11 @@
 // A pattern, and whether it is found.
-ghost use Rattle.std.specs.Prelude.{◌≡◌, List, IfOk, IfErr, OnOk, length, ◌↔◌, IsTrue};
+ghost use Rattle.std.specs.Prelude.{◌≡◌, List, IfOk, IfErr, OnOk, ◌↔◌, IsTrue};
 ghost use Rattle.std.specs.Str.{chars};
 ghost use Rattle.es_pattern.specs.Spans.{IsFound};
 ghost use Rattle.es_pattern.specs.Tree.{Tree};
 ghost use Rattle.es_pattern.specs.Pieces.{tree_of, with_piece};
-ghost use Rattle.es_pattern.specs.Parsing.{IsClearBefore, StopsBy};
+ghost use Rattle.es_pattern.specs.declared.error.PatternError.{PatternError};
+ghost use Rattle.es_pattern.specs.Faults.{FailsBy, IsCaused, IsClear, IsFirstFault};
 ghost use Rattle.es_pattern.specs.Grammar.{IsPattern};
 
 use crate::compile;
@@ -68,13 +69,14 @@ fn copied_pieces(alloc: Global, pieces: &[Piece]) -> Result<Vec<Piece>, AllocErr
 
 impl Pattern {
     /// The pattern that a text is.
-    #[tactic(auto, using(crate::proofs::Sound::accepted_is_pattern))]
     pub fn parse(alloc: Global, text: &str) -> Result<Pattern, PatternError>
+        // What is accepted is a pattern of the grammar, with the one tree that the grammar gives it, and nothing in it is refused.
         ensures ok { IfOk result (λ pattern. IsPattern (chars text.now) pattern) }
-        // Nothing that isn't supported, and no group too deep, begins anywhere.
-        ensures clear { OnOk result (IsClearBefore (chars text.now) (length (chars text.now))) }
-        // The first fault: its kind and its place.
-        ensures fault { IfErr result (StopsBy (chars text.now)) }
+        ensures one_tree { (tree : Tree) → IsPattern (chars text.now) tree → IfOk result (λ pattern. pattern ≡ tree) }
+        ensures clear { OnOk result (IsClear (chars text.now)) }
+        // A fault is the first one in the text, with its place; and where there is one, it is told.
+        ensures fault { IfErr result (IsCaused (chars text.now)) }
+        ensures refused { (e : PatternError) → IsFirstFault (chars text.now) e → FailsBy e result }
     {
         Ok(Pattern {
             pieces: pieces_of(alloc, text)?,

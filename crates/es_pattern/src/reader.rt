@@ -49,7 +49,7 @@ pub struct Reader {
 }
 
 impl Reader {
-    ghost use Rattle.std.specs.Prelude.{◌≡◌, ◌≤◌, ◌+◌, ℕ, OnOk, IfOk, length, Option, Some, None, if◌then◌else◌, option_map, [], ◌∷◌};
+    ghost use Rattle.std.specs.Prelude.{◌≡◌, ◌≤◌, ◌+◌, ◌==◌, ◌&&◌, false, ℕ, OnOk, IfOk, length, Option, Some, None, if◌then◌else◌, option_map, [], ◌∷◌};
     ghost use Rattle.es_pattern.specs.Tree.{one_of};
     ghost use Rattle.es_pattern.specs.Escapes.{hex_value, is_digit, set_of};
     ghost use Rattle.es_pattern.specs.Grammar.{any, char};
@@ -79,6 +79,8 @@ impl Reader {
       marked,
       next_item,
       opened,
+      overcounts,
+      overcounts_at,
       plain,
       quantified,
       ranged,
@@ -186,7 +188,7 @@ impl Reader {
     }
 
     /// Opens a group.
-    #[tactic(auto, using(crate::proofs::Readers::push_group))]
+    #[tactic(auto, using(crate::proofs::Readers::push_group, crate::proofs::Readers::push_product))]
     fn open_group(&mut self, kind: Open) -> Result<(), AllocError>
         ensures { OnOk result (reading self.new ≡ opened kind (reading self.old)) }
     {
@@ -237,7 +239,7 @@ impl Reader {
         least: u32,
         more: Option<u32>,
     ) -> Result<Taken, AllocError>
-        ensures { IfOk result (λ taken. Steps (marked after_atom least (option_map (λ n. least + n) more) (reading self.old)) taken (reading self.new)) }
+        ensures { IfOk result (λ taken. Steps (marked after_atom self.old.atom_product least (option_map (λ n. least + n) more) (reading self.old)) taken (reading self.new)) }
     {
         if !after_atom {
             return Ok(Taken::No);
@@ -375,7 +377,7 @@ impl Reader {
     fn take_bounds(&mut self, after_atom: bool, bounds: Bounds) -> Result<Taken, AllocError>
         requires mode { self.old.mode ≡ Mode.Braces after_atom }
         requires bounds { Bounded (bounds_of self.old.braces.items) (Some bounds) }
-        ensures { IfOk result (λ taken. Takes (in_braces_end (bounds_of self.old.braces.items) after_atom 125 (reading self.old)) 125 (reading self.old) taken (reading self.new)) }
+        ensures { IfOk result (λ taken. Takes (in_braces_end (bounds_of self.old.braces.items) after_atom 125 (reading self.old)) (overcounts (bounds_of self.old.braces.items) after_atom (reading self.old)) (reading self.old) taken (reading self.new)) }
     {
         let most = bounds.most.unwrap_or(bounds.least);
         if most > LIMIT || bounds.least > LIMIT {
@@ -396,7 +398,7 @@ impl Reader {
     /// Takes a character after `{`.
     fn take_in_braces(&mut self, after_atom: bool, c: char) -> Result<Taken, AllocError>
         requires { self.old.mode ≡ Mode.Braces after_atom }
-        ensures { IfOk result (λ taken. Takes (in_braces after_atom c (reading self.old)) c (reading self.old) taken (reading self.new)) }
+        ensures { IfOk result (λ taken. Takes (in_braces after_atom c (reading self.old)) ((c == 125) && overcounts (bounds_of self.old.braces.items) after_atom (reading self.old)) (reading self.old) taken (reading self.new)) }
     {
         if is_inner(&self.braces, c) {
             self.braces.push(c)?;
@@ -613,7 +615,8 @@ impl Reader {
     /// Takes the next character of a class.
     fn take_in_class(&mut self, c: char) -> Result<Taken, AllocError>
         requires { IsClass self.old.mode }
-        ensures { IfOk result (λ taken. Steps (step c (reading self.old)) taken (reading self.new)) }
+        ensures counted { overcounts_at c (reading self.old) ≡ false }
+        ensures taken { IfOk result (λ taken. Steps (step c (reading self.old)) taken (reading self.new)) }
     {
         match self.mode {
             Mode::ClassOpen if c == '^' => {
@@ -667,7 +670,7 @@ impl Reader {
 
     /// Takes the next character of the text.
     pub fn take(&mut self, c: char) -> Result<Taken, AllocError>
-        ensures { IfOk result (λ taken. Takes (step c (reading self.old)) c (reading self.old) taken (reading self.new)) }
+        ensures { IfOk result (λ taken. Takes (step c (reading self.old)) (overcounts_at c (reading self.old)) (reading self.old) taken (reading self.new)) }
     {
         match self.mode {
             Mode::Term => self.take_plain(false, false, c),
