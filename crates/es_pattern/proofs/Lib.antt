@@ -8,3 +8,8 @@ pub mod Parsings
 pub mod Sound
 pub mod BracesRead
 pub mod Sane
+pub mod Viable
+pub mod Above
+pub mod Stubs
+pub mod Beginnings
+pub mod FirstFaults

@@ -1,0 +1,200 @@
+-- What the machine stops at is the first fault of the text, and where it stops at none there is none.
+use Rattle.std.proofs.Common.{◌≡◌, ℕ, zero, suc, ◌+◌, ◌-◌, ◌*◌, ◌<◌, ◌≤◌, Bool, true, false, cond, List, [], ◌∷◌, ◌++◌, inl, inr, length, get_or, take, drop, Option, Some, None, refl, sym, ap, subst, ◌∙◌, arith}
+use Rattle.std.specs.Prelude.{◌==◌, ◌&&◌, ◌||◌, ◌⊎◌, nat_lt, max, option_and_then}
+use Rattle.std.proofs.Math.Seq.{get_or-append_seam}
+use Rattle.std.proofs.lemmas.List.{get_or-drop, get_or_append_left, length-append, length-drop, take_all, take_at, take-append-drop, drop_more}
+use Rattle.std.proofs.lemmas.Option.{same_Some}
+use Rattle.std.proofs.lemmas.Bool.{cases_lt, false≢true}
+use Rattle.std.proofs.lemmas.Bool.Decides.{nat_tests}
+use Rattle.es_pattern.specs.Tree.{Tree, repetition, sequence}
+use Rattle.es_pattern.specs.Pieces.{top, below}
+use Rattle.es_pattern.specs.Escapes.{is_digit}
+use Rattle.es_pattern.specs.Grammar.{Bounds, IsPattern}
+use Rattle.es_pattern.specs.Limits.{is_above_limit, count_of, product_of}
+use Rattle.es_pattern.specs.Forms.{begins_unsupported_escape, begins_named_group, begins_group}
+use Rattle.es_pattern.specs.Refusals.{may_escape, may_open, pending, is_unsupported, is_too_deep}
+use Rattle.es_pattern.specs.declared.error.PatternError.{PatternError}
+use Rattle.es_pattern.specs.declared.error.PatternError.TheVariants.{Syntax, Unsupported, CountTooLarge, NoMemory}
+use Rattle.es_pattern.specs.declared.mode.Mode.{Mode}
+use Rattle.es_pattern.specs.declared.mode.Mode.TheVariants.{Braces}
+use Rattle.es_pattern.specs.Reading.{Reading, step, step_in, in_braces, in_braces_end, marked, quantified, charged, bounds_of, is_inner, overcounts, overcounts_in, overcounts_at, reads, start, finished, accepted}
+use Rattle.es_pattern.specs.Parsing.{PassesBefore}
+use Rattle.es_pattern.specs.Faults.{BeginsPattern, IsUnsupportedAt, IsTooDeepAt, IsQuantifierAt, IsCountAt, IsProductAt, IsTooLargeAt, IsSyntaxAt, IsClearBefore, IsFirstFault, IsClear, byte_place}
+use Rattle.es_pattern.proofs.Runnings.{lt_or_same}
+use Rattle.es_pattern.proofs.BracesRead.{bounds_complete, goes_on}
+use Rattle.es_pattern.proofs.Sound.{Completes, InTerm, if_else, inner_is, is_char, no_reading, accepted_is_pattern}
+use Rattle.es_pattern.proofs.Sane.{IsMeasured, MeasuredBase, after_atom_in}
+use Rattle.es_pattern.proofs.Viable.{viable}
+use Rattle.es_pattern.proofs.Above.{term_above}
+use Rattle.es_pattern.proofs.Beginnings.{completes_before, completes_pattern, pattern_reads, begins_reads, reads_begins, reads_part, reads_step, syntax_stops, syntax_ends, no_syntax_before}
+use Rattle.es_pattern.proofs.Stubs.{sane_reads, measured_reads, unsupported_placed, deep_placed, quantifier_placed, unsupported_reads, deep_reads, quantifier_reads, unsupported_within, deep_within, quantifier_within}
+
+-- the heads of the forms that are refused
+head_of : (text rest : List ℕ) (n c : ℕ) → drop n text ≡ c ∷ rest → get_or text n 0 ≡ c
+head_of text rest n c e = let at : get_or (drop n text) 0 0 ≡ get_or text (n + 0) 0 = get_or-drop n text 0 0 in let same : n + 0 ≡ n = omega arith in ap (λ (k : ℕ). get_or text k 0) (sym same) ∙ sym at ∙ ap (λ (xs : List ℕ). get_or xs 0 0) e
+
+first_true : (a b : Bool) → a && b ≡ true → a ≡ true
+first_true true b e = refl
+first_true false b e = e
+
+one_of_two : (a b c d : Bool) → a && b || c && d ≡ true → (b ≡ true) ⊎ (d ≡ true)
+one_of_two true true c d e = inl refl
+one_of_two true false true d e = inr e
+one_of_two true false false d e = absurd (false≢true e)
+one_of_two false b true d e = inr e
+one_of_two false b false d e = absurd (false≢true e)
+
+abbrev HeadIs : List ℕ → ℕ → Type 0
+HeadIs text c = (rest : List ℕ) × (text ≡ c ∷ rest)
+
+escape_head : (text : List ℕ) → begins_unsupported_escape text ≡ true → HeadIs text 92
+escape_head [] e = absurd (false≢true e)
+escape_head (a ∷ []) e = absurd (false≢true e)
+escape_head (a ∷ b ∷ rest) e = (b ∷ rest, ap (λ (c : ℕ). c ∷ b ∷ rest) (is_char a 92 (first_true (a == 92) _ e)))
+
+named_head : (text : List ℕ) → begins_named_group text ≡ true → HeadIs text 40
+named_head [] e = absurd (false≢true e)
+named_head (a ∷ []) e = absurd (false≢true e)
+named_head (a ∷ b ∷ []) e = absurd (false≢true e)
+named_head (a ∷ b ∷ c ∷ rest) e = (b ∷ c ∷ rest, ap (λ (d : ℕ). d ∷ b ∷ c ∷ rest) (is_char a 40 (first_true (a == 40) _ (first_true (a == 40 && b == 63) (c == 60) e))))
+
+group_head : (text : List ℕ) → begins_group text ≡ true → HeadIs text 40
+group_head [] e = absurd (false≢true e)
+group_head (a ∷ rest) e = (rest, ap (λ (d : ℕ). d ∷ rest) (is_char a 40 e))
+
+unsupported_head : (m : Mode) (text : List ℕ) → is_unsupported m text ≡ true → HeadIs text 92 ⊎ HeadIs text 40
+unsupported_head m text e = by_form (one_of_two (may_escape m) (begins_unsupported_escape text) (may_open m) (begins_named_group text) e)
+  where
+    by_form : (begins_unsupported_escape text ≡ true) ⊎ (begins_named_group text ≡ true) → HeadIs text 92 ⊎ HeadIs text 40
+    by_form (inl h) = inl (escape_head text h)
+    by_form (inr h) = inr (named_head text h)
+
+second_true : (a b c : Bool) → a && b && c ≡ true → b ≡ true
+second_true true true c e = refl
+second_true true false c e = absurd (false≢true e)
+second_true false b c e = absurd (false≢true e)
+
+deep_head : (depth : ℕ) (m : Mode) (text : List ℕ) → is_too_deep depth m text ≡ true → HeadIs text 40
+deep_head depth m text e = group_head text (second_true (may_open m) (begins_group text) _ e)
+
+-- a character of a quantifier's bounds
+inner_apart : (bs : List ℕ) (c k : ℕ) → is_inner bs c ≡ true → c ≡ k → (k ≡ 92) ⊎ ((k ≡ 40) ⊎ (k ≡ 125)) → ⊥
+inner_apart bs c k h e which = by_inner (inner_is bs c h) which
+  where
+    by_digit : is_digit c ≡ true → (k ≡ 92) ⊎ ((k ≡ 40) ⊎ (k ≡ 125)) → ⊥
+    by_digit d (inl a) = let at : c ≡ 92 = e ∙ a in grind (arith, nat_tests)
+    by_digit d (inr (inl a)) = let at : c ≡ 40 = e ∙ a in grind (arith, nat_tests)
+    by_digit d (inr (inr a)) = let at : c ≡ 125 = e ∙ a in grind (arith, nat_tests)
+
+    by_inner : (is_digit c ≡ true) ⊎ (c ≡ 44) → (k ≡ 92) ⊎ ((k ≡ 40) ⊎ (k ≡ 125)) → ⊥
+    by_inner (inl d) w = by_digit d w
+    by_inner (inr d) (inl a) = absurd (omega (arith, d, e, a))
+    by_inner (inr d) (inr (inl a)) = absurd (omega (arith, d, e, a))
+    by_inner (inr d) (inr (inr a)) = absurd (omega (arith, d, e, a))
+
+module _ (text : List ℕ) (q : ℕ) (bounds : List ℕ) (least : ℕ) (most : Option ℕ) (h : IsQuantifierAt text q bounds least most) where
+  abbrev end : ℕ
+  end = q + (length bounds + 1)
+
+  in_text : (i : ℕ) → get_or text (q + (i + 1)) 0 ≡ get_or (bounds ++ 125 ∷ h.rest) i 0
+  in_text i = sym (get_or-drop q text (i + 1) 0) ∙ ap (λ (xs : List ℕ). get_or xs (i + 1) 0) h.braces ∙ (let same : i + 1 ≡ suc i = omega arith in ap (λ (k : ℕ). get_or (123 ∷ (bounds ++ 125 ∷ h.rest)) k 0) same)
+
+  end_within : end < length text
+  end_within = omega (arith, length-drop q text, ap length h.braces, length-append bounds (125 ∷ h.rest))
+
+  end_char : get_or text end 0 ≡ 125
+  end_char = in_text (length bounds) ∙ get_or-append_seam bounds 125 h.rest 0
+
+  bound_char : (i : ℕ) → i < length bounds → get_or text (q + (i + 1)) 0 ≡ get_or bounds i 0
+  bound_char i lt = in_text i ∙ get_or_append_left bounds (125 ∷ h.rest) 0 i lt
+
+  bound_inner : (i : ℕ) → i < length bounds → is_inner (take i bounds) (get_or bounds i 0) ≡ true
+  bound_inner i lt = goes_on bounds (take i bounds) (get_or bounds i 0) (drop (i + 1) bounds) least most h.are_bounds (sym (take-append-drop i bounds) ∙ ap (λ (xs : List ℕ). take i bounds ++ xs) (drop_more bounds i 0 lt))
+
+  -- what stands at a place between the quantifier's braces
+  abbrev Interior : ℕ → Reading → Type 0
+  Interior n r = (after_atom : Bool) × (r.mode ≡ Braces after_atom) × ((is_inner r.braces (get_or text n 0) ≡ true) ⊎ ((n ≡ end) × (get_or text n 0 ≡ 125) × (r.braces ≡ bounds)))
+
+  interior_at : (i : ℕ) (r : Reading) → i ≤ length bounds → reads (take (q + (i + 1)) text) start ≡ Some r → Interior (q + (i + 1)) r
+  interior_at i r le e =
+      let before = reads_part text q (q + (i + 1)) r (omega arith) e in
+      let s = quantifier_reads text q bounds least most before.0 h before.1 i le in
+      let same : s.0 ≡ r = same_Some s.0 r (sym s.2 ∙ e) in
+      let mode : r.mode ≡ Braces s.1 = subst (λ (y : Reading). y.mode ≡ Braces s.1) same s.3 in
+      let braces : r.braces ≡ take i bounds = subst (λ (y : Reading). y.braces ≡ take i bounds) same s.4 in
+      (s.1, mode, by_place braces (lt_or_same i (length bounds) le))
+    where
+      by_place : r.braces ≡ take i bounds → (i < length bounds) ⊎ (i ≡ length bounds) → (is_inner r.braces (get_or text (q + (i + 1)) 0) ≡ true) ⊎ ((q + (i + 1) ≡ end) × (get_or text (q + (i + 1)) 0 ≡ 125) × (r.braces ≡ bounds))
+      by_place b (inl lt) = inl (subst (λ (xs : List ℕ). is_inner xs (get_or text (q + (i + 1)) 0) ≡ true) (sym b) (subst (λ (c : ℕ). is_inner (take i bounds) c ≡ true) (sym (bound_char i lt)) (bound_inner i lt)))
+      by_place b (inr same) =
+          let at_end : q + (i + 1) ≡ end = omega (arith, same) in
+          inr (at_end, ap (λ (k : ℕ). get_or text k 0) at_end ∙ end_char, b ∙ take_all i bounds (omega (arith, same)))
+
+  pub interior : (n : ℕ) (r : Reading) → q < n → n ≤ end → reads (take n text) start ≡ Some r → Interior n r
+  interior n r lt le e =
+      let same : q + ((n - (q + 1)) + 1) ≡ n = omega (arith, lt) in
+      subst (λ (k : ℕ). Interior k r) same (interior_at (n - (q + 1)) r (omega (arith, lt, le)) (ap (λ (k : ℕ). reads (take k text) start) same ∙ e))
+
+-- a quantifier that is too large by itself, or makes a product too large
+abbrev IsLarge : List ℕ → ℕ → List ℕ → ℕ → Option ℕ → Type 0
+IsLarge text q bounds least most = (is_above_limit least most ≡ true) ⊎ (BeginsPattern (take (q + (length bounds + 2)) text) × ((rest : List ℕ) (tree : Tree) → IsPattern (take (q + (length bounds + 2)) text ++ rest) tree → 100000 < product_of tree))
+
+abbrev IsLargeAt : List ℕ → ℕ → List ℕ → ℕ → Option ℕ → Type 0
+IsLargeAt text q bounds least most = IsQuantifierAt text q bounds least most × IsLarge text q bounds least most
+
+or_first : (a b : Bool) → a ≡ true → a || b ≡ true
+or_first true b e = refl
+or_first false b e = absurd (false≢true e)
+
+overcounts_above : (r : Reading) (after_atom : Bool) (c least : ℕ) (most : Option ℕ) → r.mode ≡ Braces after_atom → c ≡ 125 → bounds_of r.braces ≡ Some (least, most) → is_above_limit least most ≡ true → overcounts_at c r ≡ true
+overcounts_above r after_atom c least most m e b h =
+    ap (λ (k : Mode). overcounts_in k c r) m ∙ ap (λ (k : ℕ). (k == 125) && overcounts (bounds_of r.braces) after_atom r) e ∙ ap (λ (o : Option (ℕ × Option ℕ)). overcounts o after_atom r) b
+    ∙ or_first (is_above_limit least most) (after_atom && nat_lt 100000 (r.atom_product * count_of least most)) h
+
+-- a quantifier whose end was passed is within the limits
+module _ (text : List ℕ) (n : ℕ) (r : Reading) (within : n ≤ length text) (so_far : reads (take n text) start ≡ Some r) (passes : PassesBefore text n) where
+  ended_above : (q : ℕ) (bounds : List ℕ) (least : ℕ) (most : Option ℕ) → q + (length bounds + 1) < n → IsQuantifierAt text q bounds least most → is_above_limit least most ≡ true → ⊥
+  ended_above q bounds least most lt h above =
+      let e : ℕ = q + (length bounds + 1) in
+      let s = reads_part text e n r (omega (arith, lt)) so_far in
+      let i = interior text q bounds least most h e s.0 (omega arith) (omega arith) s.1 in
+      by_place s.0 s.1 i.0 i.1 i.2
+    where
+      by_place : (s : Reading) → reads (take (q + (length bounds + 1)) text) start ≡ Some s → (after_atom : Bool) → s.mode ≡ Braces after_atom
+          → (is_inner s.braces (get_or text (q + (length bounds + 1)) 0) ≡ true) ⊎ ((q + (length bounds + 1) ≡ q + (length bounds + 1)) × (get_or text (q + (length bounds + 1)) 0 ≡ 125) × (s.braces ≡ bounds)) → ⊥
+      by_place s is after_atom m (inl inner) = inner_apart s.braces (get_or text (q + (length bounds + 1)) 0) 125 inner (end_char text q bounds least most h) (inr (inr refl))
+      by_place s is after_atom m (inr (same, c, b)) =
+          let all : bounds_of s.braces ≡ Some (least, most) = ap bounds_of b ∙ bounds_complete bounds least most h.are_bounds in
+          false≢true (sym ((passes.each (q + (length bounds + 1)) lt s is).2) ∙ overcounts_above s after_atom (get_or text (q + (length bounds + 1)) 0) least most m c all above)
+
+  passes_less : (p : ℕ) → p ≤ n → PassesBefore text p
+  passes_less p le = record { each = λ q lt read e. passes.each q (omega (arith, lt, le)) read e }
+
+  ended_product : (p : ℕ) → p ≤ n → BeginsPattern (take p text) → ((rest : List ℕ) (tree : Tree) → IsPattern (take p text ++ rest) tree → 100000 < product_of tree) → ⊥
+  ended_product p le begins large =
+      let s = begins_reads (take p text) begins in
+      let v = viable s.0 (sane_reads (take p text) s.0 s.1) in
+      let small = v.3 (measured_reads text p s.0 (omega (arith, le, within)) (passes_less p le) s.1) in
+      let over = large v.0 v.1 (completes_pattern (take p text ++ v.0) v.1 (completes_before (take p text) start s.0 v.0 v.1 s.1 v.2)) in
+      omega (arith, small, over)
+
+  ended_small : (q : ℕ) (bounds : List ℕ) (least : ℕ) (most : Option ℕ) → q + (length bounds + 1) < n → IsLargeAt text q bounds least most → ⊥
+  ended_small q bounds least most lt (h, inl above) = ended_above q bounds least most lt h above
+  ended_small q bounds least most lt (h, inr (begins, large)) = ended_product (q + (length bounds + 2)) (omega (arith, lt)) begins large
+
+  -- so nothing is refused before a place, if nothing is by a quantifier that isn't over
+  pub clear_before : (p : ℕ) → p ≤ n → ((q : ℕ) (bounds : List ℕ) (least : ℕ) (most : Option ℕ) → q < p → n ≤ q + (length bounds + 1) → IsLargeAt text q bounds least most → ⊥) → IsClearBefore text p
+  clear_before p le spans = record {
+    supported = λ q lt u. let s = reads_part text q n r (omega (arith, lt, le)) so_far in false≢true (sym ((passes.each q (omega (arith, lt, le)) s.0 s.1).0) ∙ unsupported_reads text q s.0 (omega (arith, lt, le, within)) u s.1);
+    small = λ q lt large. by_kind q lt large;
+    grammatical = λ q lt h. no_syntax_before text n r within so_far q (omega (arith, lt, le)) h;
+  }
+    where
+      by_end : (q : ℕ) (bounds : List ℕ) (least : ℕ) (most : Option ℕ) → q < p → IsLargeAt text q bounds least most → (q + (length bounds + 1) < n) ⊎ (n ≤ q + (length bounds + 1)) → ⊥
+      by_end q bounds least most lt large (inl over) = ended_small q bounds least most over large
+      by_end q bounds least most lt large (inr not_over) = spans q bounds least most lt not_over large
+
+      by_kind : (q : ℕ) → q < p → IsTooLargeAt text q → ⊥
+      by_kind q lt (inl deep) = let s = reads_part text q n r (omega (arith, lt, le)) so_far in false≢true (sym ((passes.each q (omega (arith, lt, le)) s.0 s.1).1) ∙ deep_reads text q s.0 (omega (arith, lt, le, within)) deep s.1)
+      by_kind q lt (inr (inl (bounds, least, most, h, above))) = by_end q bounds least most lt (h, inl above) (cases_lt (q + (length bounds + 1)) n)
+      by_kind q lt (inr (inr (bounds, least, most, h, begins, large))) = by_end q bounds least most lt (h, inr (begins, large)) (cases_lt (q + (length bounds + 1)) n)
