@@ -9,3 +9,4 @@ pub mod Sound
 pub mod BracesRead
 pub mod Sane
 pub mod TakingTerms
+pub mod TakingEnds
