@@ -1,8 +1,6 @@
 -- What completes a reading where the text ends is finished, with the same tree.
 use Rattle.std.proofs.Common.{◌≡◌, ℕ, zero, suc, Bool, true, false, List, [], ◌∷◌, ◌++◌, inl, inr, Option, Some, None, refl, sym, ap, subst, ◌∙◌}
-use Rattle.std.specs.Prelude.{◌⊎◌}
 use Rattle.std.proofs.lemmas.Bool.{false≢true}
-use Rattle.std.proofs.lemmas.List.{append-nil}
 use Rattle.es_pattern.specs.Tree.{Tree, CharRange, nothing, sequence, choice}
 use Rattle.es_pattern.specs.Pieces.{top, below}
 use Rattle.es_pattern.specs.Escapes.{range}
@@ -36,20 +34,23 @@ closes_end [] ts g t h = (refl, h.1)
 closes_end (Group ∷ gs) ts g t h = absurd (cc (h.1))
 closes_end (Ahead negated ∷ gs) ts g t h = absurd (cc (h.1))
 
+-- alternatives of an empty text are over
 pub only_ends : (before terms h : Tree) (out : List ℕ) → Reads (alternatives before terms h) [] out → (h ≡ choice before terms) × (out ≡ [])
 only_ends before terms h out ends = (refl, refl)
 only_ends before terms h out (followed {t = u} {mid = mid} a b) = absurd (no_term u mid a)
 
+-- the whole's alternatives end where the text ends
 pub closed_end : (gs : List Open) (r : Reading) (h t : Tree) (out : List ℕ) → Reads (alternatives (top (below r.trees)) (top r.trees) h) [] out → Closes gs (below (below r.trees)) out h t → ended gs r ≡ Some t
 closed_end gs r h t out reads k =
     let o = only_ends (top (below r.trees)) (top r.trees) h out reads in
     let c = closes_end gs (below (below r.trees)) h t (subst (λ (v : List ℕ). Closes gs (below (below r.trees)) v h t) o.1 k) in
     subst (λ (open_ : List Open). ended open_ r ≡ Some t) (sym c.0) (ap (λ (u : Tree). Some u) (sym o.0 ∙ c.1))
 
+-- where a term may begin, the text may end
 pub in_term_end : (r : Reading) (t : Tree) → InTerm r.trees r.groups [] t → ended r.groups r ≡ Some t
 in_term_end r t i = closed_end r.groups r i.1 t i.0 i.2 i.3
 
--- after an atom
+-- after an atom no quantifier stands where the text ends
 pub after_atom_end : (a : Tree) (ts : List Tree) (gs : List Open) (t : Tree) → AfterAtom a ts gs [] t → InTerm (sequence (top ts) a ∷ below ts) gs [] t
 after_atom_end a ts gs t h = by_suffix h.0 h.1 h.2 h.3
   where
@@ -58,23 +59,26 @@ after_atom_end a ts gs t h = by_suffix h.0 h.1 h.2 h.3
     by_suffix u after (greedy_suffix m) i = elim m [ ]
     by_suffix u after (lazy_suffix m) i = elim m [ ]
 
--- digits are left
+-- where digits are left the text doesn't end
 pub no_hex : (first : Option ℕ) (left value c : ℕ) (mid : List ℕ) → IsPartial first value left → Hex left value [] mid c → ⊥
 no_hex first zero value c mid p h = p
 no_hex first (suc left) value c mid p h = cc (h.3)
 
--- classes are open
+-- no character of a class is empty
 pub no_class_char : (c : ℕ) (mid : List ℕ) → ClassChar c [] mid → ⊥
 no_class_char c mid h = elim h [ ]
 
+-- nor is the first one
 pub no_first_char : (f : Bool) (c : ℕ) (mid : List ℕ) → FirstChar f c [] mid → ⊥
 no_first_char f c mid (other_char h) = no_class_char c mid h
 
+-- nor are the items up to `]`
 pub no_items : (f : Bool) (ranges all : List CharRange) (mid : List ℕ) → Items f ranges [] mid all → ⊥
 no_items f ranges all mid (one_char {c = c} {mid = after} h i) = no_first_char f c after h
 no_items f ranges all mid (from_to {c = c} {mid = after} h d le i) = no_first_char f c (45 ∷ after) h
 no_items f ranges all mid (to_dash {c = c} h le) = no_first_char f c (45 ∷ 45 ∷ 93 ∷ mid) h
 
+-- nor is what follows a character of a class
 pub no_after : (c : ℕ) (ranges all : List CharRange) (mid : List ℕ) → After c ranges [] mid all → ⊥
 no_after c ranges all mid (after_one i) = no_items false (ranges ++ range c c ∷ []) all mid i
 
@@ -82,6 +86,7 @@ no_after c ranges all mid (after_one i) = no_items false (ranges ++ range c c �
 pub no_dash_char : (c : ℕ) (mid : List ℕ) → ClassChar c (45 ∷ []) mid → ⊥
 no_dash_char c mid (itself h) = false≢true (sym h)
 
+-- a `-` alone begins no items of a class but the first
 pub no_dash : (c : ℕ) (mid : List ℕ) → FirstChar false c (45 ∷ []) mid → ⊥
 no_dash c mid (other_char h) = no_dash_char c mid h
 
@@ -90,14 +95,17 @@ no_dash_items ranges all mid (one_char {c = c} {mid = after} h i) = no_dash c af
 no_dash_items ranges all mid (from_to {c = c} {mid = after} h d le i) = no_dash c (45 ∷ after) h
 no_dash_items ranges all mid (to_dash {c = c} h le) = no_dash c (45 ∷ 45 ∷ 93 ∷ mid) h
 
+-- nor does it follow a character of a class
 pub no_after_dash : (c : ℕ) (ranges all : List CharRange) (mid : List ℕ) → After c ranges (45 ∷ []) mid all → ⊥
 no_after_dash c ranges all mid (after_one i) = no_dash_items (ranges ++ range c c ∷ []) all mid i
 no_after_dash c ranges all mid (after_range {d = d} {after = after} h le i) = no_class_char d after h
 
+-- a backslash alone is no character of a class
 pub no_escape_char : (c : ℕ) (mid : List ℕ) → ClassChar c (92 ∷ []) mid → ⊥
 no_escape_char c mid (itself h) = false≢true (sym h)
 no_escape_char c mid (class_escape h) = elim h [ ]
 
+-- nor an item
 pub no_escape_item : (ranges all : List CharRange) (mid : List ℕ) → EscapeItem ranges [] mid all → ⊥
 no_escape_item ranges all mid (escape_char {c = c} {mid = after} h a) = no_escape_char c after h
 
@@ -133,6 +141,7 @@ no_question_term r t u mid (once a) i = no_question_atom r t u mid a (u, mid, no
 no_question_term r t u mid (greedy {t = b} {mid = after} a m) i = no_question_atom r t b after a (u, mid, greedy_suffix m, i)
 no_question_term r t u mid (lazy {t = b} {mid = after} a m) i = no_question_atom r t b after a (u, mid, lazy_suffix m, i)
 
+-- what completes a reading where the text ends is finished
 pub taking_end : (m : Mode) (r : Reading) (t : Tree) → r.mode ≡ m → IsSaneIn m r → CompletesIn m r [] t → finished_in m r ≡ Some t
 taking_end Term r t e s h = in_term_end r t h
 taking_end Atom r t e s h = in_term_end (with_term r) t (after_atom_end (top r.trees) (below r.trees) r.groups t h)

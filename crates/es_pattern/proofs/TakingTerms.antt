@@ -1,11 +1,11 @@
 -- What completes a reading outside classes, with a character in front, is taken: the machine takes that character, and the rest completes what it makes of it.
-use Rattle.std.proofs.Common.{◌≡◌, ℕ, zero, suc, ◌+◌, ◌-◌, ◌*◌, ◌<◌, ◌≤◌, Bool, true, false, cond, List, [], ◌∷◌, ◌++◌, inl, inr, Option, Some, None, refl, sym, ap, subst, ◌∙◌, arith}
+use Rattle.std.proofs.Common.{◌≡◌, ℕ, ◌-◌, ◌*◌, ◌<◌, ◌≤◌, Bool, true, false, cond, List, [], ◌∷◌, ◌++◌, inl, inr, Option, Some, None, refl, sym, ap, subst, ◌∙◌, arith}
 use Rattle.std.specs.Prelude.{◌==◌, ◌&&◌, ◌⊎◌, max, nat_le}
 use Rattle.std.proofs.lemmas.List.{append_assoc}
 use Rattle.std.proofs.lemmas.Option.{same_Some}
 use Rattle.std.proofs.lemmas.Bool.{false≢true}
 use Rattle.std.proofs.lemmas.Bool.Decides.{nat_tests}
-use Rattle.es_pattern.specs.Tree.{Tree, CharRange, nothing, one_of, text_start, text_end, word_boundary, sequence, choice, repetition, lookahead}
+use Rattle.es_pattern.specs.Tree.{Tree, CharRange, nothing, one_of, text_start, text_end, word_boundary, sequence, choice, lookahead}
 use Rattle.es_pattern.specs.Pieces.{top, below}
 use Rattle.es_pattern.specs.Escapes.{is_digit, set_of, escaped, hex_value, is_surrogate}
 use Rattle.es_pattern.specs.Grammar.{never, char, any, BeginsBraces, alternatives, term, atom, Reads, is_plain, Hex, CharEscape}
@@ -16,7 +16,7 @@ use Rattle.es_pattern.specs.declared.mode.Open.TheVariants.{Group, Ahead}
 use Rattle.es_pattern.specs.declared.mode.Mode.{Mode}
 use Rattle.es_pattern.specs.declared.mode.Mode.TheVariants.{Term, Atom, Quantified, Zero, Braces, Escape, Paren, ParenQuestion, ClassOpen}
 use Rattle.es_pattern.specs.declared.mode.Mode.TheVariants as modes
-use Rattle.es_pattern.specs.Reading.{Reading, charged, with_term, top_product, products_below, closed_by, quantified, term_begun, plain, with_set, with_char, asserted, joined, settled, with_atom, opened, at, leaf, chosen, flushed, flushed_chars, bounds_of, in_braces_end, is_inner, in_braces, step_in}
+use Rattle.es_pattern.specs.Reading.{Reading, charged, with_term, top_product, products_below, closed_by, quantified, term_begun, plain, with_set, with_char, asserted, joined, with_atom, opened, at, leaf, chosen, flushed, flushed_chars, bounds_of, in_braces_end, is_inner, in_braces, step_in}
 use Rattle.es_pattern.specs.Limits.{count_of}
 use Rattle.es_pattern.proofs.BracesRead.{AllInner, bounds_complete, bounds_inner, bounds_sound, breaks}
 use Rattle.es_pattern.proofs.Sound.{is_char, is_no_char, no_braces, completes_at, digit_plain, Suffix, no_suffix, greedy_suffix, lazy_suffix, Closes, InTerm, AfterAtom, Base, CompletesIn, Completes, term_next, atom_next, unsuffixed}
@@ -45,6 +45,7 @@ BeginsTerm r c w t = NoMark c × (BeginsBraces (c ∷ w) → ⊥) × Taken (term
 abbrev pub FirstTerm : List Tree → List Open → List ℕ → Tree → Type 0
 FirstTerm ts gs text t = (u : Tree) × (mid : List ℕ) × Reads (term u) text mid × InTerm (sequence (top ts) u ∷ below ts) gs mid t
 
+-- a character that is no `{` begins no braces
 pub begins_term : (c : ℕ) (r : Reading) (w : List ℕ) (t : Tree) → NoMark c → c == 123 ≡ false → Taken (term_begun c r) w t → BeginsTerm r c w t
 begins_term c r w t n n123 h = (n, no_braces c w (is_no_char c 123 n123), h)
 
@@ -87,6 +88,7 @@ closes_at [] ts c w g t h = cc (h.0)
 closes_at (Group ∷ gs) ts c w g t h = cc (h.1)
 closes_at (Ahead negated ∷ gs) ts c w g t h = cc (h.1)
 
+-- a group is closed
 pub closed_begins : (gs : List Open) (r : Reading) (w : List ℕ) (t : Tree) → Closes gs (below (below r.trees)) (41 ∷ w) (choice (top (below r.trees)) (top r.trees)) t → Taken (closed_by gs r) w t
 closed_begins [] r w t h = absurd (cc (h.0))
 closed_begins (Group ∷ gs) r w t h =
@@ -153,16 +155,20 @@ suffix_taken c r w t u after (lazy_suffix plus_mark) i = (quantified 1 None (cha
 suffix_taken c r w t u after (lazy_suffix question_mark) i = (quantified 0 (Some 1) (charged r.atom_product r), refl, inr (after, refl, i))
 suffix_taken c r w t u after (lazy_suffix (braces_mark bounds b)) i = (at (Braces true) (record r { braces = [] }), refl, λ inner. (u, after, lazy_suffix (braces_mark bounds b), i))
 
+-- where a term may begin, after an atom or not
 pub base_taken : (after_atom : Bool) (c : ℕ) (r : Reading) (w : List ℕ) (t : Tree) → Base after_atom r (c ∷ w) t → Taken (plain after_atom false c r) w t
 base_taken true c r w t h = suffix_taken c r w t h.0 h.1 h.2 h.3
 base_taken false c r w t h = plain_taken false c r w t h
 
+-- what completes a reading in one of these modes, with a character in front, is taken: here where a term may begin
 pub taking_term : (c : ℕ) (r : Reading) (w : List ℕ) (t : Tree) → r.mode ≡ Term → CompletesIn Term r (c ∷ w) t → (s : Reading) × (step_in Term c r ≡ Some s) × Completes s w t
 taking_term c r w t m h = plain_taken false c r w t h
 
+-- after an atom
 pub taking_atom : (c : ℕ) (r : Reading) (w : List ℕ) (t : Tree) → r.mode ≡ Atom → CompletesIn Atom r (c ∷ w) t → (s : Reading) × (step_in Atom c r ≡ Some s) × Completes s w t
 taking_atom c r w t m h = base_taken true c r w t h
 
+-- after a quantifier a `?` may stand
 pub taking_quantified : (c : ℕ) (r : Reading) (w : List ℕ) (t : Tree) → r.mode ≡ Quantified → CompletesIn Quantified r (c ∷ w) t → (s : Reading) × (step_in Quantified c r ≡ Some s) × Completes s w t
 taking_quantified c r w t m (inl i) = plain_taken true c r w t i
 taking_quantified c r w t m (inr l) =
@@ -170,6 +176,7 @@ taking_quantified c r w t m (inr l) =
     let tails : l.0 ≡ w = cc (l.1) in
     subst (λ (d : ℕ). Taken (plain false true d r) w t) heads (at Term r, refl, subst (λ (v : List ℕ). InTerm r.trees r.groups v t) tails l.2)
 
+-- after `\0` no digit may stand
 pub taking_zero : (c : ℕ) (r : Reading) (w : List ℕ) (t : Tree) → r.mode ≡ Zero → CompletesIn Zero r (c ∷ w) t → (s : Reading) × (step_in Zero c r ≡ Some s) × Completes s w t
 taking_zero c r w t m h = by_digit (is_digit c) refl (base_taken true c r w t h.1)
   where
@@ -177,7 +184,7 @@ taking_zero c r w t m h = by_digit (is_digit c) refl (base_taken true c r w t h.
     by_digit true e k = absurd (h.0 e)
     by_digit false e k = subst (λ (b : Bool). Taken (cond b None (plain true false c r)) w t) (sym e) k
 
--- an escape
+-- what neither ends nor parts alternatives begins a term
 pub first_term : (ts : List Tree) (gs : List Open) (t : Tree) (c : ℕ) (w : List ℕ) → (c ≡ 41 → ⊥) → (c ≡ 124 → ⊥) → InTerm ts gs (c ∷ w) t → FirstTerm ts gs (c ∷ w) t
 first_term ts gs t c w n41 n124 i = by_front (front ts gs t c w i.1 i.0 i.2 i.3)
   where
@@ -225,6 +232,7 @@ two_small text rest k h =
     above : k < 256 → nat_le 0xd800 k ≡ false
     above lt = grind (arith, nat_tests)
 
+-- an escape of one character
 pub char_escape_taken : (c : ℕ) (r : Reading) (w : List ℕ) (t : Tree) (k : ℕ) (mid : List ℕ) → CharEscape k (c ∷ w) mid → AfterAtom (char k) r.trees r.groups mid t → Taken (with_set (set_of c) c r) w t
 char_escape_taken c r w t k mid (named h) i =
     (with_atom (char k) r, rw (apart 100 refl, apart 68 refl, apart 119 refl, apart 87 refl, apart 115 refl, apart 83 refl, apart 98 refl, apart 66 refl, apart 120 refl, apart 117 refl, apart 48 refl) (ap (λ (o : Option ℕ). with_char o r) h), i)
@@ -235,11 +243,13 @@ char_escape_taken c r w t k mid (zero_char n) i = (at Zero (with_atom (char 0) r
 char_escape_taken c r w t k mid (two_digits h) i = (at (modes.Hex 0 2) r, refl, (k, mid, h, two_small w mid k h, i))
 char_escape_taken c r w t k mid (four_digits h n) i = (at (modes.Hex 0 4) r, refl, (k, mid, h, n, i))
 
+-- an escape that is an atom
 pub escape_atom_taken : (c : ℕ) (r : Reading) (w : List ℕ) (t a : Tree) (mid : List ℕ) → Reads (atom a) (92 ∷ c ∷ w) mid → AfterAtom a r.trees r.groups mid t → Taken (with_set (set_of c) c r) w t
 escape_atom_taken c r w t a mid (set_escape {ranges = ranges} e) i = (with_atom (one_of false ranges) r, ap (λ (o : Option (List CharRange)). with_set o c r) e, i)
 escape_atom_taken c r w t a mid (char_escape {c = k} e) i = char_escape_taken c r w t k mid e i
 escape_atom_taken c r w t a mid (ordinary h n) i = absurd (false≢true h)
 
+-- an escape that is a term
 pub escape_term_taken : (c : ℕ) (r : Reading) (w : List ℕ) (t u : Tree) (mid : List ℕ) → Reads (term u) (92 ∷ c ∷ w) mid → InTerm (sequence (top r.trees) u ∷ below r.trees) r.groups mid t → Taken (with_set (set_of c) c r) w t
 escape_term_taken c r w t u mid at_boundary i = (asserted (word_boundary false) r, refl, i)
 escape_term_taken c r w t u mid at_no_boundary i = (asserted (word_boundary true) r, refl, i)
@@ -247,22 +257,26 @@ escape_term_taken c r w t u mid (once a) i = escape_atom_taken c r w t u mid a (
 escape_term_taken c r w t u mid (greedy {t = b} {mid = after} a m) i = escape_atom_taken c r w t b after a (u, mid, greedy_suffix m, i)
 escape_term_taken c r w t u mid (lazy {t = b} {mid = after} a m) i = escape_atom_taken c r w t b after a (u, mid, lazy_suffix m, i)
 
+-- what completes a reading after a backslash
 pub taking_escape : (c : ℕ) (r : Reading) (w : List ℕ) (t : Tree) → r.mode ≡ Escape → CompletesIn Escape r (c ∷ w) t → (s : Reading) × (step_in Escape c r ≡ Some s) × Completes s w t
 taking_escape c r w t m h = let f = first_term r.trees r.groups t 92 (c ∷ w) (is_no_char 92 41 refl) (is_no_char 92 124 refl) h in escape_term_taken c r w t f.0 f.1 f.2 f.3
 
--- a group
+-- a group's alternatives
 pub group_opened : (r : Reading) (w : List ℕ) (t a : Tree) (mid : List ℕ) → Reads (alternatives never nothing a) w (41 ∷ mid) → AfterAtom a r.trees r.groups mid t → InTerm (opened Group r).trees (opened Group r).groups w t
 group_opened r w t a mid b i = (41 ∷ mid, a, b, (mid, refl, i))
 
+-- a lookahead's alternatives
 pub ahead_opened : (negated : Bool) (r : Reading) (w : List ℕ) (t a : Tree) (mid : List ℕ) → Reads (alternatives never nothing a) w (41 ∷ mid) → InTerm (sequence (top r.trees) (lookahead negated a) ∷ below r.trees) r.groups mid t
     → InTerm (opened (Ahead negated) r).trees (opened (Ahead negated) r).groups w t
 ahead_opened negated r w t a mid b i = (41 ∷ mid, a, b, (mid, refl, i))
 
+-- a group that is an atom, and doesn't begin with `(?`
 pub paren_atom : (c : ℕ) (r : Reading) (w : List ℕ) (t a : Tree) (mid : List ℕ) → c == 63 ≡ false → Reads (atom a) (40 ∷ c ∷ w) mid → AfterAtom a r.trees r.groups mid t → InTerm (opened Group r).trees (opened Group r).groups (c ∷ w) t
 paren_atom c r w t a mid n (group b) i = group_opened r (c ∷ w) t a mid b i
 paren_atom c r w t a mid n (bare_group b) i = absurd (false≢true (sym n))
 paren_atom c r w t a mid n (ordinary h k) i = absurd (false≢true h)
 
+-- such a group that begins a term
 pub paren_term : (c : ℕ) (r : Reading) (w : List ℕ) (t u : Tree) (mid : List ℕ) → c == 63 ≡ false → Reads (term u) (40 ∷ c ∷ w) mid → InTerm (sequence (top r.trees) u ∷ below r.trees) r.groups mid t → InTerm (opened Group r).trees (opened Group r).groups (c ∷ w) t
 paren_term c r w t u mid n (ahead b) i = absurd (false≢true (sym n))
 paren_term c r w t u mid n (not_ahead b) i = absurd (false≢true (sym n))
@@ -270,6 +284,7 @@ paren_term c r w t u mid n (once a) i = paren_atom c r w t u mid n a (u, mid, no
 paren_term c r w t u mid n (greedy {t = b} {mid = after} a m) i = paren_atom c r w t b after n a (u, mid, greedy_suffix m, i)
 paren_term c r w t u mid n (lazy {t = b} {mid = after} a m) i = paren_atom c r w t b after n a (u, mid, lazy_suffix m, i)
 
+-- what completes a reading after `(`
 pub taking_paren : (c : ℕ) (r : Reading) (w : List ℕ) (t : Tree) → r.mode ≡ Paren → CompletesIn Paren r (c ∷ w) t → (s : Reading) × (step_in Paren c r ≡ Some s) × Completes s w t
 taking_paren c r w t m h = by_question (c == 63) refl
   where
@@ -279,11 +294,13 @@ taking_paren c r w t m h = by_question (c == 63) refl
         let f = first_term r.trees r.groups t 40 (c ∷ w) (is_no_char 40 41 refl) (is_no_char 40 124 refl) h in
         subst (λ (b : Bool). Taken (cond b (Some (at ParenQuestion r)) (plain false false c (opened Group r))) w t) (sym e) (plain_taken false c (opened Group r) w t (paren_term c r w t f.0 f.1 e f.2 f.3))
 
+-- what begins with `(?` as an atom
 pub question_atom : (c : ℕ) (r : Reading) (w : List ℕ) (t a : Tree) (mid : List ℕ) → Reads (atom a) (40 ∷ 63 ∷ c ∷ w) mid → AfterAtom a r.trees r.groups mid t → Taken (step_in ParenQuestion c r) w t
 question_atom c r w t a mid (group b) i = let k = term_taken (opened Group r) 63 (c ∷ w) t (group_opened r (63 ∷ c ∷ w) t a mid b i) in absurd (false≢true (sym k.0.2))
 question_atom c r w t a mid (bare_group b) i = (opened Group r, refl, group_opened r w t a mid b i)
 question_atom c r w t a mid (ordinary h k) i = absurd (false≢true h)
 
+-- what begins with `(?` as a term
 pub question_term : (c : ℕ) (r : Reading) (w : List ℕ) (t u : Tree) (mid : List ℕ) → Reads (term u) (40 ∷ 63 ∷ c ∷ w) mid → InTerm (sequence (top r.trees) u ∷ below r.trees) r.groups mid t → Taken (step_in ParenQuestion c r) w t
 question_term c r w t u mid (ahead {t = g} b) i = (opened (Ahead false) r, refl, ahead_opened false r w t g mid b i)
 question_term c r w t u mid (not_ahead {t = g} b) i = (opened (Ahead true) r, refl, ahead_opened true r w t g mid b i)
@@ -291,10 +308,11 @@ question_term c r w t u mid (once a) i = question_atom c r w t u mid a (u, mid, 
 question_term c r w t u mid (greedy {t = b} {mid = after} a m) i = question_atom c r w t b after a (u, mid, greedy_suffix m, i)
 question_term c r w t u mid (lazy {t = b} {mid = after} a m) i = question_atom c r w t b after a (u, mid, lazy_suffix m, i)
 
+-- what completes a reading after `(?`
 pub taking_paren_question : (c : ℕ) (r : Reading) (w : List ℕ) (t : Tree) → r.mode ≡ ParenQuestion → CompletesIn ParenQuestion r (c ∷ w) t → (s : Reading) × (step_in ParenQuestion c r ≡ Some s) × Completes s w t
 taking_paren_question c r w t m h = let f = first_term r.trees r.groups t 40 (63 ∷ c ∷ w) (is_no_char 40 41 refl) (is_no_char 40 124 refl) h in question_term c r w t f.0 f.1 f.2 f.3
 
--- braces
+-- a digit or a comma is no `}`
 not_end : (y : ℕ) → (is_digit y ≡ true) ⊎ (y ≡ 44) → y ≡ 125 → ⊥
 not_end y (inl d) e = grind (arith, nat_tests)
 not_end y (inr d) e = absurd (omega (arith, d, e))
@@ -322,6 +340,7 @@ unmarked ts gs t a u c w after n k (lazy_suffix (braces_mark bounds {least = lea
 pub itself_taken : (r : Reading) (c : ℕ) (w : List ℕ) (t : Tree) → is_plain c ≡ true → InTerm r.trees r.groups (c ∷ w) t → AfterAtom (char c) r.trees r.groups w t
 itself_taken r c w t h i = let k = term_taken r c w t i in completes_at (with_atom (char c) r) k.2.0 w t (sym (plain_begun r c h) ∙ k.2.1) k.2.2
 
+-- digits and commas stand for themselves, and mark no quantifier
 pub inner_plain : (c : ℕ) → (is_digit c ≡ true) ⊎ (c ≡ 44) → (is_plain c ≡ true) × NoMark c × (c == 123 ≡ false)
 inner_plain c (inl d) = let h = digit_plain c d in (h, (apart_by is_plain c 42 h refl, apart_by is_plain c 43 h refl, apart_by is_plain c 63 h refl), apart_by is_digit c 123 d refl)
 inner_plain c (inr e) = subst (λ (k : ℕ). (is_plain k ≡ true) × NoMark k × (k == 123 ≡ false)) (sym e) (refl, (refl, refl, refl), refl)
@@ -343,26 +362,29 @@ flushed_taken true r rest t h no_b a =
     flushed_chars_taken r.braces (record (with_atom (char 123) (with_term r)) { braces = [] }) rest t h (itself_taken (with_term r) 123 (r.braces ++ rest) t refl i)
 flushed_taken false r rest t h no_b i = flushed_chars_taken r.braces (record (with_atom (char 123) r) { braces = [] }) rest t h (itself_taken r 123 (r.braces ++ rest) t refl i)
 
--- braces that are a quantifier, after an atom
-abbrev pub Counted : Reading → ℕ → Option ℕ → Reading
-Counted r n k = quantified n k (charged (r.atom_product * count_of n k) r)
+-- after an atom and its quantifier in braces
+abbrev pub counted : Reading → ℕ → Option ℕ → Reading
+counted r n k = quantified n k (charged (r.atom_product * count_of n k) r)
 
+-- the end of braces that are a quantifier, after an atom
 pub counted_taken : (r : Reading) (text w : List ℕ) (t u : Tree) (after : List ℕ) → text ≡ r.braces ++ 125 ∷ w → AllInner r.braces → (n : ℕ) (k : Option ℕ) → bounds_of r.braces ≡ Some (n, k) → Suffix (top r.trees) u (123 ∷ text) after
     → InTerm (sequence (top (below r.trees)) u ∷ below (below r.trees)) r.groups after t → Taken (in_braces_end (bounds_of r.braces) true 125 r) w t
 counted_taken r text w t u after e inner n k b no_suffix i = absurd ((term_taken (with_term r) 123 text t i).1 (r.braces, w, n, k, bounds_sound r.braces n k b, ap (λ (v : List ℕ). 123 ∷ v) e))
 counted_taken r text w t u after e inner n k b (greedy_suffix (braces_mark bounds {least = least} {most = most} h)) i =
     let same = same_braces bounds r.braces after w (bounds_inner bounds least most h) inner e in
     let is : bounds_of r.braces ≡ Some (least, most) = subst (λ (v : List ℕ). bounds_of v ≡ Some (least, most)) same.0 (bounds_complete bounds least most h) in
-    (Counted r least most, ap (λ (o : Option (ℕ × Option ℕ)). in_braces_end o true 125 r) is, inl (subst (λ (v : List ℕ). InTerm (Counted r least most).trees r.groups v t) same.1 i))
+    (counted r least most, ap (λ (o : Option (ℕ × Option ℕ)). in_braces_end o true 125 r) is, inl (subst (λ (v : List ℕ). InTerm (counted r least most).trees r.groups v t) same.1 i))
 counted_taken r text w t u after e inner n k b (lazy_suffix (braces_mark bounds {least = least} {most = most} h)) i =
     let same = same_braces bounds r.braces (63 ∷ after) w (bounds_inner bounds least most h) inner e in
     let is : bounds_of r.braces ≡ Some (least, most) = subst (λ (v : List ℕ). bounds_of v ≡ Some (least, most)) same.0 (bounds_complete bounds least most h) in
-    (Counted r least most, ap (λ (o : Option (ℕ × Option ℕ)). in_braces_end o true 125 r) is, inr (after, sym same.1, i))
+    (counted r least most, ap (λ (o : Option (ℕ × Option ℕ)). in_braces_end o true 125 r) is, inr (after, sym same.1, i))
 
+-- braces that are a quantifier stand after an atom
 pub bounds_taken : (after_atom : Bool) (r : Reading) (w : List ℕ) (t : Tree) → AllInner r.braces → (n : ℕ) (k : Option ℕ) → bounds_of r.braces ≡ Some (n, k) → Base after_atom r (123 ∷ (r.braces ++ 125 ∷ w)) t → Taken (in_braces_end (bounds_of r.braces) after_atom 125 r) w t
 bounds_taken true r w t inner n k b a = counted_taken r (r.braces ++ 125 ∷ w) w t a.0 a.1 refl inner n k b a.2 a.3
 bounds_taken false r w t inner n k b i = absurd ((term_taken r 123 (r.braces ++ 125 ∷ w) t i).1 (r.braces, w, n, k, bounds_sound r.braces n k b, refl))
 
+-- braces that go on, end, or break
 pub braces_taken : (after_atom : Bool) (c : ℕ) (r : Reading) (w : List ℕ) (t : Tree) → r.mode ≡ Braces after_atom → AllInner r.braces → Base after_atom r (123 ∷ (r.braces ++ c ∷ w)) t → Taken (in_braces after_atom c r) w t
 braces_taken after_atom c r w t m inner h = by_inner (is_inner r.braces c) refl
   where
@@ -393,5 +415,6 @@ braces_taken after_atom c r w t m inner h = by_inner (is_inner r.braces c) refl
     by_inner true e = (more, ap (λ (b : Bool). cond b (Some more) (cond (c == 125) (in_braces_end (bounds_of r.braces) after_atom c r) (plain true false c (flushed after_atom r)))) e, goes_on)
     by_inner false e = subst (λ (b : Bool). Taken (cond b (Some more) (cond (c == 125) (in_braces_end (bounds_of r.braces) after_atom c r) (plain true false c (flushed after_atom r)))) w t) (sym e) (by_end (c == 125) refl e)
 
+-- what completes a reading in braces
 pub taking_braces : (after_atom : Bool) (c : ℕ) (r : Reading) (w : List ℕ) (t : Tree) → r.mode ≡ Braces after_atom → AllInner r.braces → CompletesIn (Braces after_atom) r (c ∷ w) t → (s : Reading) × (step_in (Braces after_atom) c r ≡ Some s) × Completes s w t
 taking_braces after_atom c r w t m inner h = braces_taken after_atom c r w t m inner (h inner)
