@@ -13,3 +13,5 @@ pub mod Above
 pub mod Stubs
 pub mod Beginnings
 pub mod FirstFaults
+pub mod TakingTerms
+pub mod TakingEnds
