@@ -8,3 +8,4 @@ pub mod Parsings
 pub mod Sound
 pub mod BracesRead
 pub mod Sane
+pub mod Kept

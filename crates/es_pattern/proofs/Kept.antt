@@ -1,0 +1,331 @@
+-- What holds of every state is kept by each character.
+use Rattle.std.proofs.Common.{◌≡◌, ℕ, zero, suc, ◌+◌, ◌-◌, ◌*◌, ◌<◌, ◌≤◌, Bool, true, false, cond, List, [], ◌∷◌, ◌++◌, length, take, Option, Some, None, refl, sym, ap, subst, ◌∙◌, arith}
+use Rattle.std.specs.Prelude.{◌==◌, ◌&&◌, ◌||◌, max, nat_le, nat_lt, option_and_then}
+use Rattle.std.proofs.lemmas.Option.{same_Some}
+use Rattle.std.proofs.lemmas.Bool.{false≢true}
+use Rattle.std.proofs.lemmas.Bool.Decides.{nat_tests}
+use Rattle.es_pattern.specs.Tree.{Tree, CharRange, nothing, one_of, text_start, text_end, word_boundary, sequence, choice, repetition, lookahead}
+use Rattle.es_pattern.specs.Escapes.{is_digit, set_of, escaped, hex_value, is_surrogate}
+use Rattle.es_pattern.specs.Grammar.{char, any}
+use Rattle.es_pattern.specs.Limits.{product_of, count_of}
+use Rattle.es_pattern.specs.declared.mode.Open.{Open}
+use Rattle.es_pattern.specs.declared.mode.Open.TheVariants.{Group, Ahead}
+use Rattle.es_pattern.specs.declared.mode.Mode.{Mode}
+use Rattle.es_pattern.specs.declared.mode.Mode.TheVariants.{Term, Atom, Quantified, Zero, Braces, Escape, Paren, ParenQuestion, ClassOpen, ClassFirst, ClassNext, ClassLast}
+use Rattle.es_pattern.specs.declared.mode.Mode.TheVariants as modes
+use Rattle.es_pattern.specs.Reading.{Reading, asserted, joined, leaf, chosen, with_atom, flushed_chars, charged, with_term, top_product, products_below, closed_by, quantified, marked, term_begun, plain, with_set, with_char, settled, opened, at, greatest_from, scalar, hex_to, hex_by, flushed, bounds_of, in_braces_end, is_inner, in_braces, ranged, class_end, item, next_item, after_char, class_char, after_dash, class_char_if, can_end, class_zero, class_set, class_hex_to, class_hex_by, step_in, step, start, reads}
+use Rattle.es_pattern.proofs.BracesRead.{inner-append}
+use Rattle.es_pattern.proofs.Sound.{if_else, is_char, no_reading, inner_is, scalar_is, hex_guard}
+use Rattle.es_pattern.proofs.Sane.{CanEnd, greatest_of_three, IsPartial, IsSane, IsSaneIn, Outer, MeasuredOpen, MeasuredBase, IsMeasured}
+
+-- what holds of the state that is made
+sane_at : (x s : Reading) → Some x ≡ Some s → IsSane x → IsSane s
+sane_at x s e h = subst (λ (y : Reading). IsSane y) (same_Some x s e) h
+
+closed_sane : (gs : List Open) (r s : Reading) → closed_by gs r ≡ Some s → IsSane s
+closed_sane [] r s e = no_reading s e
+closed_sane (Group ∷ gs) r s e = sane_at _ s e tt
+closed_sane (Ahead negated ∷ gs) r s e = sane_at _ s e tt
+
+-- where a term may begin
+term_sane : (c : ℕ) (r s : Reading) → term_begun c r ≡ Some s → IsSane s
+term_sane c r s e =
+    let P : Type 0 = IsSane s in
+    if_else (c == 94) _ _ s P e (λ y x. sane_at _ s x tt) (λ n e2.
+    if_else (c == 36) _ _ s P e2 (λ y x. sane_at _ s x tt) (λ n e3.
+    if_else (c == 124) _ _ s P e3 (λ y x. sane_at _ s x tt) (λ n e4.
+    if_else (c == 41) _ _ s P e4 (λ y x. closed_sane r.groups r s x) (λ n e5.
+    if_else (c == 40) _ _ s P e5 (λ y x. sane_at _ s x tt) (λ n e6.
+    if_else (c == 91) _ _ s P e6 (λ y x. sane_at _ s x tt) (λ n e7.
+    if_else (c == 92) _ _ s P e7 (λ y x. sane_at _ s x tt) (λ n e8.
+    if_else (c == 46) _ _ s P e8 (λ y x. sane_at _ s x tt) (λ n x. sane_at _ s x tt))))))))
+
+marked_sane : (after_atom : Bool) (product least : ℕ) (most : Option ℕ) (r s : Reading) → marked after_atom product least most r ≡ Some s → IsSane s
+marked_sane true product least most r s e = sane_at _ s e tt
+marked_sane false product least most r s e = no_reading s e
+
+lazy_sane : (after_atom may_be_lazy : Bool) (r s : Reading) → cond may_be_lazy (Some (at Term r)) (marked after_atom r.atom_product 0 (Some 1) r) ≡ Some s → IsSane s
+lazy_sane after_atom true r s e = sane_at _ s e tt
+lazy_sane after_atom false r s e = marked_sane after_atom r.atom_product 0 (Some 1) r s e
+
+-- whatever was read before
+plain_sane : (after_atom may_be_lazy : Bool) (c : ℕ) (r s : Reading) → plain after_atom may_be_lazy c r ≡ Some s → IsSane s
+plain_sane after_atom may_be_lazy c r s e =
+    let P : Type 0 = IsSane s in
+    if_else (c == 42) _ _ s P e (λ y x. marked_sane after_atom r.atom_product 0 None r s x) (λ n e2.
+    if_else (c == 43) _ _ s P e2 (λ y x. marked_sane after_atom r.atom_product 1 None r s x) (λ n e3.
+    if_else (c == 63) _ _ s P e3 (λ y x. lazy_sane after_atom may_be_lazy r s x) (λ n e4.
+    if_else (c == 123) _ _ s P e4 (λ y x. sane_at (at (Braces after_atom) (record r { braces = [] })) s x tt) (λ n x. term_sane c (settled after_atom r) s x))))
+
+in_braces_sane : (after_atom : Bool) (c : ℕ) (r s : Reading) → r.mode ≡ Braces after_atom → IsSaneIn (Braces after_atom) r → in_braces after_atom c r ≡ Some s → IsSane s
+in_braces_sane after_atom c r s m inner e =
+    let P : Type 0 = IsSane s in
+    if_else (is_inner r.braces c) _ _ s P e (λ y x. goes_on y x) (λ out e2.
+    if_else (c == 125) _ _ s P e2 (λ y x. at_end (bounds_of r.braces) x) (λ n x. plain_sane true false c (flushed after_atom r) s x))
+  where
+    more : Reading
+    more = record r { braces = r.braces ++ c ∷ [] }
+
+    goes_on : is_inner r.braces c ≡ true → Some more ≡ Some s → IsSane s
+    goes_on y x =
+        let i : IsSaneIn (Braces after_atom) more = inner-append r.braces (c ∷ []) inner (inner_is r.braces c y, tt) in
+        sane_at more s x (subst (λ (k : Mode). IsSaneIn k more) (sym m) i)
+
+    at_end : (o : Option (ℕ × Option ℕ)) → in_braces_end o after_atom c r ≡ Some s → IsSane s
+    at_end None x = plain_sane true false c (flushed after_atom r) s x
+    at_end (Some bounds) x = marked_sane after_atom _ bounds.0 bounds.1 r s x
+
+-- hexadecimal digits
+digit_if : (b : Bool) (x : ℕ) (y : Option ℕ) (d : ℕ) → cond b (Some x) y ≡ Some d → (b ≡ true → x < 16) → (b ≡ false → y ≡ Some d → d < 16) → d < 16
+digit_if true x y d e yes_ no_ = subst (λ (k : ℕ). k < 16) (same_Some x d e) (yes_ refl)
+digit_if false x y d e yes_ no_ = no_ refl e
+
+digit_below : (c d : ℕ) → hex_value c ≡ Some d → d < 16
+digit_below c d e =
+    digit_if (nat_le 48 c && nat_le c 57) (c - 48) _ d e (low c) (λ n e2.
+    digit_if (nat_le 65 c && nat_le c 70) (c - 55) _ d e2 (upper c) (λ n2 e3.
+    digit_if (nat_le 97 c && nat_le c 102) (c - 87) None d e3 (lower c) (λ n3 x. cc)))
+  where
+    low : (c : ℕ) → nat_le 48 c && nat_le c 57 ≡ true → c - 48 < 16
+    low c h = grind (arith, nat_tests)
+
+    upper : (c : ℕ) → nat_le 65 c && nat_le c 70 ≡ true → c - 55 < 16
+    upper c h = grind (arith, nat_tests)
+
+    lower : (c : ℕ) → nat_le 97 c && nat_le c 102 ≡ true → c - 87 < 16
+    lower c h = grind (arith, nat_tests)
+
+can_end_is : (first : Option ℕ) (c : ℕ) → can_end first c ≡ true → CanEnd first c
+can_end_is None c h = tt
+can_end_is (Some f) c h = grind (arith, nat_tests)
+
+is_thirteen : (v : ℕ) → is_surrogate (v * 4096 + 4095) ≡ true → v == 13 ≡ true
+is_thirteen v h =
+    let low : 0xd800 ≤ v * 4096 + 4095 = grind (arith, nat_tests) in
+    let high : v * 4096 + 4095 ≤ 0xdfff = grind (arith, nat_tests) in
+    let is : v ≡ 13 = omega (arith, low, high) in
+    grind (arith, nat_tests)
+
+no_thirteen : (v : ℕ) → is_surrogate (v * 4096 + 4095) ≡ false → v == 13 ≡ false
+no_thirteen v h = by_test (v == 13) refl
+  where
+    by_test : (b : Bool) → v == 13 ≡ b → b ≡ false
+    by_test true y = absurd (false≢true (sym h ∙ subst (λ (k : ℕ). is_surrogate (k * 4096 + 4095) ≡ true) (sym (is_char v 13 y)) refl))
+    by_test false y = refl
+
+three_greatest : (v g : ℕ) → greatest_from v 3 ≡ Some g → g ≡ greatest_of_three v
+three_greatest v g e = by_test (is_surrogate (v * 4096 + 4095)) refl e
+  where
+    by_test : (b : Bool) → is_surrogate (v * 4096 + 4095) ≡ b → cond b (Some 0xd7ff) (scalar (v * 4096 + 4095)) ≡ Some g → g ≡ greatest_of_three v
+    by_test true y x = rw (is_thirteen v y) (sym (same_Some 0xd7ff g x))
+    by_test false y x = rw (no_thirteen v y) (sym ((scalar_is 0 g (v * 4096 + 4095) x).0))
+
+-- a digit more
+next_partial : (first : Option ℕ) (value l d g : ℕ) → IsPartial first value (suc l) → d < 16 → l == 0 ≡ false → greatest_from (value * 16 + d) l ≡ Some g → CanEnd first g → IsPartial first (value * 16 + d) l
+next_partial first value zero d g p lt n e k = absurd (false≢true (sym n))
+next_partial first value (suc zero) d g p lt n e k =
+    let s = scalar_is 0 g ((value * 16 + d) * 16 + 15) e in
+    let small : value < 256 = p.0 in
+    (omega (arith, small, lt), s.1, subst (λ (j : ℕ). CanEnd first j) (sym s.0) k)
+next_partial first value (suc (suc zero)) d g p lt n e k =
+    let s = scalar_is 0 g ((value * 16 + d) * 256 + 255) e in
+    let small : value < 16 = p.0 in
+    (omega (arith, small, lt), s.1, subst (λ (j : ℕ). CanEnd first j) (sym s.0) k)
+next_partial first value (suc (suc (suc zero))) d g p lt n e k =
+    let none : value ≡ 0 = p.0 in
+    (omega (arith, none, lt), subst (λ (j : ℕ). CanEnd first j) (three_greatest (value * 16 + d) g e) k)
+next_partial first value (suc (suc (suc (suc l)))) d g p lt n e k = absurd p
+
+hex_sane : (value left c : ℕ) (r s : Reading) → IsPartial None value left → hex_by (hex_value c) value left r ≡ Some s → IsSane s
+hex_sane value left c r s p e = by_digit (hex_value c) refl e
+  where
+    by_left : (d l : ℕ) → d < 16 → left ≡ suc l → (o : Option ℕ) → greatest_from (value * 16 + d) l ≡ o → hex_to o (value * 16 + d) l r ≡ Some s → IsSane s
+    by_left d l lt is None g x = no_reading s x
+    by_left d l lt is (Some greatest) g x =
+        if_else (l == 0) _ _ s (IsSane s) x (λ z y. sane_at _ s y tt)
+        (λ z y. sane_at (at (modes.Hex (value * 16 + d) l) r) s y (next_partial None value l d greatest (subst (λ (k : ℕ). IsPartial None value k) is p) lt z g tt))
+
+    by_digit : (o : Option ℕ) → hex_value c ≡ o → hex_by o value left r ≡ Some s → IsSane s
+    by_digit None here x = no_reading s x
+    by_digit (Some d) here x = hex_guard value left None (hex_to (greatest_from (value * 16 + d) (left - 1)) (value * 16 + d) (left - 1) r) s (IsSane s) x
+        (λ l is y. let same : left - 1 ≡ l = omega (arith, is) in by_left d l (digit_below c d here) is (greatest_from (value * 16 + d) l) refl
+        (subst (λ (k : ℕ). hex_to (greatest_from (value * 16 + d) k) (value * 16 + d) k r ≡ Some s) same y))
+
+escape_sane : (c : ℕ) (r s : Reading) → with_set (set_of c) c r ≡ Some s → IsSane s
+escape_sane c r s e = by_set (set_of c) e
+  where
+    by_char : (o : Option ℕ) → with_char o r ≡ Some s → IsSane s
+    by_char None x = no_reading s x
+    by_char (Some v) x = sane_at _ s x tt
+
+    by_set : (o : Option (List CharRange)) → with_set o c r ≡ Some s → IsSane s
+    by_set (Some ranges) x = sane_at _ s x tt
+    by_set None x =
+        let P : Type 0 = IsSane s in
+        if_else (c == 98) _ _ s P x (λ y z. sane_at _ s z tt) (λ n x2.
+        if_else (c == 66) _ _ s P x2 (λ y z. sane_at _ s z tt) (λ n x3.
+        if_else (c == 120) _ _ s P x3 (λ y z. sane_at (at (modes.Hex 0 2) r) s z (omega arith, refl, tt)) (λ n x4.
+        if_else (c == 117) _ _ s P x4 (λ y z. sane_at (at (modes.Hex 0 4) r) s z (refl, tt)) (λ n x5.
+        if_else (c == 48) _ _ s P x5 (λ y z. sane_at _ s z tt) (λ n x6. by_char (escaped c) x6)))))
+
+-- classes
+item_sane : (c : ℕ) (r s : Reading) → item c r ≡ Some s → IsSane s
+item_sane c r s e =
+    if_else (c == 93) _ _ s (IsSane s) e (λ y x. sane_at _ s x tt) (λ n e2.
+    if_else (c == 92) _ _ s (IsSane s) e2 (λ y x. sane_at (at (modes.ClassEscape None) r) s x tt) (λ n x. sane_at _ s x tt))
+
+next_item_sane : (c : ℕ) (r s : Reading) → next_item c r ≡ Some s → IsSane s
+next_item_sane c r s e = if_else (c == 45) _ _ s (IsSane s) e (λ y x. sane_at _ s x tt) (λ n x. item_sane c r s x)
+
+after_char_sane : (first c : ℕ) (r s : Reading) → after_char first c r ≡ Some s → IsSane s
+after_char_sane first c r s e = if_else (c == 45) _ _ s (IsSane s) e (λ y x. sane_at _ s x tt) (λ n x. item_sane c (ranged first first r) s x)
+
+class_char_sane : (first : Option ℕ) (c : ℕ) (r s : Reading) → class_char first c r ≡ Some s → IsSane s
+class_char_sane None c r s e = sane_at _ s e tt
+class_char_sane (Some first) c r s e = if_else (nat_le first c) _ _ s (IsSane s) e (λ y x. sane_at _ s x tt) (λ n x. no_reading s x)
+
+after_dash_sane : (first c : ℕ) (r s : Reading) → after_dash first c r ≡ Some s → IsSane s
+after_dash_sane first c r s e =
+    let P : Type 0 = IsSane s in
+    if_else (c == 93) _ _ s P e (λ y x. sane_at _ s x tt) (λ n e2.
+    if_else (c == 92) _ _ s P e2 (λ y x. if_else (nat_le first 0xffff) _ _ s P x (λ z g. sane_at (at (modes.ClassEscape (Some first)) r) s g (can_end_is (Some first) 0xffff z)) (λ z g. no_reading s g)) (λ n e3.
+    if_else (c == 45) _ _ s P e3 (λ y x. if_else (nat_le first 45) _ _ s P x (λ z g. sane_at _ s g tt) (λ z g. no_reading s g)) (λ n x. class_char_sane (Some first) c r s x)))
+
+class_escape_sane : (first : Option ℕ) (c : ℕ) (r s : Reading) → CanEnd first 0xffff → class_set (set_of c) first c r ≡ Some s → IsSane s
+class_escape_sane first c r s can e = by_set (set_of c) first can e
+  where
+    zero_sane : (f : Option ℕ) → class_zero f r ≡ Some s → IsSane s
+    zero_sane None x = sane_at _ s x tt
+    zero_sane (Some k) x = if_else (k == 0) _ _ s (IsSane s) x (λ y g. sane_at _ s g tt) (λ y g. no_reading s g)
+
+    by_char : (f : Option ℕ) (o : Option ℕ) → class_char_if f o r ≡ Some s → IsSane s
+    by_char f None x = no_reading s x
+    by_char f (Some v) x = class_char_sane f v r s x
+
+    rest_sane : (f : Option ℕ) → CanEnd f 0xffff → class_set None f c r ≡ Some s → IsSane s
+    rest_sane f can x =
+        let P : Type 0 = IsSane s in
+        if_else (c == 98) _ _ s P x (λ y g. class_char_sane f 8 r s g) (λ n x2.
+        if_else (c == 120) _ _ s P x2 (λ y g. if_else (can_end f 0xff) _ _ s P g (λ z k. sane_at (at (modes.ClassHex f 0 2) r) s k (omega arith, refl, can_end_is f 0xff z)) (λ z k. no_reading s k)) (λ n x3.
+        if_else (c == 117) _ _ s P x3 (λ y g. if_else (can_end f 0xffff) _ _ s P g (λ z k. sane_at (at (modes.ClassHex f 0 4) r) s k (refl, can_end_is f 0xffff z)) (λ z k. no_reading s k)) (λ n x4.
+        if_else (c == 48) _ _ s P x4 (λ y g. zero_sane f g) (λ n x5. by_char f (escaped c) x5))))
+
+    by_set : (o : Option (List CharRange)) (f : Option ℕ) → CanEnd f 0xffff → class_set o f c r ≡ Some s → IsSane s
+    by_set (Some ranges) None can x = sane_at _ s x tt
+    by_set (Some ranges) (Some k) can x = no_reading s x
+    by_set None f can x = rest_sane f can x
+
+class_hex_sane : (first : Option ℕ) (value left c : ℕ) (r s : Reading) → IsPartial first value left → class_hex_by (hex_value c) first value left r ≡ Some s → IsSane s
+class_hex_sane first value left c r s p e = by_digit (hex_value c) refl e
+  where
+    by_left : (d l : ℕ) → d < 16 → left ≡ suc l → (o : Option ℕ) → greatest_from (value * 16 + d) l ≡ o → class_hex_to o first (value * 16 + d) l r ≡ Some s → IsSane s
+    by_left d l lt is None g x = no_reading s x
+    by_left d l lt is (Some greatest) g x =
+        if_else (can_end first greatest) _ _ s (IsSane s) x (λ ok x2.
+        if_else (l == 0) _ _ s (IsSane s) x2 (λ z y. class_char_sane first greatest r s y)
+        (λ z y. sane_at (at (modes.ClassHex first (value * 16 + d) l) r) s y (next_partial first value l d greatest (subst (λ (k : ℕ). IsPartial first value k) is p) lt z g (can_end_is first greatest ok))))
+        (λ ok x2. no_reading s x2)
+
+    by_digit : (o : Option ℕ) → hex_value c ≡ o → class_hex_by o first value left r ≡ Some s → IsSane s
+    by_digit None here x = no_reading s x
+    by_digit (Some d) here x = hex_guard value left None (class_hex_to (greatest_from (value * 16 + d) (left - 1)) first (value * 16 + d) (left - 1) r) s (IsSane s) x
+        (λ l is y. let same : left - 1 ≡ l = omega (arith, is) in by_left d l (digit_below c d here) is (greatest_from (value * 16 + d) l) refl
+        (subst (λ (k : ℕ). class_hex_to (greatest_from (value * 16 + d) k) first (value * 16 + d) k r ≡ Some s) same y))
+
+-- each character
+step_sane : (m : Mode) (c : ℕ) (r s : Reading) → r.mode ≡ m → IsSaneIn m r → step_in m c r ≡ Some s → IsSane s
+step_sane Term c r s m h e = plain_sane false false c r s e
+step_sane Atom c r s m h e = plain_sane true false c r s e
+step_sane Quantified c r s m h e = plain_sane false true c r s e
+step_sane Zero c r s m h e = if_else (is_digit c) _ _ s (IsSane s) e (λ y x. no_reading s x) (λ n x. plain_sane true false c r s x)
+step_sane (Braces after_atom) c r s m h e = in_braces_sane after_atom c r s m h e
+step_sane Escape c r s m h e = escape_sane c r s e
+step_sane (modes.Hex value left) c r s m h e = hex_sane value left c r s h e
+step_sane Paren c r s m h e = if_else (c == 63) _ _ s (IsSane s) e (λ y x. sane_at _ s x tt) (λ n x. plain_sane false false c (opened Group r) s x)
+step_sane ParenQuestion c r s m h e =
+    if_else (c == 58) _ _ s (IsSane s) e (λ y x. sane_at _ s x tt) (λ n e2.
+    if_else (c == 61) _ _ s (IsSane s) e2 (λ y x. sane_at _ s x tt) (λ n e3.
+    if_else (c == 33) _ _ s (IsSane s) e3 (λ y x. sane_at _ s x tt) (λ n x. no_reading s x)))
+step_sane ClassOpen c r s m h e = if_else (c == 94) _ _ s (IsSane s) e (λ y x. sane_at _ s x tt) (λ n x. item_sane c r s x)
+step_sane ClassFirst c r s m h e = item_sane c r s e
+step_sane ClassNext c r s m h e = next_item_sane c r s e
+step_sane ClassLast c r s m h e = if_else (c == 93) _ _ s (IsSane s) e (λ y x. sane_at _ s x tt) (λ n x. no_reading s x)
+step_sane (modes.ClassChar first) c r s m h e = after_char_sane first c r s e
+step_sane (modes.ClassDash first) c r s m h e = after_dash_sane first c r s e
+step_sane (modes.ClassZero true) c r s m h e = if_else (is_digit c) _ _ s (IsSane s) e (λ y x. no_reading s x) (λ n x. next_item_sane c r s x)
+step_sane (modes.ClassZero false) c r s m h e = if_else (is_digit c) _ _ s (IsSane s) e (λ y x. no_reading s x) (λ n x. after_char_sane 0 c r s x)
+step_sane (modes.ClassEscape first) c r s m h e = class_escape_sane first c r s h e
+step_sane (modes.ClassHex first value left) c r s m h e = class_hex_sane first value left c r s h e
+
+pub sane_next : (c : ℕ) (r s : Reading) → IsSane r → step c r ≡ Some s → IsSane s
+sane_next c r s h e = step_sane r.mode c r s refl h e
+
+-- all that a text leads to
+sane_from : (text : List ℕ) (x r : Reading) → IsSane x → reads text x ≡ Some r → IsSane r
+sane_from [] x r h e = sane_at x r e h
+sane_from (c ∷ text) x r h e = by_step (step c x) refl (λ (y : Reading). sane_from text y r) e
+  where
+    by_step : (o : Option Reading) → step c x ≡ o → ((y : Reading) → IsSane y → reads text y ≡ Some r → IsSane r) → option_and_then (reads text) o ≡ Some r → IsSane r
+    by_step None is again g = no_reading r g
+    by_step (Some y) is again g = again y (sane_next c x y h is) g
+
+pub sane_reads : (text : List ℕ) (r : Reading) → reads text start ≡ Some r → IsSane r
+sane_reads text r e = sane_from text start r tt e
+
+-- products
+pub product_positive : (t : Tree) → 1 ≤ product_of t
+product_positive nothing = omega arith
+product_positive (one_of negated ranges) = omega arith
+product_positive text_start = omega arith
+product_positive text_end = omega arith
+product_positive (word_boundary negated) = omega arith
+product_positive (sequence a b) = let p = product_positive a in omega (arith, p)
+product_positive (choice a b) = let p = product_positive a in omega (arith, p)
+product_positive (repetition least most a) = times (product_of a) (count_of least most) (product_positive a) (omega arith)
+  where
+    times : (a b : ℕ) → 1 ≤ a → 1 ≤ b → 1 ≤ a * b
+    times a b p q = ?
+product_positive (lookahead negated a) = product_positive a
+
+-- what holds of the state that is made
+measured_at : (x s : Reading) → Some x ≡ Some s → IsMeasured x → IsMeasured s
+measured_at x s e h = subst (λ (y : Reading). IsMeasured y) (same_Some x s e) h
+
+-- a term after an atom
+with_term_measured : (r : Reading) → MeasuredBase true r → MeasuredBase false (with_term r)
+with_term_measured r h = ?
+
+settled_measured : (after_atom : Bool) (r : Reading) → MeasuredBase after_atom r → MeasuredBase false (settled after_atom r)
+settled_measured true r h = with_term_measured r h
+settled_measured false r h = h
+
+-- an atom of one character
+with_atom_measured : (t : Tree) (r : Reading) → product_of t ≡ 1 → MeasuredBase false r → MeasuredBase true (with_atom t r)
+with_atom_measured t r one h = ?
+
+-- what stands at a place
+asserted_measured : (t : Tree) (r : Reading) → product_of t ≡ 1 → MeasuredBase false r → MeasuredBase false (asserted t r)
+asserted_measured t r one h = ?
+
+-- another alternative
+bar_measured : (r : Reading) → MeasuredBase false r → MeasuredBase false (leaf nothing (chosen r))
+bar_measured r h = ?
+
+opened_measured : (g : Open) (r : Reading) → MeasuredBase false r → MeasuredBase false (opened g r)
+opened_measured g r h = ?
+
+quantified_measured : (least : ℕ) (most : Option ℕ) (product : ℕ) (r : Reading) → product ≡ r.atom_product * count_of least most → product ≤ 100000 → MeasuredBase true r → MeasuredBase false (quantified least most (charged product r))
+quantified_measured least most product r is le h = ?
+
+closed_measured : (gs : List Open) (r s : Reading) → r.groups ≡ gs → MeasuredBase false r → closed_by gs r ≡ Some s → IsMeasured s
+closed_measured [] r s g h e = no_reading s e
+closed_measured (Group ∷ gs) r s g h e = ?
+closed_measured (Ahead negated ∷ gs) r s g h e = ?
+
+flushed_chars_measured : (cs : List ℕ) (r : Reading) → MeasuredBase true r → MeasuredBase true (flushed_chars cs r)
+flushed_chars_measured [] r h = h
+flushed_chars_measured (c ∷ cs) r h = flushed_chars_measured cs (with_atom (char c) (with_term r)) (with_atom_measured (char c) (with_term r) refl (with_term_measured r h))
+
+flushed_measured : (after_atom : Bool) (r : Reading) → MeasuredBase after_atom r → MeasuredBase true (flushed after_atom r)
+flushed_measured after_atom r h =
+    flushed_chars_measured r.braces (record (with_atom (char 123) (settled after_atom r)) { braces = [] }) (with_atom_measured (char 123) (settled after_atom r) refl (settled_measured after_atom r h))
