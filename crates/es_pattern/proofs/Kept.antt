@@ -1,22 +1,26 @@
 -- What holds of every state is kept by each character.
-use Rattle.std.proofs.Common.{◌≡◌, ℕ, zero, suc, ◌+◌, ◌-◌, ◌*◌, ◌<◌, ◌≤◌, Bool, true, false, cond, List, [], ◌∷◌, ◌++◌, length, take, Option, Some, None, refl, sym, ap, subst, ◌∙◌, arith}
+use Rattle.std.proofs.Common.{◌≡◌, ℕ, zero, suc, ◌+◌, ◌-◌, ◌*◌, ◌<◌, ◌≤◌, Bool, true, false, cond, List, [], ◌∷◌, ◌++◌, length, get_or, take, Option, Some, None, refl, sym, ap, subst, ◌∙◌, arith}
 use Rattle.std.specs.Prelude.{◌==◌, ◌&&◌, ◌||◌, max, nat_le, nat_lt, option_and_then}
+use Rattle.std.proofs.lemmas.List.{take_more}
 use Rattle.std.proofs.lemmas.Option.{same_Some}
 use Rattle.std.proofs.lemmas.Bool.{false≢true}
 use Rattle.std.proofs.lemmas.Bool.Decides.{nat_tests}
 use Rattle.es_pattern.specs.Tree.{Tree, CharRange, nothing, one_of, text_start, text_end, word_boundary, sequence, choice, repetition, lookahead}
+use Rattle.es_pattern.specs.Pieces.{top, below}
 use Rattle.es_pattern.specs.Escapes.{is_digit, set_of, escaped, hex_value, is_surrogate}
 use Rattle.es_pattern.specs.Grammar.{char, any}
-use Rattle.es_pattern.specs.Limits.{product_of, count_of}
+use Rattle.es_pattern.specs.Limits.{product_of, count_of, is_above_limit}
 use Rattle.es_pattern.specs.declared.mode.Open.{Open}
 use Rattle.es_pattern.specs.declared.mode.Open.TheVariants.{Group, Ahead}
 use Rattle.es_pattern.specs.declared.mode.Mode.{Mode}
 use Rattle.es_pattern.specs.declared.mode.Mode.TheVariants.{Term, Atom, Quantified, Zero, Braces, Escape, Paren, ParenQuestion, ClassOpen, ClassFirst, ClassNext, ClassLast}
 use Rattle.es_pattern.specs.declared.mode.Mode.TheVariants as modes
-use Rattle.es_pattern.specs.Reading.{Reading, asserted, joined, leaf, chosen, with_atom, flushed_chars, charged, with_term, top_product, products_below, closed_by, quantified, marked, term_begun, plain, with_set, with_char, settled, opened, at, greatest_from, scalar, hex_to, hex_by, flushed, bounds_of, in_braces_end, is_inner, in_braces, ranged, class_end, item, next_item, after_char, class_char, after_dash, class_char_if, can_end, class_zero, class_set, class_hex_to, class_hex_by, step_in, step, start, reads}
+use Rattle.es_pattern.specs.Reading.{Reading, asserted, joined, leaf, chosen, with_atom, flushed_chars, charged, with_term, top_product, products_below, closed_by, quantified, marked, term_begun, plain, with_set, with_char, settled, opened, at, greatest_from, scalar, hex_to, hex_by, flushed, bounds_of, overcounts, overcounts_in, overcounts_at, in_braces_end, is_inner, in_braces, ranged, class_end, item, next_item, after_char, class_char, after_dash, class_char_if, can_end, class_zero, class_set, class_hex_to, class_hex_by, step_in, step, start, reads}
+use Rattle.es_pattern.specs.Parsing.{PassesBefore}
 use Rattle.es_pattern.proofs.BracesRead.{inner-append}
 use Rattle.es_pattern.proofs.Sound.{if_else, is_char, no_reading, inner_is, scalar_is, hex_guard}
-use Rattle.es_pattern.proofs.Sane.{CanEnd, greatest_of_three, IsPartial, IsSane, IsSaneIn, Outer, MeasuredOpen, MeasuredBase, IsMeasured}
+use Rattle.es_pattern.proofs.Parsings.{reads-append}
+use Rattle.es_pattern.proofs.Sane.{CanEnd, greatest_of_three, IsPartial, IsSane, IsSaneIn, Outer, MeasuredOpen, MeasuredBase, after_atom_in, IsMeasured}
 
 -- what holds of the state that is made
 sane_at : (x s : Reading) → Some x ≡ Some s → IsSane x → IsSane s
@@ -284,16 +288,38 @@ product_positive (choice a b) = let p = product_positive a in omega (arith, p)
 product_positive (repetition least most a) = times (product_of a) (count_of least most) (product_positive a) (omega arith)
   where
     times : (a b : ℕ) → 1 ≤ a → 1 ≤ b → 1 ≤ a * b
-    times a b p q = ?
+    times zero b p q = absurd (omega (arith, p))
+    times (suc a) zero p q = absurd (omega (arith, q))
+    times (suc a) (suc b) p q = omega arith
 product_positive (lookahead negated a) = product_positive a
 
 -- what holds of the state that is made
 measured_at : (x s : Reading) → Some x ≡ Some s → IsMeasured x → IsMeasured s
 measured_at x s e h = subst (λ (y : Reading). IsMeasured y) (same_Some x s e) h
 
+-- products of a sequence, of one more alternative, and of a lookahead
+joined_product : (p a x y z : ℕ) → a ≡ x → p ≡ max y z → max p a ≡ max (max y x) z
+joined_product p a x y z e f = omega (arith, e, f)
+
+one_product : (p x y z : ℕ) → z ≡ 1 → 1 ≤ x → p ≡ max x y → p ≡ max (max x z) y
+one_product p x y z e le f = omega (arith, e, le, f)
+
+bar_product : (p x y : ℕ) → 1 ≤ x → p ≡ max x y → p ≡ max 1 (max y x)
+bar_product p x y le f = omega (arith, le, f)
+
+ahead_product : (p q x y z v : ℕ) → p ≡ max x y → q ≡ max z v → max p q ≡ max (max z (max y x)) v
+ahead_product p q x y z v e f = omega (arith, e, f)
+
+turned : (p x y : ℕ) → p ≡ max x y → p ≡ max y x
+turned p x y e = omega (arith, e)
+
+max_within : (p q k : ℕ) → p ≤ k → q ≤ k → max p q ≤ k
+max_within p q k e f = omega (arith, e, f)
+
 -- a term after an atom
 with_term_measured : (r : Reading) → MeasuredBase true r → MeasuredBase false (with_term r)
-with_term_measured r h = ?
+with_term_measured r h =
+    (joined_product r.product r.atom_product (product_of (top r.trees)) (product_of (top (below r.trees))) (product_of (top (below (below r.trees)))) h.0 h.2.0, max_within r.product r.atom_product 100000 h.2.1 h.1, h.2.2)
 
 settled_measured : (after_atom : Bool) (r : Reading) → MeasuredBase after_atom r → MeasuredBase false (settled after_atom r)
 settled_measured true r h = with_term_measured r h
@@ -301,26 +327,39 @@ settled_measured false r h = h
 
 -- an atom of one character
 with_atom_measured : (t : Tree) (r : Reading) → product_of t ≡ 1 → MeasuredBase false r → MeasuredBase true (with_atom t r)
-with_atom_measured t r one h = ?
+with_atom_measured t r one h = (sym one, omega arith, (h.0, h.1, h.2))
 
 -- what stands at a place
 asserted_measured : (t : Tree) (r : Reading) → product_of t ≡ 1 → MeasuredBase false r → MeasuredBase false (asserted t r)
-asserted_measured t r one h = ?
+asserted_measured t r one h =
+    (one_product r.product (product_of (top r.trees)) (product_of (top (below r.trees))) (product_of t) one (product_positive (top r.trees)) h.0, h.1, h.2)
 
 -- another alternative
 bar_measured : (r : Reading) → MeasuredBase false r → MeasuredBase false (leaf nothing (chosen r))
-bar_measured r h = ?
+bar_measured r h = (bar_product r.product (product_of (top r.trees)) (product_of (top (below r.trees))) (product_positive (top r.trees)) h.0, h.1, h.2)
 
 opened_measured : (g : Open) (r : Reading) → MeasuredBase false r → MeasuredBase false (opened g r)
-opened_measured g r h = ?
+opened_measured g r h = (refl, omega arith, (h.0, h.1, h.2))
 
 quantified_measured : (least : ℕ) (most : Option ℕ) (product : ℕ) (r : Reading) → product ≡ r.atom_product * count_of least most → product ≤ 100000 → MeasuredBase true r → MeasuredBase false (quantified least most (charged product r))
-quantified_measured least most product r is le h = ?
+quantified_measured least most product r is le h =
+    let count = count_of least most in
+    let same : product ≡ product_of (top r.trees) * count = is ∙ ap (λ (k : ℕ). k * count) h.0 in
+    (joined_product r.product product (product_of (top r.trees) * count) (product_of (top (below r.trees))) (product_of (top (below (below r.trees)))) same h.2.0, max_within r.product product 100000 h.2.1 le, h.2.2)
 
 closed_measured : (gs : List Open) (r s : Reading) → r.groups ≡ gs → MeasuredBase false r → closed_by gs r ≡ Some s → IsMeasured s
 closed_measured [] r s g h e = no_reading s e
-closed_measured (Group ∷ gs) r s g h e = ?
-closed_measured (Ahead negated ∷ gs) r s g h e = ?
+closed_measured (Group ∷ gs) r s g h e =
+    let lower = below (below r.trees) in
+    let out : Outer (Group ∷ gs) r.products lower = subst (λ (k : List Open). Outer k r.products lower) g h.2 in
+    measured_at (at Atom (chosen (record r { groups = gs; products = products_below r.products; product = top_product r.products; atom_product = r.product }))) s e
+    (turned r.product (product_of (top r.trees)) (product_of (top (below r.trees))) h.0, h.1, (out.0, out.1, out.2))
+closed_measured (Ahead negated ∷ gs) r s g h e =
+    let lower = below (below r.trees) in
+    let out : Outer (Ahead negated ∷ gs) r.products lower = subst (λ (k : List Open). Outer k r.products lower) g h.2 in
+    let x : Reading = at Term (joined (record r { groups = gs; products = products_below r.products; product = max r.product (top_product r.products); trees = lookahead negated (choice (top (below r.trees)) (top r.trees)) ∷ lower })) in
+    measured_at x s e
+    (ahead_product r.product (top_product r.products) (product_of (top r.trees)) (product_of (top (below r.trees))) (product_of (top lower)) (product_of (top (below lower))) h.0 out.0, max_within r.product (top_product r.products) 100000 h.1 out.1, out.2)
 
 flushed_chars_measured : (cs : List ℕ) (r : Reading) → MeasuredBase true r → MeasuredBase true (flushed_chars cs r)
 flushed_chars_measured [] r h = h
@@ -329,3 +368,96 @@ flushed_chars_measured (c ∷ cs) r h = flushed_chars_measured cs (with_atom (ch
 flushed_measured : (after_atom : Bool) (r : Reading) → MeasuredBase after_atom r → MeasuredBase true (flushed after_atom r)
 flushed_measured after_atom r h =
     flushed_chars_measured r.braces (record (with_atom (char 123) (settled after_atom r)) { braces = [] }) (with_atom_measured (char 123) (settled after_atom r) refl (settled_measured after_atom r h))
+
+-- where a term may begin
+term_measured : (c : ℕ) (r s : Reading) → MeasuredBase false r → term_begun c r ≡ Some s → IsMeasured s
+term_measured c r s h e =
+    let P : Type 0 = IsMeasured s in
+    if_else (c == 94) _ _ s P e (λ y x. measured_at (asserted text_start r) s x (asserted_measured text_start r refl h)) (λ n e2.
+    if_else (c == 36) _ _ s P e2 (λ y x. measured_at (asserted text_end r) s x (asserted_measured text_end r refl h)) (λ n e3.
+    if_else (c == 124) _ _ s P e3 (λ y x. measured_at (at Term (leaf nothing (chosen r))) s x (bar_measured r h)) (λ n e4.
+    if_else (c == 41) _ _ s P e4 (λ y x. closed_measured r.groups r s refl h x) (λ n e5.
+    if_else (c == 40) _ _ s P e5 (λ y x. measured_at (at Paren r) s x h) (λ n e6.
+    if_else (c == 91) _ _ s P e6 (λ y x. measured_at (at ClassOpen (record r { negated = false; ranges = [] })) s x h) (λ n e7.
+    if_else (c == 92) _ _ s P e7 (λ y x. measured_at (at Escape r) s x h) (λ n e8.
+    if_else (c == 46) _ _ s P e8 (λ y x. measured_at (with_atom any r) s x (with_atom_measured any r refl h)) (λ n x.
+    measured_at (with_atom (char c) r) s x (with_atom_measured (char c) r refl h)))))))))
+
+marked_measured : (after_atom : Bool) (product least : ℕ) (most : Option ℕ) (r s : Reading) → product ≡ r.atom_product * count_of least most → (after_atom ≡ true → product ≤ 100000) → MeasuredBase after_atom r → marked after_atom product least most r ≡ Some s → IsMeasured s
+marked_measured true product least most r s is le h e = measured_at (quantified least most (charged product r)) s e (quantified_measured least most product r is (le refl) h)
+marked_measured false product least most r s is le h e = no_reading s e
+
+-- a quantifier that counts one
+one_measured : (after_atom : Bool) (least : ℕ) (most : Option ℕ) (r s : Reading) → count_of least most ≡ 1 → MeasuredBase after_atom r → marked after_atom r.atom_product least most r ≡ Some s → IsMeasured s
+one_measured true least most r s one h e = marked_measured true r.atom_product least most r s (subst (λ (k : ℕ). r.atom_product ≡ r.atom_product * k) (sym one) (omega arith)) (λ t. h.1) h e
+one_measured false least most r s one h e = no_reading s e
+
+lazy_measured : (after_atom may_be_lazy : Bool) (r s : Reading) → (may_be_lazy ≡ true → after_atom ≡ false) → MeasuredBase after_atom r → cond may_be_lazy (Some (at Term r)) (marked after_atom r.atom_product 0 (Some 1) r) ≡ Some s → IsMeasured s
+lazy_measured true true r s apart h e = absurd (false≢true (sym (apart refl)))
+lazy_measured false true r s apart h e = measured_at (at Term r) s e h
+lazy_measured after_atom false r s apart h e = one_measured after_atom 0 (Some 1) r s refl h e
+
+braces_measured : (after_atom : Bool) (braces : List ℕ) (r : Reading) → MeasuredBase after_atom r → IsMeasured (at (Braces after_atom) (record r { braces = braces }))
+braces_measured true braces r h = h
+braces_measured false braces r h = h
+
+plain_measured : (after_atom may_be_lazy : Bool) (c : ℕ) (r s : Reading) → (may_be_lazy ≡ true → after_atom ≡ false) → MeasuredBase after_atom r → plain after_atom may_be_lazy c r ≡ Some s → IsMeasured s
+plain_measured after_atom may_be_lazy c r s apart h e =
+    let P : Type 0 = IsMeasured s in
+    if_else (c == 42) _ _ s P e (λ y x. one_measured after_atom 0 None r s refl h x) (λ n e2.
+    if_else (c == 43) _ _ s P e2 (λ y x. one_measured after_atom 1 None r s refl h x) (λ n e3.
+    if_else (c == 63) _ _ s P e3 (λ y x. lazy_measured after_atom may_be_lazy r s apart h x) (λ n e4.
+    if_else (c == 123) _ _ s P e4 (λ y x. measured_at (at (Braces after_atom) (record r { braces = [] })) s x (braces_measured after_atom [] r h)) (λ n x.
+    term_measured c (settled after_atom r) s (settled_measured after_atom r h) x))))
+
+-- where no quantifier is made lazy
+base_measured : (after_atom : Bool) (c : ℕ) (r s : Reading) → MeasuredBase after_atom r → plain after_atom false c r ≡ Some s → IsMeasured s
+base_measured after_atom c r s h e = plain_measured after_atom false c r s (λ y. absurd (false≢true y)) h e
+
+in_braces_measured : (after_atom : Bool) (c : ℕ) (r s : Reading) → r.mode ≡ Braces after_atom → MeasuredBase after_atom r → (c == 125) && overcounts (bounds_of r.braces) after_atom r ≡ false → in_braces after_atom c r ≡ Some s → IsMeasured s
+in_braces_measured after_atom c r s m h within e =
+    let P : Type 0 = IsMeasured s in
+    if_else (is_inner r.braces c) _ _ s P e (λ y x. measured_at (record r { braces = r.braces ++ c ∷ [] }) s x (goes_on m)) (λ out e2.
+    if_else (c == 125) _ _ s P e2 (λ y x. at_end (bounds_of r.braces) (subst (λ (b : Bool). b && overcounts (bounds_of r.braces) after_atom r ≡ false) y within) x) (λ n x. broken x))
+  where
+    goes_on : r.mode ≡ Braces after_atom → MeasuredBase (after_atom_in r.mode) (record r { braces = r.braces ++ c ∷ [] })
+    goes_on m = ?
+
+    broken : plain true false c (flushed after_atom r) ≡ Some s → IsMeasured s
+    broken x = base_measured true c (flushed after_atom r) s (flushed_measured after_atom r h) x
+
+    counted : (above after over : Bool) → above || after && over ≡ false → after ≡ true → over ≡ false
+    counted true after over w y = absurd (false≢true (sym w))
+    counted false true over w y = w
+    counted false false over w y = absurd (false≢true y)
+
+    at_end : (o : Option (ℕ × Option ℕ)) → overcounts o after_atom r ≡ false → in_braces_end o after_atom c r ≡ Some s → IsMeasured s
+    at_end None w x = broken x
+    at_end (Some bounds) w x =
+        let product = r.atom_product * count_of bounds.0 bounds.1 in
+        marked_measured after_atom product bounds.0 bounds.1 r s refl (λ y. at_most product 100000 (counted (is_above_limit bounds.0 bounds.1) after_atom (nat_lt 100000 product) w y)) h x
+      where
+        at_most : (p k : ℕ) → nat_lt k p ≡ false → p ≤ k
+        at_most p k w = grind (arith, nat_tests)
+
+-- each character
+step_measured : (m : Mode) (c : ℕ) (r s : Reading) → r.mode ≡ m → MeasuredBase (after_atom_in m) r → overcounts_in m c r ≡ false → step_in m c r ≡ Some s → IsMeasured s
+step_measured m c r s is h within e = ?
+
+pub measured_next : (c : ℕ) (r s : Reading) → IsMeasured r → overcounts_at c r ≡ false → step c r ≡ Some s → IsMeasured s
+measured_next c r s h within e = step_measured r.mode c r s refl h within e
+
+-- all that a text leads to, where no quantifier counts too much
+pub measured_reads : (text : List ℕ) (n : ℕ) (r : Reading) → n ≤ length text → PassesBefore text n → reads (take n text) start ≡ Some r → IsMeasured r
+measured_reads text zero r le passes e = measured_at start r e (refl, omega arith, tt)
+measured_reads text (suc n) r le passes e = by_last (reads (take n text) start) refl next
+  where
+    next : option_and_then (reads (get_or text n 0 ∷ [])) (reads (take n text) start) ≡ Some r
+    next = ?
+
+    earlier : PassesBefore text n
+    earlier = record { each = λ q lt. passes.each q (omega (arith, lt)) }
+
+    by_last : (o : Option Reading) → reads (take n text) start ≡ o → option_and_then (reads (get_or text n 0 ∷ [])) o ≡ Some r → IsMeasured r
+    by_last None is g = no_reading r g
+    by_last (Some q) is g = ?
