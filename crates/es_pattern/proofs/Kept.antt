@@ -15,12 +15,12 @@ use Rattle.es_pattern.specs.declared.mode.Open.TheVariants.{Group, Ahead}
 use Rattle.es_pattern.specs.declared.mode.Mode.{Mode}
 use Rattle.es_pattern.specs.declared.mode.Mode.TheVariants.{Term, Atom, Quantified, Zero, Braces, Escape, Paren, ParenQuestion, ClassOpen, ClassFirst, ClassNext, ClassLast}
 use Rattle.es_pattern.specs.declared.mode.Mode.TheVariants as modes
-use Rattle.es_pattern.specs.Reading.{Reading, asserted, joined, leaf, chosen, with_atom, flushed_chars, charged, with_term, top_product, products_below, closed_by, quantified, marked, term_begun, plain, with_set, with_char, settled, opened, at, greatest_from, scalar, hex_to, hex_by, flushed, bounds_of, overcounts, overcounts_in, overcounts_at, in_braces_end, is_inner, in_braces, ranged, class_end, item, next_item, after_char, class_char, after_dash, class_char_if, can_end, class_zero, class_set, class_hex_to, class_hex_by, step_in, step, start, reads}
+use Rattle.es_pattern.specs.Reading.{Reading, asserted, joined, leaf, chosen, with_atom, flushed_chars, charged, with_term, top_product, products_below, closed_by, quantified, marked, term_begun, plain, with_set, with_char, settled, opened, at, greatest_from, scalar, hex_to, hex_by, flushed, bounds_of, overcounts, overcounts_in, overcounts_at, in_braces_end, is_inner, in_braces, ranged, class_end, item, next_item, after_char, class_char, after_dash, class_char_if, can_end, class_zero, with_ranges, class_set, class_hex_to, class_hex_by, step_in, step, start, reads}
 use Rattle.es_pattern.specs.Parsing.{PassesBefore}
 use Rattle.es_pattern.proofs.BracesRead.{inner-append}
 use Rattle.es_pattern.proofs.Sound.{if_else, is_char, no_reading, inner_is, scalar_is, hex_guard}
 use Rattle.es_pattern.proofs.Parsings.{reads-append}
-use Rattle.es_pattern.proofs.Sane.{CanEnd, greatest_of_three, IsPartial, IsSane, IsSaneIn, Outer, MeasuredOpen, MeasuredBase, after_atom_in, IsMeasured}
+use Rattle.es_pattern.proofs.Sane.{CanEnd, greatest_of_three, IsPartial, IsSane, IsSaneIn, Outer, MeasuredBase, after_atom_in, IsMeasured}
 
 -- what holds of the state that is made
 sane_at : (x s : Reading) → Some x ≡ Some s → IsSane x → IsSane s
@@ -417,11 +417,15 @@ base_measured after_atom c r s h e = plain_measured after_atom false c r s (λ y
 in_braces_measured : (after_atom : Bool) (c : ℕ) (r s : Reading) → r.mode ≡ Braces after_atom → MeasuredBase after_atom r → (c == 125) && overcounts (bounds_of r.braces) after_atom r ≡ false → in_braces after_atom c r ≡ Some s → IsMeasured s
 in_braces_measured after_atom c r s m h within e =
     let P : Type 0 = IsMeasured s in
-    if_else (is_inner r.braces c) _ _ s P e (λ y x. measured_at (record r { braces = r.braces ++ c ∷ [] }) s x (goes_on m)) (λ out e2.
+    if_else (is_inner r.braces c) _ _ s P e (λ y x. measured_at (record r { braces = r.braces ++ c ∷ [] }) s x goes_on) (λ out e2.
     if_else (c == 125) _ _ s P e2 (λ y x. at_end (bounds_of r.braces) (subst (λ (b : Bool). b && overcounts (bounds_of r.braces) after_atom r ≡ false) y within) x) (λ n x. broken x))
   where
-    goes_on : r.mode ≡ Braces after_atom → MeasuredBase (after_atom_in r.mode) (record r { braces = r.braces ++ c ∷ [] })
-    goes_on m = ?
+    same_base : (after : Bool) → MeasuredBase after r → MeasuredBase after (record r { braces = r.braces ++ c ∷ [] })
+    same_base true b = b
+    same_base false b = b
+
+    goes_on : MeasuredBase (after_atom_in r.mode) (record r { braces = r.braces ++ c ∷ [] })
+    goes_on = subst (λ (k : Mode). MeasuredBase (after_atom_in k) (record r { braces = r.braces ++ c ∷ [] })) (sym m) (same_base after_atom h)
 
     broken : plain true false c (flushed after_atom r) ≡ Some s → IsMeasured s
     broken x = base_measured true c (flushed after_atom r) s (flushed_measured after_atom r h) x
@@ -440,9 +444,114 @@ in_braces_measured after_atom c r s m h within e =
         at_most : (p k : ℕ) → nat_lt k p ≡ false → p ≤ k
         at_most p k w = grind (arith, nat_tests)
 
+-- hexadecimal digits
+hex_to_measured : (o : Option ℕ) (value left : ℕ) (r s : Reading) → MeasuredBase false r → hex_to o value left r ≡ Some s → IsMeasured s
+hex_to_measured None value left r s h e = no_reading s e
+hex_to_measured (Some greatest) value left r s h e =
+    if_else (left == 0) _ _ s (IsMeasured s) e (λ y x. measured_at (with_atom (char greatest) r) s x (with_atom_measured (char greatest) r refl h)) (λ n x. measured_at (at (modes.Hex value left) r) s x h)
+
+hex_measured : (o : Option ℕ) (value left : ℕ) (r s : Reading) → MeasuredBase false r → hex_by o value left r ≡ Some s → IsMeasured s
+hex_measured None value left r s h e = no_reading s e
+hex_measured (Some d) value left r s h e =
+    if_else (nat_lt 0xfff value || (left == 0)) _ _ s (IsMeasured s) e (λ y x. no_reading s x) (λ n x. hex_to_measured (greatest_from (value * 16 + d) (left - 1)) (value * 16 + d) (left - 1) r s h x)
+
+-- an escape
+char_measured : (o : Option ℕ) (r s : Reading) → MeasuredBase false r → with_char o r ≡ Some s → IsMeasured s
+char_measured None r s h e = no_reading s e
+char_measured (Some v) r s h e = measured_at (with_atom (char v) r) s e (with_atom_measured (char v) r refl h)
+
+escape_measured : (o : Option (List CharRange)) (c : ℕ) (r s : Reading) → MeasuredBase false r → with_set o c r ≡ Some s → IsMeasured s
+escape_measured (Some ranges) c r s h e = measured_at (with_atom (one_of false ranges) r) s e (with_atom_measured (one_of false ranges) r refl h)
+escape_measured None c r s h e =
+    let P : Type 0 = IsMeasured s in
+    if_else (c == 98) _ _ s P e (λ y x. measured_at (asserted (word_boundary false) r) s x (asserted_measured (word_boundary false) r refl h)) (λ n e2.
+    if_else (c == 66) _ _ s P e2 (λ y x. measured_at (asserted (word_boundary true) r) s x (asserted_measured (word_boundary true) r refl h)) (λ n e3.
+    if_else (c == 120) _ _ s P e3 (λ y x. measured_at (at (modes.Hex 0 2) r) s x h) (λ n e4.
+    if_else (c == 117) _ _ s P e4 (λ y x. measured_at (at (modes.Hex 0 4) r) s x h) (λ n e5.
+    if_else (c == 48) _ _ s P e5 (λ y x. measured_at (at Zero (with_atom (char 0) r)) s x (with_atom_measured (char 0) r refl h)) (λ n x. char_measured (escaped c) r s h x)))))
+
+-- classes
+class_end_measured : (r s : Reading) → MeasuredBase false r → Some (class_end r) ≡ Some s → IsMeasured s
+class_end_measured r s h e = measured_at (class_end r) s e (with_atom_measured (one_of r.negated r.ranges) r refl h)
+
+item_measured : (c : ℕ) (r s : Reading) → MeasuredBase false r → item c r ≡ Some s → IsMeasured s
+item_measured c r s h e =
+    if_else (c == 93) _ _ s (IsMeasured s) e (λ y x. class_end_measured r s h x) (λ n e2.
+    if_else (c == 92) _ _ s (IsMeasured s) e2 (λ y x. measured_at (at (modes.ClassEscape None) r) s x h) (λ n x. measured_at (at (modes.ClassChar c) r) s x h))
+
+next_item_measured : (c : ℕ) (r s : Reading) → MeasuredBase false r → next_item c r ≡ Some s → IsMeasured s
+next_item_measured c r s h e = if_else (c == 45) _ _ s (IsMeasured s) e (λ y x. measured_at (at ClassLast (ranged 45 45 r)) s x h) (λ n x. item_measured c r s h x)
+
+after_char_measured : (first c : ℕ) (r s : Reading) → MeasuredBase false r → after_char first c r ≡ Some s → IsMeasured s
+after_char_measured first c r s h e = if_else (c == 45) _ _ s (IsMeasured s) e (λ y x. measured_at (at (modes.ClassDash first) r) s x h) (λ n x. item_measured c (ranged first first r) s h x)
+
+class_char_measured : (first : Option ℕ) (c : ℕ) (r s : Reading) → MeasuredBase false r → class_char first c r ≡ Some s → IsMeasured s
+class_char_measured None c r s h e = measured_at (at (modes.ClassChar c) r) s e h
+class_char_measured (Some first) c r s h e = if_else (nat_le first c) _ _ s (IsMeasured s) e (λ y x. measured_at (at ClassNext (ranged first c r)) s x h) (λ n x. no_reading s x)
+
+after_dash_measured : (first c : ℕ) (r s : Reading) → MeasuredBase false r → after_dash first c r ≡ Some s → IsMeasured s
+after_dash_measured first c r s h e =
+    let P : Type 0 = IsMeasured s in
+    if_else (c == 93) _ _ s P e (λ y x. class_end_measured (ranged 45 45 (ranged first first r)) s h x) (λ n e2.
+    if_else (c == 92) _ _ s P e2 (λ y x. if_else (nat_le first 0xffff) _ _ s P x (λ z g. measured_at (at (modes.ClassEscape (Some first)) r) s g h) (λ z g. no_reading s g)) (λ n e3.
+    if_else (c == 45) _ _ s P e3 (λ y x. if_else (nat_le first 45) _ _ s P x (λ z g. measured_at (at ClassLast (ranged first 45 r)) s g h) (λ z g. no_reading s g)) (λ n x. class_char_measured (Some first) c r s h x)))
+
+class_zero_measured : (first : Option ℕ) (r s : Reading) → MeasuredBase false r → class_zero first r ≡ Some s → IsMeasured s
+class_zero_measured None r s h e = measured_at (at (modes.ClassZero false) r) s e h
+class_zero_measured (Some first) r s h e = if_else (first == 0) _ _ s (IsMeasured s) e (λ y x. measured_at (at (modes.ClassZero true) (ranged 0 0 r)) s x h) (λ n x. no_reading s x)
+
+class_char_if_measured : (first o : Option ℕ) (r s : Reading) → MeasuredBase false r → class_char_if first o r ≡ Some s → IsMeasured s
+class_char_if_measured first None r s h e = no_reading s e
+class_char_if_measured first (Some v) r s h e = class_char_measured first v r s h e
+
+class_escape_measured : (o : Option (List CharRange)) (first : Option ℕ) (c : ℕ) (r s : Reading) → MeasuredBase false r → class_set o first c r ≡ Some s → IsMeasured s
+class_escape_measured (Some ranges) None c r s h e = measured_at (with_ranges ranges r) s e h
+class_escape_measured (Some ranges) (Some first) c r s h e = no_reading s e
+class_escape_measured None first c r s h e =
+    let P : Type 0 = IsMeasured s in
+    if_else (c == 98) _ _ s P e (λ y x. class_char_measured first 8 r s h x) (λ n e2.
+    if_else (c == 120) _ _ s P e2 (λ y x. if_else (can_end first 0xff) _ _ s P x (λ z g. measured_at (at (modes.ClassHex first 0 2) r) s g h) (λ z g. no_reading s g)) (λ n e3.
+    if_else (c == 117) _ _ s P e3 (λ y x. if_else (can_end first 0xffff) _ _ s P x (λ z g. measured_at (at (modes.ClassHex first 0 4) r) s g h) (λ z g. no_reading s g)) (λ n e4.
+    if_else (c == 48) _ _ s P e4 (λ y x. class_zero_measured first r s h x) (λ n x. class_char_if_measured first (escaped c) r s h x))))
+
+class_hex_to_measured : (o first : Option ℕ) (value left : ℕ) (r s : Reading) → MeasuredBase false r → class_hex_to o first value left r ≡ Some s → IsMeasured s
+class_hex_to_measured None first value left r s h e = no_reading s e
+class_hex_to_measured (Some greatest) first value left r s h e =
+    if_else (can_end first greatest) _ _ s (IsMeasured s) e
+    (λ ok x. if_else (left == 0) _ _ s (IsMeasured s) x (λ y g. class_char_measured first greatest r s h g) (λ n g. measured_at (at (modes.ClassHex first value left) r) s g h))
+    (λ ok x. no_reading s x)
+
+class_hex_measured : (o first : Option ℕ) (value left : ℕ) (r s : Reading) → MeasuredBase false r → class_hex_by o first value left r ≡ Some s → IsMeasured s
+class_hex_measured None first value left r s h e = no_reading s e
+class_hex_measured (Some d) first value left r s h e =
+    if_else (nat_lt 0xfff value || (left == 0)) _ _ s (IsMeasured s) e (λ y x. no_reading s x) (λ n x. class_hex_to_measured (greatest_from (value * 16 + d) (left - 1)) first (value * 16 + d) (left - 1) r s h x)
+
 -- each character
 step_measured : (m : Mode) (c : ℕ) (r s : Reading) → r.mode ≡ m → MeasuredBase (after_atom_in m) r → overcounts_in m c r ≡ false → step_in m c r ≡ Some s → IsMeasured s
-step_measured m c r s is h within e = ?
+step_measured Term c r s m h within e = base_measured false c r s h e
+step_measured Atom c r s m h within e = base_measured true c r s h e
+step_measured Quantified c r s m h within e = plain_measured false true c r s (λ y. refl) h e
+step_measured Zero c r s m h within e = if_else (is_digit c) _ _ s (IsMeasured s) e (λ y x. no_reading s x) (λ n x. base_measured true c r s h x)
+step_measured (Braces after_atom) c r s m h within e = in_braces_measured after_atom c r s m h within e
+step_measured Escape c r s m h within e = escape_measured (set_of c) c r s h e
+step_measured (modes.Hex value left) c r s m h within e = hex_measured (hex_value c) value left r s h e
+step_measured Paren c r s m h within e =
+    if_else (c == 63) _ _ s (IsMeasured s) e (λ y x. measured_at (at ParenQuestion r) s x h) (λ n x. base_measured false c (opened Group r) s (opened_measured Group r h) x)
+step_measured ParenQuestion c r s m h within e =
+    if_else (c == 58) _ _ s (IsMeasured s) e (λ y x. measured_at (opened Group r) s x (opened_measured Group r h)) (λ n e2.
+    if_else (c == 61) _ _ s (IsMeasured s) e2 (λ y x. measured_at (opened (Ahead false) r) s x (opened_measured (Ahead false) r h)) (λ n e3.
+    if_else (c == 33) _ _ s (IsMeasured s) e3 (λ y x. measured_at (opened (Ahead true) r) s x (opened_measured (Ahead true) r h)) (λ n x. no_reading s x)))
+step_measured ClassOpen c r s m h within e =
+    if_else (c == 94) _ _ s (IsMeasured s) e (λ y x. measured_at (at ClassFirst (record r { negated = true })) s x h) (λ n x. item_measured c r s h x)
+step_measured ClassFirst c r s m h within e = item_measured c r s h e
+step_measured ClassNext c r s m h within e = next_item_measured c r s h e
+step_measured ClassLast c r s m h within e = if_else (c == 93) _ _ s (IsMeasured s) e (λ y x. class_end_measured r s h x) (λ n x. no_reading s x)
+step_measured (modes.ClassChar first) c r s m h within e = after_char_measured first c r s h e
+step_measured (modes.ClassDash first) c r s m h within e = after_dash_measured first c r s h e
+step_measured (modes.ClassZero true) c r s m h within e = if_else (is_digit c) _ _ s (IsMeasured s) e (λ y x. no_reading s x) (λ n x. next_item_measured c r s h x)
+step_measured (modes.ClassZero false) c r s m h within e = if_else (is_digit c) _ _ s (IsMeasured s) e (λ y x. no_reading s x) (λ n x. after_char_measured 0 c r s h x)
+step_measured (modes.ClassEscape first) c r s m h within e = class_escape_measured (set_of c) first c r s h e
+step_measured (modes.ClassHex first value left) c r s m h within e = class_hex_measured (hex_value c) first value left r s h e
 
 pub measured_next : (c : ℕ) (r s : Reading) → IsMeasured r → overcounts_at c r ≡ false → step c r ≡ Some s → IsMeasured s
 measured_next c r s h within e = step_measured r.mode c r s refl h within e
@@ -450,14 +559,24 @@ measured_next c r s h within e = step_measured r.mode c r s refl h within e
 -- all that a text leads to, where no quantifier counts too much
 pub measured_reads : (text : List ℕ) (n : ℕ) (r : Reading) → n ≤ length text → PassesBefore text n → reads (take n text) start ≡ Some r → IsMeasured r
 measured_reads text zero r le passes e = measured_at start r e (refl, omega arith, tt)
-measured_reads text (suc n) r le passes e = by_last (reads (take n text) start) refl next
+measured_reads text (suc n) r le passes e = by_last (reads (take n text) start) refl (λ q is. measured_reads text n q (omega (arith, le)) earlier is) next
   where
     next : option_and_then (reads (get_or text n 0 ∷ [])) (reads (take n text) start) ≡ Some r
-    next = ?
+    next =
+        sym (reads-append (take n text) (get_or text n 0 ∷ []) start) ∙ ap (λ (xs : List ℕ). reads xs start) (sym (take_more text n 0 (omega (arith, le)))) ∙ more
+      where
+        more : reads (take (n + 1) text) start ≡ Some r
+        more = let one : suc n ≡ n + 1 = omega arith in subst (λ (k : ℕ). reads (take k text) start ≡ Some r) one e
 
     earlier : PassesBefore text n
     earlier = record { each = λ q lt. passes.each q (omega (arith, lt)) }
 
-    by_last : (o : Option Reading) → reads (take n text) start ≡ o → option_and_then (reads (get_or text n 0 ∷ [])) o ≡ Some r → IsMeasured r
-    by_last None is g = no_reading r g
-    by_last (Some q) is g = ?
+    by_last : (o : Option Reading) → reads (take n text) start ≡ o → ((q : Reading) → reads (take n text) start ≡ Some q → IsMeasured q) → option_and_then (reads (get_or text n 0 ∷ [])) o ≡ Some r → IsMeasured r
+    by_last None is before g = no_reading r g
+    by_last (Some q) is before g =
+        let kept = passes.each n (omega arith) q is in
+        by_step (step (get_or text n 0) q) refl (λ (s : Reading). measured_next (get_or text n 0) q s (before q is) kept.2) g
+      where
+        by_step : (o : Option Reading) → step (get_or text n 0) q ≡ o → ((s : Reading) → step (get_or text n 0) q ≡ Some s → IsMeasured s) → option_and_then (reads []) o ≡ Some r → IsMeasured r
+        by_step None same again x = no_reading r x
+        by_step (Some s) same again x = measured_at s r x (again s same)
