@@ -15,3 +15,4 @@ pub mod Beginnings
 pub mod FirstFaults
 pub mod TakingTerms
 pub mod TakingEnds
+pub mod Kept
