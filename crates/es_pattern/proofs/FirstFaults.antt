@@ -17,7 +17,7 @@ use Rattle.es_pattern.specs.declared.error.PatternError.{PatternError}
 use Rattle.es_pattern.specs.declared.error.PatternError.TheVariants.{Syntax, Unsupported, CountTooLarge, NoMemory}
 use Rattle.es_pattern.specs.declared.mode.Mode.{Mode}
 use Rattle.es_pattern.specs.declared.mode.Mode.TheVariants.{Braces}
-use Rattle.es_pattern.specs.Reading.{Reading, step, step_in, in_braces, in_braces_end, marked, quantified, charged, bounds_of, is_inner, overcounts, overcounts_in, overcounts_at, reads, start, finished, accepted}
+use Rattle.es_pattern.specs.Reading.{Reading, step, step_in, plain, flushed, in_braces, in_braces_end, marked, quantified, charged, bounds_of, is_inner, overcounts, overcounts_in, overcounts_at, reads, start, finished, accepted}
 use Rattle.es_pattern.specs.Parsing.{PassesBefore}
 use Rattle.es_pattern.specs.Faults.{BeginsPattern, IsUnsupportedAt, IsTooDeepAt, IsQuantifierAt, IsCountAt, IsProductAt, IsTooLargeAt, IsSyntaxAt, IsClearBefore, IsFirstFault, IsClear, byte_place}
 use Rattle.es_pattern.proofs.Runnings.{lt_or_same}
@@ -198,3 +198,105 @@ module _ (text : List ℕ) (n : ℕ) (r : Reading) (within : n ≤ length text) 
       by_kind q lt (inl deep) = let s = reads_part text q n r (omega (arith, lt, le)) so_far in false≢true (sym ((passes.each q (omega (arith, lt, le)) s.0 s.1).1) ∙ deep_reads text q s.0 (omega (arith, lt, le, within)) deep s.1)
       by_kind q lt (inr (inl (bounds, least, most, h, above))) = by_end q bounds least most lt (h, inl above) (cases_lt (q + (length bounds + 1)) n)
       by_kind q lt (inr (inr (bounds, least, most, h, begins, large))) = by_end q bounds least most lt (h, inr (begins, large)) (cases_lt (q + (length bounds + 1)) n)
+
+-- a quantifier that spans a place where the machine stops
+no_span : (text : List ℕ) (n c : ℕ) (r : Reading) → reads (take n text) start ≡ Some r → HeadIs (drop n text) c → (c ≡ 92) ⊎ ((c ≡ 40) ⊎ (c ≡ 125)) → (c ≡ 125 → ⊥)
+    → (q : ℕ) (bounds : List ℕ) (least : ℕ) (most : Option ℕ) → q < n → n ≤ q + (length bounds + 1) → IsLargeAt text q bounds least most → ⊥
+no_span text n c r e head which apart q bounds least most lt le large = by_interior (interior text q bounds least most large.0 n r lt le e).2
+  where
+    at : get_or text n 0 ≡ c
+    at = head_of text head.0 n c head.1
+
+    by_interior : (is_inner r.braces (get_or text n 0) ≡ true) ⊎ ((n ≡ q + (length bounds + 1)) × (get_or text n 0 ≡ 125) × (r.braces ≡ bounds)) → ⊥
+    by_interior (inl inner) = inner_apart r.braces (get_or text n 0) c inner at which
+    by_interior (inr (same, at_end, b)) = apart (sym at ∙ at_end)
+
+no_span_by : (text : List ℕ) (n : ℕ) (r : Reading) → reads (take n text) start ≡ Some r → HeadIs (drop n text) 92 ⊎ HeadIs (drop n text) 40
+    → (q : ℕ) (bounds : List ℕ) (least : ℕ) (most : Option ℕ) → q < n → n ≤ q + (length bounds + 1) → IsLargeAt text q bounds least most → ⊥
+no_span_by text n r e (inl head) = no_span text n 92 r e head (inl refl) (λ x. absurd (omega (arith, x)))
+no_span_by text n r e (inr head) = no_span text n 40 r e head (inr (inl refl)) (λ x. absurd (omega (arith, x)))
+
+-- what the machine knows at a place
+pub record Comes (text : List ℕ) (n : ℕ) (r : Reading) : Type 0 where
+  pub within : n ≤ length text
+  pub so_far : reads (take n text) start ≡ Some r
+  pub passes : PassesBefore text n
+
+pub unsupported_first : (text : List ℕ) (n : ℕ) (r : Reading) → Comes text n r → is_unsupported r.mode (drop n text) ≡ true → IsFirstFault text (Unsupported (byte_place text n))
+unsupported_first text n r c u =
+    (n, refl, clear_before text n r c.within c.so_far c.passes n (omega arith) (no_span_by text n r c.so_far (unsupported_head r.mode (drop n text) u)), unsupported_placed text n r c.within c.so_far u)
+
+pub deep_first : (text : List ℕ) (n : ℕ) (r : Reading) → Comes text n r → is_unsupported r.mode (drop n text) ≡ false → is_too_deep (length r.groups) r.mode (drop n text) ≡ true → IsFirstFault text (CountTooLarge (byte_place text n))
+deep_first text n r c u d =
+    (n, refl, clear_before text n r c.within c.so_far c.passes n (omega arith) (no_span_by text n r c.so_far (inr (deep_head (length r.groups) r.mode (drop n text) d))),
+    (λ h. false≢true (sym u ∙ unsupported_reads text n r c.within h c.so_far)), inl (deep_placed text n r c.within c.so_far d))
+
+-- a quantifier doesn't begin where the machine stops
+no_start : (text : List ℕ) (n : ℕ) (r : Reading) (bounds : List ℕ) (least : ℕ) (most : Option ℕ) → n < length text → reads (take n text) start ≡ Some r → step (get_or text n 0) r ≡ None → IsQuantifierAt text n bounds least most → ⊥
+no_start text n r bounds least most lt e stop h = let s = quantifier_reads text n bounds least most r h e 0 (omega arith) in no_reading s.0 (sym stop ∙ reads_step text n r s.0 lt e s.2)
+
+inner_step : (r : Reading) (after_atom : Bool) (c : ℕ) → r.mode ≡ Braces after_atom → is_inner r.braces c ≡ true → step c r ≡ None → ⊥
+inner_step r after_atom c m inner stop =
+    let taken : step c r ≡ Some (record r { braces = r.braces ++ c ∷ [] }) = ap (λ (k : Mode). step_in k c r) m ∙ ap (λ (b : Bool). cond b (Some (record r { braces = r.braces ++ c ∷ [] })) (cond (c == 125) (in_braces_end (bounds_of r.braces) after_atom c r) (plain true false c (flushed after_atom r)))) inner in
+    no_reading (record r { braces = r.braces ++ c ∷ [] }) (sym stop ∙ taken)
+
+-- where no character goes on
+module _ (text : List ℕ) (n : ℕ) (r : Reading) (c : Comes text n r) (lt : n < length text) (stop : step (get_or text n 0) r ≡ None) (small : overcounts_at (get_or text n 0) r ≡ false) where
+  stop_spans : (q : ℕ) (bounds : List ℕ) (least : ℕ) (most : Option ℕ) → q < n → n ≤ q + (length bounds + 1) → IsLargeAt text q bounds least most → ⊥
+  stop_spans q bounds least most below le (h, large) = let i = interior text q bounds least most h n r below le c.so_far in by_interior i.0 i.1 i.2 large
+    where
+      by_large : (after_atom : Bool) → r.mode ≡ Braces after_atom → n ≡ q + (length bounds + 1) → get_or text n 0 ≡ 125 → r.braces ≡ bounds → IsLarge text q bounds least most → ⊥
+      by_large after_atom m same at b (inl above) =
+          let all : bounds_of r.braces ≡ Some (least, most) = ap bounds_of b ∙ bounds_complete bounds least most h.are_bounds in
+          false≢true (sym small ∙ overcounts_above r after_atom (get_or text n 0) least most m at all above)
+      by_large after_atom m same at b (inr (begins, over)) =
+          let next : q + (length bounds + 2) ≡ n + 1 = omega (arith, same) in
+          let s = begins_reads (take (n + 1) text) (subst (λ (k : ℕ). BeginsPattern (take k text)) next begins) in
+          no_reading s.0 (sym stop ∙ reads_step text n r s.0 lt c.so_far s.1)
+
+      by_interior : (after_atom : Bool) → r.mode ≡ Braces after_atom → (is_inner r.braces (get_or text n 0) ≡ true) ⊎ ((n ≡ q + (length bounds + 1)) × (get_or text n 0 ≡ 125) × (r.braces ≡ bounds)) → IsLarge text q bounds least most → ⊥
+      by_interior after_atom m (inl inner) large = inner_step r after_atom (get_or text n 0) m inner stop
+      by_interior after_atom m (inr (same, at, b)) large = by_large after_atom m same at b large
+
+  pub syntax_first : is_unsupported r.mode (drop n text) ≡ false → is_too_deep (length r.groups) r.mode (drop n text) ≡ false → IsFirstFault text (Syntax (byte_place text n))
+  syntax_first u d =
+      (n, refl, clear_before text n r c.within c.so_far c.passes n (omega arith) stop_spans, (λ h. false≢true (sym u ∙ unsupported_reads text n r c.within h c.so_far)), small_here, syntax_stops text n r lt c.so_far stop)
+    where
+      small_here : IsTooLargeAt text n → ⊥
+      small_here (inl deep) = false≢true (sym d ∙ deep_reads text n r c.within deep c.so_far)
+      small_here (inr (inl (bounds, least, most, h, above))) = no_start text n r bounds least most lt c.so_far stop h
+      small_here (inr (inr (bounds, least, most, h, begins, over))) = no_start text n r bounds least most lt c.so_far stop h
+
+-- at the text's end no quantifier is open
+end_spans : (text : List ℕ) (q : ℕ) (bounds : List ℕ) (least : ℕ) (most : Option ℕ) → q < length text → length text ≤ q + (length bounds + 1) → IsLargeAt text q bounds least most → ⊥
+end_spans text q bounds least most lt le (h, large) = absurd (omega (arith, end_within text q bounds least most h, le))
+
+too_large_within : (text : List ℕ) (q : ℕ) → IsTooLargeAt text q → q < length text
+too_large_within text q (inl deep) = deep_within text q deep
+too_large_within text q (inr (inl (bounds, least, most, h, above))) = quantifier_within text q bounds least most h
+too_large_within text q (inr (inr (bounds, least, most, h, begins, over))) = quantifier_within text q bounds least most h
+
+all_read : (text : List ℕ) (r : Reading) → reads (take (length text) text) start ≡ Some r → reads text start ≡ Some r
+all_read text r e = ap (λ (xs : List ℕ). reads xs start) (sym (take_all (length text) text (omega arith))) ∙ e
+
+pub end_first : (text : List ℕ) (r : Reading) → Comes text (length text) r → finished r ≡ None → IsFirstFault text (Syntax (byte_place text (length text)))
+end_first text r c stop =
+    (length text, refl, clear_before text (length text) r c.within c.so_far c.passes (length text) (omega arith) (end_spans text), (λ h. absurd (omega (arith, unsupported_within text (length text) h))),
+    (λ h. absurd (omega (arith, too_large_within text (length text) h))), syntax_ends text r (all_read text r c.so_far) stop)
+
+-- what is accepted has no fault
+pub accepted_clear : (text : List ℕ) (r : Reading) (t : Tree) → Comes text (length text) r → finished r ≡ Some t → IsClear text
+accepted_clear text r t c end_ = λ p. ((λ h. clear.supported p (unsupported_within text p h) h), (λ h. clear.small p (too_large_within text p h) h), by_place p)
+  where
+    clear : IsClearBefore text (length text)
+    clear = clear_before text (length text) r c.within c.so_far c.passes (length text) (omega arith) (end_spans text)
+
+    whole : IsPattern text t
+    whole = accepted_is_pattern text t (ap (option_and_then finished) (all_read text r c.so_far) ∙ end_)
+
+    by_place : (p : ℕ) → IsSyntaxAt text p → ⊥
+    by_place p h = by_order (lt_or_same p (length text) h.within)
+      where
+        by_order : (p < length text) ⊎ (p ≡ length text) → ⊥
+        by_order (inl lt) = clear.grammatical p lt h
+        by_order (inr same) = h.ends same t whole
