@@ -16,3 +16,5 @@ pub mod FirstFaults
 pub mod TakingTerms
 pub mod TakingEnds
 pub mod Kept
+pub mod HexDigits
+pub mod TakingClasses
