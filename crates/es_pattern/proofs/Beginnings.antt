@@ -11,7 +11,9 @@ use Rattle.es_pattern.proofs.Parsings.{reads-append}
 use Rattle.es_pattern.proofs.Sound.{Completes, step_completes, no_reading, no_tree}
 use Rattle.es_pattern.proofs.Sane.{IsSane}
 use Rattle.es_pattern.proofs.Viable.{viable}
-use Rattle.es_pattern.proofs.Stubs.{taking, taking_end, sane_next, sane_reads}
+use Rattle.es_pattern.proofs.Taking.{taking}
+use Rattle.es_pattern.proofs.TakingEnds.{taking_end}
+use Rattle.es_pattern.proofs.Kept.{sane_next, sane_reads}
 
 -- what completes the state that a text leads to completes the state before it, with the text in front
 pub completes_before : (xs : List ℕ) (r s : Reading) (w : List ℕ) (t : Tree) → reads xs r ≡ Some s → Completes s w t → Completes r (xs ++ w) t

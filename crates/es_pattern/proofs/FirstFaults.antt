@@ -21,13 +21,15 @@ use Rattle.es_pattern.specs.Reading.{Reading, step, step_in, plain, flushed, in_
 use Rattle.es_pattern.specs.Parsing.{PassesBefore}
 use Rattle.es_pattern.specs.Faults.{BeginsPattern, IsUnsupportedAt, IsTooDeepAt, IsQuantifierAt, IsCountAt, IsProductAt, IsTooLargeAt, IsSyntaxAt, IsClearBefore, IsFirstFault, IsClear, byte_place}
 use Rattle.es_pattern.proofs.Runnings.{lt_or_same}
+use Rattle.es_pattern.proofs.Parsings.{reads_more}
 use Rattle.es_pattern.proofs.BracesRead.{bounds_complete, goes_on}
 use Rattle.es_pattern.proofs.Sound.{Completes, InTerm, if_else, inner_is, is_char, no_reading, accepted_is_pattern}
 use Rattle.es_pattern.proofs.Sane.{IsMeasured, MeasuredBase, after_atom_in}
 use Rattle.es_pattern.proofs.Viable.{viable}
 use Rattle.es_pattern.proofs.Above.{term_above}
 use Rattle.es_pattern.proofs.Beginnings.{completes_before, completes_pattern, pattern_reads, begins_reads, reads_begins, reads_part, reads_step, syntax_stops, syntax_ends, no_syntax_before}
-use Rattle.es_pattern.proofs.Stubs.{sane_reads, measured_reads, unsupported_placed, deep_placed, quantifier_placed, unsupported_reads, deep_reads, quantifier_reads, unsupported_within, deep_within, quantifier_within}
+use Rattle.es_pattern.proofs.Kept.{sane_reads, measured_reads}
+use Rattle.es_pattern.proofs.Stubs.{unsupported_placed, deep_placed, quantifier_placed, unsupported_reads, deep_reads, quantifier_reads, unsupported_within, deep_within, quantifier_within}
 
 -- the heads of the forms that are refused
 head_of : (text rest : List ℕ) (n c : ℕ) → drop n text ≡ c ∷ rest → get_or text n 0 ≡ c
@@ -300,3 +302,119 @@ accepted_clear text r t c end_ = λ p. ((λ h. clear.supported p (unsupported_wi
         by_order : (p < length text) ⊎ (p ≡ length text) → ⊥
         by_order (inl lt) = clear.grammatical p lt h
         by_order (inr same) = h.ends same t whole
+
+-- a quantifier that the machine finds too large
+pub record Overcounts (c : ℕ) (r : Reading) (least : ℕ) (most : Option ℕ) : Type 0 where
+  pub after_atom : Bool
+  pub mode : r.mode ≡ Braces after_atom
+  pub at_end : c ≡ 125
+  pub bounds : bounds_of r.braces ≡ Some (least, most)
+  pub large : (is_above_limit least most ≡ true) ⊎ ((after_atom ≡ true) × (nat_lt 100000 (r.atom_product * count_of least most) ≡ true))
+
+large_of : (a b c : Bool) → a || b && c ≡ true → (a ≡ true) ⊎ ((b ≡ true) × (c ≡ true))
+large_of true b c e = inl refl
+large_of false true true e = inr (refl, refl)
+large_of false true false e = absurd (false≢true e)
+large_of false false c e = absurd (false≢true e)
+
+both_true : (a b : Bool) → a && b ≡ true → (a ≡ true) × (b ≡ true)
+both_true true true e = (refl, refl)
+both_true true false e = absurd (false≢true e)
+both_true false b e = absurd (false≢true e)
+
+either : (a b : Bool) → a || b ≡ true → (a ≡ true) ⊎ (b ≡ true)
+either true b e = inl refl
+either false b e = inr e
+
+no_head : (text rest : List ℕ) (c : ℕ) → HeadIs text c → text ≡ 123 ∷ rest → (c ≡ 123 → ⊥) → ⊥
+no_head text rest c head e apart = let heads : c ∷ head.0 ≡ 123 ∷ rest = sym head.1 ∙ e in apart cc
+
+abbrev IsOvercount : ℕ → Reading → Type 0
+IsOvercount c r = (least : ℕ) × (most : Option ℕ) × Overcounts c r least most
+
+overcounts_by : (after_atom : Bool) (c : ℕ) (r : Reading) (o : Option (ℕ × Option ℕ)) → r.mode ≡ Braces after_atom → c ≡ 125 → bounds_of r.braces ≡ o → overcounts o after_atom r ≡ true → IsOvercount c r
+overcounts_by after_atom c r None m at b e = absurd (false≢true e)
+overcounts_by after_atom c r (Some bounds) m at b e =
+    (bounds.0, bounds.1, record { after_atom = after_atom; mode = m; at_end = at; bounds = b; large = large_of (is_above_limit bounds.0 bounds.1) after_atom (nat_lt 100000 (r.atom_product * count_of bounds.0 bounds.1)) e })
+
+overcounts_in_braces : (m : Mode) (c : ℕ) (r : Reading) → r.mode ≡ m → overcounts_in m c r ≡ true → IsOvercount c r
+overcounts_in_braces (Braces after_atom) c r m e = let b = both_true (c == 125) (overcounts (bounds_of r.braces) after_atom r) e in overcounts_by after_atom c r (bounds_of r.braces) m (is_char c 125 b.0) refl b.1
+overcounts_in_braces other c r m e = absurd (false≢true e)
+
+-- where a quantifier in braces ends that counts too much
+module _ (text : List ℕ) (n : ℕ) (r : Reading) (c : Comes text n r) (lt : n < length text) (over : overcounts_at (get_or text n 0) r ≡ true) where
+  overcount : IsOvercount (get_or text n 0) r
+  overcount = overcounts_in_braces r.mode (get_or text n 0) r refl over
+
+  abbrev Placed : Type 0
+  Placed = (q : ℕ) × (q + (length r.braces + 1) ≡ n) × IsQuantifierAt text q r.braces overcount.0 overcount.1 × (byte_place text q + (length r.braces + 1) ≡ byte_place text n)
+
+  placed : Placed
+  placed = let o = overcount.2 in quantifier_placed text n r o.after_atom overcount.0 overcount.1 lt c.so_far o.mode o.at_end o.bounds
+
+  pub braces_fit : length r.braces < byte_place text n
+  braces_fit = omega (arith, placed.3)
+
+  -- the state after the quantifier
+  abbrev next : Reading
+  next = quantified overcount.0 overcount.1 (charged (r.atom_product * count_of overcount.0 overcount.1) r)
+
+  next_step : overcount.2.after_atom ≡ true → step (get_or text n 0) r ≡ Some next
+  next_step after =
+      let o = overcount.2 in
+      ap (λ (m : Mode). step_in m (get_or text n 0) r) (o.mode ∙ ap (λ (b : Bool). Braces b) after) ∙ ap (λ (k : ℕ). in_braces true k r) o.at_end ∙ ap (λ (b : Option (ℕ × Option ℕ)). in_braces_end b true 125 r) o.bounds
+
+  next_reads : overcount.2.after_atom ≡ true → reads (take (n + 1) text) start ≡ Some next
+  next_reads after = reads_more text n start r next lt c.so_far (next_step after)
+
+  product_over : overcount.2.after_atom ≡ true → nat_lt 100000 (r.atom_product * count_of overcount.0 overcount.1) ≡ true → (rest : List ℕ) (tree : Tree) → IsPattern (take (n + 1) text ++ rest) tree → 100000 < product_of tree
+  product_over after large rest tree h =
+      let s = pattern_reads (take (n + 1) text) rest tree h in
+      let same : s.0 ≡ next = same_Some s.0 next (sym s.1 ∙ next_reads after) in
+      let completes : Completes next rest tree = subst (λ (y : Reading). Completes y rest tree) same s.2 in
+      by_way completes (lt_of (r.atom_product * count_of overcount.0 overcount.1) large) (measured.0)
+    where
+      lt_of : (p : ℕ) → nat_lt 100000 p ≡ true → 100000 < p
+      lt_of p e = grind (arith, nat_tests)
+
+      measured : MeasuredBase true r
+      measured = subst (λ (b : Bool). MeasuredBase b r) (ap after_atom_in overcount.2.mode ∙ after) (measured_reads text n r c.within c.passes c.so_far)
+
+      above : (w : List ℕ) → InTerm next.trees next.groups w tree → product_of (top r.trees) * count_of overcount.0 overcount.1 ≤ product_of tree
+      above w i = let a = term_above next.trees next.groups w tree i in omega (arith, a)
+
+      by_way : InTerm next.trees next.groups rest tree ⊎ ((w : List ℕ) × (rest ≡ 63 ∷ w) × InTerm next.trees next.groups w tree) → 100000 < r.atom_product * count_of overcount.0 overcount.1 → r.atom_product ≡ product_of (top r.trees) → 100000 < product_of tree
+      by_way (inl i) large same = let a = above rest i in let e = ap (λ (p : ℕ). p * count_of overcount.0 overcount.1) same in omega (arith, a, e, large)
+      by_way (inr i) large same = let a = above i.0 i.2 in let e = ap (λ (p : ℕ). p * count_of overcount.0 overcount.1) same in omega (arith, a, e, large)
+
+  is_too_large : IsTooLargeAt text placed.0
+  is_too_large = by_kind overcount.2.large
+    where
+      end_is : n + 1 ≡ placed.0 + (length r.braces + 2)
+      end_is = omega (arith, placed.1)
+
+      by_kind : (is_above_limit overcount.0 overcount.1 ≡ true) ⊎ ((overcount.2.after_atom ≡ true) × (nat_lt 100000 (r.atom_product * count_of overcount.0 overcount.1) ≡ true)) → IsTooLargeAt text placed.0
+      by_kind (inl above) = inr (inl (r.braces, overcount.0, overcount.1, placed.2, above))
+      by_kind (inr (after, large)) =
+          let begins = reads_begins (take (n + 1) text) next (next_reads after) in
+          inr (inr (r.braces, overcount.0, overcount.1, placed.2, subst (λ (k : ℕ). BeginsPattern (take k text)) end_is begins,
+          subst (λ (k : ℕ). (rest : List ℕ) (tree : Tree) → IsPattern (take k text ++ rest) tree → 100000 < product_of tree) end_is (product_over after large)))
+
+  -- at its `{` no form begins, and no earlier quantifier is open
+  supported_there : IsUnsupportedAt text placed.0 → ⊥
+  supported_there (inl (depth, stands, form)) = by_form (either (begins_unsupported_escape (drop placed.0 text)) (begins_named_group (drop placed.0 text)) form)
+    where
+      by_form : (begins_unsupported_escape (drop placed.0 text) ≡ true) ⊎ (begins_named_group (drop placed.0 text) ≡ true) → ⊥
+      by_form (inl e) = no_head (drop placed.0 text) _ 92 (escape_head (drop placed.0 text) e) placed.2.braces (λ x. absurd (omega (arith, x)))
+      by_form (inr e) = no_head (drop placed.0 text) _ 40 (named_head (drop placed.0 text) e) placed.2.braces (λ x. absurd (omega (arith, x)))
+  supported_there (inr (depth, stands, form)) = no_head (drop placed.0 text) _ 92 (escape_head (drop placed.0 text) form) placed.2.braces (λ x. absurd (omega (arith, x)))
+
+  over_spans : (q : ℕ) (bounds : List ℕ) (least : ℕ) (most : Option ℕ) → q < placed.0 → n ≤ q + (length bounds + 1) → IsLargeAt text q bounds least most → ⊥
+  over_spans q bounds least most below le (h, large) = by_interior (interior text q bounds least most h n r (omega (arith, below, placed.1)) le c.so_far).2
+    where
+      by_interior : (is_inner r.braces (get_or text n 0) ≡ true) ⊎ ((n ≡ q + (length bounds + 1)) × (get_or text n 0 ≡ 125) × (r.braces ≡ bounds)) → ⊥
+      by_interior (inl inner) = inner_apart r.braces (get_or text n 0) 125 inner overcount.2.at_end (inr (inr refl))
+      by_interior (inr (same, at, b)) = absurd (omega (arith, same, below, placed.1, ap length b))
+
+  pub overcounts_first : (place : ℕ) → place + (length r.braces + 1) ≡ byte_place text n → IsFirstFault text (CountTooLarge place)
+  overcounts_first place e = (placed.0, omega (arith, e, placed.3), clear_before text n r c.within c.so_far c.passes placed.0 (omega (arith, placed.1)) over_spans, supported_there, is_too_large)

@@ -18,3 +18,5 @@ pub mod TakingEnds
 pub mod Kept
 pub mod HexDigits
 pub mod TakingClasses
+pub mod Taking
+pub mod OneFault
