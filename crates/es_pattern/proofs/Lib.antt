@@ -8,3 +8,5 @@ pub mod Parsings
 pub mod Sound
 pub mod BracesRead
 pub mod Sane
+pub mod Moves
+pub mod Placing
