@@ -1,6 +1,7 @@
 -- What the machine has read stands at a place.
-use Rattle.std.proofs.Common.{◌≡◌, ℕ, zero, suc, ◌+◌, ◌-◌, ◌*◌, ◌<◌, ◌≤◌, Bool, true, false, cond, List, [], ◌∷◌, ◌++◌, inl, inr, length, get_or, take, drop, Option, Some, None, refl, sym, ap, subst, ◌∙◌, arith}
-use Rattle.std.specs.Prelude.{◌==◌, ◌&&◌, ◌||◌, ◌⊎◌, nat_le, option_and_then}
+use Rattle.std.proofs.Common.{◌≡◌, ℕ, zero, suc, ◌+◌, ◌-◌, ◌*◌, ◌<◌, ◌≤◌, Bool, true, false, cond, List, [], ◌∷◌, ◌++◌, inl, inr, length, get_or, take, drop, Option, Some, None, refl, sym, ap, subst, ◌∙◌, arith, lit<}
+use Rattle.std.specs.Prelude.{◌==◌, ◌&&◌, ◌||◌, ◌⊎◌, nat_le, option_and_then, encode_utf8_all, encode_utf8}
+use Rattle.std.proofs.lemmas.Str.{encodes-append, length-encode, len_utf8_ascii}
 use Rattle.std.proofs.lemmas.List.{append_assoc, take-append-drop, take_at, drop_at, drop_more, length-append, length-drop}
 use Rattle.std.proofs.lemmas.Option.{same_Some, option_and_then_some}
 use Rattle.std.proofs.lemmas.Bool.{false≢true}
@@ -127,19 +128,157 @@ placed_after (c ∷ front) rest text s r e h = option_and_then_some (reads front
 pub placed_at : (text : List ℕ) (n : ℕ) (r : Reading) → reads (take n text) start ≡ Some r → Placed (kind r) (length r.groups) text (drop n text)
 placed_at text n r e = placed_after (take n text) (drop n text) text start r e (subst (λ (xs : List ℕ). Stands text (groups 0) xs) (sym (take-append-drop n text)) at_front)
 
--- an escape or a group that isn't supported
-unsupported_kind : (k : Kind) (d : ℕ) (text : List ℕ) (n : ℕ) → Placed k d text (drop n text) → may_escape_at k && begins_unsupported_escape (drop n text) || may_open_at k && begins_named_group (drop n text) ≡ true → IsUnsupportedAt text n
-unsupported_kind k d text n h e = ?
+-- `?` begins no form that isn't supported
+no_form_at_question : (rest : List ℕ) → (begins_unsupported_escape rest || begins_named_group rest) ≡ true → BeginsQuestion rest → ⊥
+no_form_at_question [] h b = b
+no_form_at_question (c ∷ []) h b = absurd (false≢true h)
+no_form_at_question (c ∷ x ∷ []) h b = false≢true (subst (λ (n : ℕ). (begins_unsupported_escape (n ∷ x ∷ []) || begins_named_group (n ∷ x ∷ [])) ≡ true) b h)
+no_form_at_question (c ∷ x ∷ y ∷ rest) h b = false≢true (subst (λ (n : ℕ). (begins_unsupported_escape (n ∷ x ∷ y ∷ rest) || begins_named_group (n ∷ x ∷ y ∷ rest)) ≡ true) b h)
 
+no_escape_at_caret : (rest : List ℕ) → begins_unsupported_escape rest ≡ true → BeginsCaret rest → ⊥
+no_escape_at_caret [] h b = b
+no_escape_at_caret (c ∷ []) h b = absurd (false≢true h)
+no_escape_at_caret (c ∷ x ∷ rest) h b = false≢true (subst (λ (n : ℕ). begins_unsupported_escape (n ∷ x ∷ rest) ≡ true) b h)
+
+no_group_at_question : (rest : List ℕ) → begins_group rest ≡ true → BeginsQuestion rest → ⊥
+no_group_at_question [] h b = b
+no_group_at_question (c ∷ rest) h b = false≢true (subst (λ (n : ℕ). begins_group (n ∷ rest) ≡ true) b h)
+
+left_true : (b : Bool) → b || false ≡ true → b ≡ true
+left_true true e = refl
+left_true false e = e
+
+both_true : (a b : Bool) → a && b ≡ true → (a ≡ true) × (b ≡ true)
+both_true true true e = (refl, refl)
+both_true true false e = absurd (false≢true e)
+both_true false b e = absurd (false≢true e)
+
+from_test : (a b : ℕ) → nat_le a b ≡ true → a ≤ b
+from_test a b e = grind (arith, nat_tests)
+
+-- a form that isn't supported, or a group too deep, where what is left of the text begins
+abbrev UnsupportedHere : List ℕ → List ℕ → Type 0
+UnsupportedHere text rest = ((depth : ℕ) × Stands text (groups depth) rest × ((begins_unsupported_escape rest || begins_named_group rest) ≡ true)) ⊎ ((depth : ℕ) × Stands text (class_in_groups depth) rest × (begins_unsupported_escape rest ≡ true))
+
+abbrev TooDeepHere : List ℕ → List ℕ → Type 0
+TooDeepHere text rest = (depth : ℕ) × Stands text (groups depth) rest × (200 ≤ depth) × (begins_group rest ≡ true)
+
+unsupported_kind : (k : Kind) (d : ℕ) (text rest : List ℕ) → Placed k d text rest → may_escape_at k && begins_unsupported_escape rest || may_open_at k && begins_named_group rest ≡ true → UnsupportedHere text rest
+unsupported_kind outside d text rest h e = inl (d, h, e)
+unsupported_kind (in_bounds bs) d text rest h e = inl (d, past_inner d text bs rest h.0 (past_symbol h.1 refl), e)
+unsupported_kind in_paren d text rest h e = inl (suc d, in_group h (no_form_at_question rest e), e)
+unsupported_kind in_question d text rest h e = absurd (false≢true e)
+unsupported_kind (behind in_a_class) d text rest h e = absurd (false≢true e)
+unsupported_kind (in_hex in_a_class value left) d text rest h e = absurd (false≢true e)
+unsupported_kind class_front d text rest h e = let begins = left_true (begins_unsupported_escape rest) e in inr (d, in_class h (no_escape_at_caret rest begins), begins)
+unsupported_kind inside d text rest h e = inr (d, h, left_true (begins_unsupported_escape rest) e)
+
+-- where the machine refuses a form that isn't supported, one stands
 pub unsupported_placed : (text : List ℕ) (n : ℕ) (r : Reading) → n ≤ length text → reads (take n text) start ≡ Some r → is_unsupported r.mode (drop n text) ≡ true → IsUnsupportedAt text n
-unsupported_placed text n r le e h = ?
+unsupported_placed text n r le e h =
+    let same = modes_agree r.mode r.braces in
+    let rest = drop n text in
+    unsupported_kind (kind r) (length r.groups) text rest (placed_at text n r e)
+    (subst (λ (b : Bool). may_escape_at (kind r) && begins_unsupported_escape rest || b && begins_named_group rest ≡ true) same.0 (subst (λ (b : Bool). b && begins_unsupported_escape rest || may_open r.mode && begins_named_group rest ≡ true) same.1 h))
 
-deep_kind : (k : Kind) (d : ℕ) (text : List ℕ) (n : ℕ) → Placed k d text (drop n text) → may_open_at k && begins_group (drop n text) && nat_le 200 (d + pending_at k) ≡ true → IsTooDeepAt text n
-deep_kind k d text n h e = ?
+deep_kind : (k : Kind) (d : ℕ) (text rest : List ℕ) → Placed k d text rest → may_open_at k && begins_group rest && nat_le 200 (d + pending_at k) ≡ true → TooDeepHere text rest
+deep_kind outside d text rest h e = let parts = both_true (begins_group rest) (nat_le 200 (d + 0)) e in let deep = from_test 200 (d + 0) parts.1 in (d, h, omega (arith, deep), parts.0)
+deep_kind (in_bounds bs) d text rest h e = let parts = both_true (begins_group rest) (nat_le 200 (d + 0)) e in let deep = from_test 200 (d + 0) parts.1 in (d, past_inner d text bs rest h.0 (past_symbol h.1 refl), omega (arith, deep), parts.0)
+deep_kind in_paren d text rest h e = let parts = both_true (begins_group rest) (nat_le 200 (d + 1)) e in let deep = from_test 200 (d + 1) parts.1 in (suc d, in_group h (no_group_at_question rest parts.0), omega (arith, deep), parts.0)
+deep_kind in_question d text rest h e = absurd (false≢true e)
+deep_kind (behind in_a_class) d text rest h e = absurd (false≢true e)
+deep_kind (in_hex in_a_class value left) d text rest h e = absurd (false≢true e)
+deep_kind class_front d text rest h e = absurd (false≢true e)
+deep_kind inside d text rest h e = absurd (false≢true e)
 
+-- where the machine refuses a group too deep, one stands
 pub deep_placed : (text : List ℕ) (n : ℕ) (r : Reading) → n ≤ length text → reads (take n text) start ≡ Some r → is_too_deep (length r.groups) r.mode (drop n text) ≡ true → IsTooDeepAt text n
-deep_placed text n r le e h = ?
+deep_placed text n r le e h =
+    let same = modes_agree r.mode r.braces in
+    let rest = drop n text in
+    deep_kind (kind r) (length r.groups) text rest (placed_at text n r e)
+    (subst (λ (p : ℕ). may_open_at (kind r) && begins_group rest && nat_le 200 (length r.groups + p) ≡ true) same.2 (subst (λ (b : Bool). b && begins_group rest && nat_le 200 (length r.groups + pending r.mode) ≡ true) same.0 h))
 
+-- what is left of a text at a place is its end
+abbrev pub EndsWith : List ℕ → List ℕ → Type 0
+EndsWith text rest = (front : List ℕ) × (text ≡ front ++ rest)
+
+further : (text : List ℕ) (c : ℕ) (rest : List ℕ) → EndsWith text (c ∷ rest) → EndsWith text rest
+further text c rest h = (h.0 ++ c ∷ [], h.1 ∙ sym (append_assoc h.0 (c ∷ []) rest))
+
+beyond : (text more rest : List ℕ) → EndsWith text more → EndsWith more rest → EndsWith text rest
+beyond text more rest h g = (h.0 ++ g.0, h.1 ∙ ap (λ (xs : List ℕ). h.0 ++ xs) g.1 ∙ sym (append_assoc h.0 g.0 rest))
+
+hex_ends : (left value : ℕ) (more rest : List ℕ) (ch : ℕ) → Hex left value more rest ch → EndsWith more rest
+hex_ends zero value more rest ch h = ([], h.0)
+hex_ends (suc left) value more rest ch h = let g = hex_ends left (value * 16 + h.1) h.2 rest ch h.5 in (h.0 ∷ g.0, h.3 ∙ ap (λ (xs : List ℕ). h.0 ∷ xs) g.1)
+
+escaped_ends : (more rest : List ℕ) → Escaped more rest → EndsWith more rest
+escaped_ends more rest (other_escape {c = c} apart) = (c ∷ [], refl)
+escaped_ends more rest (two_digit_escape {text = text} {c = c} h) = let g = hex_ends 2 0 text rest c h in (120 ∷ g.0, ap (λ (xs : List ℕ). 120 ∷ xs) g.1)
+escaped_ends more rest (four_digit_escape {text = text} {c = c} h) = let g = hex_ends 4 0 text rest c h in (117 ∷ g.0, ap (λ (xs : List ℕ). 117 ∷ xs) g.1)
+
+pub stands_ends : (text : List ℕ) (place : Within) (rest : List ℕ) → Stands text place rest → EndsWith text rest
+stands_ends text place rest at_front = ([], refl)
+stands_ends text place rest (past_symbol {depth = d} {c = c} h apart) = further text c rest (stands_ends text (groups d) (c ∷ rest) h)
+stands_ends text place rest (past_escape {depth = d} {more = more} h x) = beyond text more rest (further text 92 more (stands_ends text (groups d) (92 ∷ more) h)) (escaped_ends more rest x)
+stands_ends text place rest (in_group {depth = d} h apart) = further text 40 rest (stands_ends text (groups d) (40 ∷ rest) h)
+stands_ends text place rest (in_marked_group {depth = d} {c = c} h is) = further text c rest (further text 63 (c ∷ rest) (further text 40 (63 ∷ c ∷ rest) (stands_ends text (groups d) (40 ∷ 63 ∷ c ∷ rest) h)))
+stands_ends text place rest (past_group {depth = d} h) = further text 41 rest (stands_ends text (groups (suc d)) (41 ∷ rest) h)
+stands_ends text place rest (in_class {depth = d} h apart) = further text 91 rest (stands_ends text (groups d) (91 ∷ rest) h)
+stands_ends text place rest (in_negated_class {depth = d} h) = further text 94 rest (further text 91 (94 ∷ rest) (stands_ends text (groups d) (91 ∷ 94 ∷ rest) h))
+stands_ends text place rest (past_class_char {depth = d} {c = c} h apart) = further text c rest (stands_ends text (class_in_groups d) (c ∷ rest) h)
+stands_ends text place rest (past_class_escape {depth = d} {more = more} h x) = beyond text more rest (further text 92 more (stands_ends text (class_in_groups d) (92 ∷ more) h)) (escaped_ends more rest x)
+stands_ends text place rest (past_class {depth = d} h) = further text 93 rest (stands_ends text (class_in_groups d) (93 ∷ rest) h)
+
+one_byte_more : (c : ℕ) (cs : List ℕ) → c < 128 → length (encode_utf8_all (c ∷ cs)) ≡ length (encode_utf8_all cs) + 1
+one_byte_more c cs low = omega (arith, length-append (encode_utf8 c) (encode_utf8_all cs), length-encode c, len_utf8_ascii c low)
+
+inner_low : (c : ℕ) → (is_digit c ≡ true) ⊎ (c ≡ 44) → c < 128
+inner_low c (inl h) = let high : c ≤ 57 = grind (arith, nat_tests) in omega (arith, high)
+inner_low c (inr h) = omega (arith, h)
+
+-- digits and commas take a byte each
+inner_bytes : (bs : List ℕ) → AllInner bs → length (encode_utf8_all bs) ≡ length bs
+inner_bytes [] h = refl
+inner_bytes (c ∷ bs) h = omega (arith, one_byte_more c bs (inner_low c h.0), inner_bytes bs h.1)
+
+-- a quantifier in braces that ends at a place stands there
+quantifier_ends : (text : List ℕ) (n : ℕ) (bs : List ℕ) (d least : ℕ) (most : Option ℕ) → n < length text → get_or text n 0 ≡ 125 → Bounds bs least most → AllInner bs → Stands text (groups d) (123 ∷ (bs ++ drop n text)) → EndsWith text (123 ∷ (bs ++ drop n text))
+    → (q : ℕ) × (q + (length bs + 1) ≡ n) × IsQuantifierAt text q bs least most × (byte_place text q + (length bs + 1) ≡ byte_place text n)
+quantifier_ends text n bs d least most lt c bounds inner h (front, e) = (length front, place_is, record { depth = d; place = subst (λ (xs : List ℕ). Stands text (groups d) xs) (sym left_is) h; rest = drop (n + 1) text; braces = left_is ∙ ap (λ (xs : List ℕ). 123 ∷ (bs ++ xs)) rest_is; are_bounds = bounds }, bytes_are)
+  where
+    place_is : length front + (length bs + 1) ≡ n
+    place_is =
+        let whole : length text ≡ length front + length (123 ∷ (bs ++ drop n text)) = ap length e ∙ length-append front (123 ∷ (bs ++ drop n text)) in
+        let part : length (bs ++ drop n text) ≡ length bs + length (drop n text) = length-append bs (drop n text) in
+        let last : length (drop n text) ≡ length text - n = length-drop n text in
+        omega (arith, whole, part, last)
+
+    left_is : drop (length front) text ≡ 123 ∷ (bs ++ drop n text)
+    left_is = ap (drop (length front)) e ∙ drop_at front (123 ∷ (bs ++ drop n text)) (length front) refl
+
+    rest_is : drop n text ≡ 125 ∷ drop (n + 1) text
+    rest_is = drop_more text n 0 lt ∙ ap (λ (x : ℕ). x ∷ drop (n + 1) text) c
+
+    split : text ≡ (front ++ 123 ∷ bs) ++ drop n text
+    split = e ∙ sym (append_assoc front (123 ∷ bs) (drop n text))
+
+    taken : take n text ≡ front ++ 123 ∷ bs
+    taken = ap (take n) split ∙ take_at (front ++ 123 ∷ bs) (drop n text) n (omega (arith, length-append front (123 ∷ bs), place_is))
+
+    front_is : take (length front) text ≡ front
+    front_is = ap (take (length front)) e ∙ take_at front (123 ∷ (bs ++ drop n text)) (length front) refl
+
+    bytes_are : byte_place text (length front) + (length bs + 1) ≡ byte_place text n
+    bytes_are =
+        let before : byte_place text (length front) ≡ length (encode_utf8_all front) = ap (λ (xs : List ℕ). length (encode_utf8_all xs)) front_is in
+        let all : byte_place text n ≡ length (encode_utf8_all front ++ encode_utf8_all (123 ∷ bs)) = ap (λ (xs : List ℕ). length (encode_utf8_all xs)) taken ∙ ap length (encodes-append front (123 ∷ bs)) in
+        omega (arith, before, all, length-append (encode_utf8_all front) (encode_utf8_all (123 ∷ bs)), one_byte_more 123 bs (lit< tt), inner_bytes bs inner)
+
+-- where the machine ends a quantifier in braces, one stands
 pub quantifier_placed : (text : List ℕ) (n : ℕ) (r : Reading) (after_atom : Bool) (least : ℕ) (most : Option ℕ) → n < length text → reads (take n text) start ≡ Some r → r.mode ≡ Braces after_atom → get_or text n 0 ≡ 125 → bounds_of r.braces ≡ Some (least, most)
     → (q : ℕ) × (q + (length r.braces + 1) ≡ n) × IsQuantifierAt text q r.braces least most × (byte_place text q + (length r.braces + 1) ≡ byte_place text n)
-quantifier_placed text n r after_atom least most lt e m c b = ?
+quantifier_placed text n r after_atom least most lt e m c b =
+    let placed : Placed (in_bounds r.braces) (length r.groups) text (drop n text) = subst (λ (k : Mode). Placed (kind_in k r.braces) (length r.groups) text (drop n text)) m (placed_at text n r e) in
+    quantifier_ends text n r.braces (length r.groups) least most lt c (bounds_sound r.braces least most b) placed.0 placed.1 (stands_ends text (groups (length r.groups)) (123 ∷ (r.braces ++ drop n text)) placed.1)
