@@ -189,7 +189,7 @@ allowed : (bs ds : List ℕ) (c : ℕ) → AllDigits ds → 0 < length ds → (i
 allowed bs ds c h lt (inl d) = rw d refl
 allowed bs ds c h lt (inr g) = subst (λ (x : ℕ). is_inner bs x ≡ true) (sym g.0) (subst (λ (x : List ℕ). may_be_comma x ≡ true) (sym g.1) (comma_allowed ds h lt))
 
-goes_on : (b bs : List ℕ) (c : ℕ) (more : List ℕ) (n : ℕ) (m : Option ℕ) → Bounds b n m → b ≡ bs ++ c ∷ more → is_inner bs c ≡ true
+pub goes_on : (b bs : List ℕ) (c : ℕ) (more : List ℕ) (n : ℕ) (m : Option ℕ) → Bounds b n m → b ≡ bs ++ c ∷ more → is_inner bs c ≡ true
 goes_on b bs c more n m (exactly ds f) e = rw (digit_in ds bs c more (number_digits ds n f).0 e) refl
 goes_on b bs c more n m (at_least ds f) e = let d = number_digits ds n f in allowed bs ds c d.0 d.1 (comma_or_digit ds [] bs c more d.0 tt e)
 goes_on b bs c more n m (between ds es {m = k} f g le) e =

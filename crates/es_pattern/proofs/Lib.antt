@@ -10,3 +10,4 @@ pub mod BracesRead
 pub mod Sane
 pub mod Moves
 pub mod Placing
+pub mod Placed
