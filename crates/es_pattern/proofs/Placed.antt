@@ -1,7 +1,7 @@
 -- What stands at a place is what the machine says there, wherever it comes so far.
 use Rattle.std.proofs.Common.{◌≡◌, ℕ, zero, suc, ◌+◌, ◌-◌, ◌*◌, ◌<◌, ◌≤◌, Bool, true, false, List, [], ◌∷◌, ◌++◌, inl, inr, length, take, drop, Option, Some, None, refl, sym, ap, subst, ◌∙◌, arith}
 use Rattle.std.specs.Prelude.{◌==◌, ◌&&◌, ◌||◌, ◌⊎◌, cond, nat_le, option_and_then}
-use Rattle.std.proofs.lemmas.List.{append_assoc, append-nil, take-append-drop, take_at, length-append, length-drop}
+use Rattle.std.proofs.lemmas.List.{append_assoc, append-nil, take-append-drop, take_at, length-append, length-drop, length-take-le}
 use Rattle.std.proofs.lemmas.Option.{same_Some, option_and_then_some}
 use Rattle.std.proofs.lemmas.Bool.{false≢true}
 use Rattle.std.proofs.lemmas.Bool.Decides.{nat_tests}
@@ -16,7 +16,7 @@ use Rattle.es_pattern.specs.declared.mode.Open.TheVariants.{Group}
 use Rattle.es_pattern.specs.declared.mode.Mode.{Mode}
 use Rattle.es_pattern.specs.declared.mode.Mode.TheVariants.{Term, Atom, Quantified, Zero, Braces, Escape, Paren, ParenQuestion, ClassOpen, ClassFirst, ClassNext, ClassLast}
 use Rattle.es_pattern.specs.declared.mode.Mode.TheVariants as modes
-use Rattle.es_pattern.specs.Reading.{Reading, step, step_in, in_braces, reads, start, at, settled, flushed, opened, is_inner}
+use Rattle.es_pattern.specs.Reading.{Reading, step, step_in, in_braces_end, bounds_of, plain, reads, start, at, flushed, opened, is_inner}
 use Rattle.es_pattern.proofs.BracesRead.{goes_on}
 use Rattle.es_pattern.proofs.Parsings.{reads-append}
 use Rattle.es_pattern.proofs.Moves.{Kind, outside, in_bounds, in_paren, in_question, behind, in_hex, class_front, inside, kind, behind_escape, Moves, step_moves, may_open_at, may_escape_at, pending_at, modes_agree}
@@ -378,14 +378,75 @@ quantifier_within text q bounds least most h =
 
 -- `{` begins braces wherever a group may begin
 brace_step : (m : Mode) (r : Reading) → r.mode ≡ m → may_open m ≡ true → (s : Reading) × (after_atom : Bool) × (step_in m 123 r ≡ Some s) × (s.mode ≡ Braces after_atom) × (s.braces ≡ [])
-brace_step m r at_m h = ?
+brace_step Term r at_m h = (at (Braces false) (record r { braces = [] }), false, refl, refl, refl)
+brace_step Atom r at_m h = (at (Braces true) (record r { braces = [] }), true, refl, refl, refl)
+brace_step Quantified r at_m h = (at (Braces false) (record r { braces = [] }), false, refl, refl, refl)
+brace_step Zero r at_m h = (at (Braces true) (record r { braces = [] }), true, refl, refl, refl)
+brace_step (Braces after_atom) r at_m h = (at (Braces true) (record (flushed after_atom r) { braces = [] }), true, refl, refl, refl)
+brace_step Escape r at_m h = absurd (false≢true h)
+brace_step (modes.Hex value left) r at_m h = absurd (false≢true h)
+brace_step Paren r at_m h = (at (Braces false) (record (opened Group r) { braces = [] }), false, refl, refl, refl)
+brace_step ParenQuestion r at_m h = absurd (false≢true h)
+brace_step ClassOpen r at_m h = absurd (false≢true h)
+brace_step ClassFirst r at_m h = absurd (false≢true h)
+brace_step ClassNext r at_m h = absurd (false≢true h)
+brace_step ClassLast r at_m h = absurd (false≢true h)
+brace_step (modes.ClassChar first) r at_m h = absurd (false≢true h)
+brace_step (modes.ClassDash first) r at_m h = absurd (false≢true h)
+brace_step (modes.ClassZero is_last) r at_m h = absurd (false≢true h)
+brace_step (modes.ClassEscape first) r at_m h = absurd (false≢true h)
+brace_step (modes.ClassHex first value left) r at_m h = absurd (false≢true h)
+
+inner_step : (after_atom : Bool) (c : ℕ) (s : Reading) → s.mode ≡ Braces after_atom → is_inner s.braces c ≡ true → step c s ≡ Some (record s { braces = s.braces ++ c ∷ [] })
+inner_step after_atom c s m inner =
+    ap (λ (j : Mode). step_in j c s) m
+    ∙ ap (λ (b : Bool). cond b (Some (record s { braces = s.braces ++ c ∷ [] })) (cond (c == 125) (in_braces_end (bounds_of s.braces) after_atom c s) (plain true false c (flushed after_atom s)))) inner
 
 -- the bounds' characters are read as such
 inner_reads : (whole done more tail : List ℕ) (least : ℕ) (most : Option ℕ) (after_atom : Bool) (s : Reading) → Bounds whole least most → whole ≡ done ++ (more ++ tail) → s.mode ≡ Braces after_atom → s.braces ≡ done
     → (t : Reading) × (reads more s ≡ Some t) × (t.mode ≡ Braces after_atom) × (t.braces ≡ done ++ more)
-inner_reads whole done more tail least most after_atom s b e m here = ?
+inner_reads whole done [] tail least most after_atom s b e m here = (s, refl, m, here ∙ sym (append-nil done))
+inner_reads whole done (c ∷ more) tail least most after_atom s b e m here =
+    let inner : is_inner s.braces c ≡ true = subst (λ (bs : List ℕ). is_inner bs c ≡ true) (sym here) (goes_on whole done c (more ++ tail) least most b e) in
+    let i = inner_reads whole (done ++ c ∷ []) more tail least most after_atom (record s { braces = s.braces ++ c ∷ [] }) b (e ∙ sym (append_assoc done (c ∷ []) (more ++ tail))) m (ap (λ (bs : List ℕ). bs ++ c ∷ []) here) in
+    (i.0, ap (option_and_then (reads more)) (inner_step after_atom c s m inner) ∙ i.1, i.2, i.3 ∙ append_assoc done (c ∷ []) more)
+
+open_outside : (k : Kind) (d depth : ℕ) (rest : List ℕ) → Agrees (groups depth) k d rest → may_open_at k ≡ true
+open_outside outside d depth rest h = refl
+open_outside (in_bounds bs) d depth rest h = refl
+open_outside in_paren d depth rest h = refl
+open_outside in_question d depth rest h = absurd h
+open_outside (behind in_a_class) d depth rest h = absurd h
+open_outside (in_hex in_a_class value left) d depth rest h = absurd h
+open_outside class_front d depth rest h = absurd h
+open_outside inside d depth rest h = absurd h
 
 -- where a quantifier in braces stands, the machine reads its braces as such
 pub quantifier_reads : (text : List ℕ) (q : ℕ) (bounds : List ℕ) (least : ℕ) (most : Option ℕ) (r : Reading) → IsQuantifierAt text q bounds least most → reads (take q text) start ≡ Some r → (k : ℕ) → k ≤ length bounds
     → (s : Reading) × (after_atom : Bool) × (reads (take (q + (k + 1)) text) start ≡ Some s) × (s.mode ≡ Braces after_atom) × (s.braces ≡ take k bounds)
-quantifier_reads text q bounds least most r h e k le = ?
+quantifier_reads text q bounds least most r h e k le = (i.0, b.1, all_read, i.2, i.3)
+  where
+    lt : q < length text
+    lt = quantifier_within text q bounds least most h
+
+    b : (s : Reading) × (after_atom : Bool) × (step 123 r ≡ Some s) × (s.mode ≡ Braces after_atom) × (s.braces ≡ [])
+    b = brace_step r.mode r refl ((modes_agree r.mode r.braces).0 ∙ open_outside (kind r) (length r.groups) h.depth (drop q text) (agrees_at text q (groups h.depth) r (omega (arith, lt)) h.place e))
+
+    i : (t : Reading) × (reads (take k bounds) b.0 ≡ Some t) × (t.mode ≡ Braces b.1) × (t.braces ≡ take k bounds)
+    i = inner_reads bounds [] (take k bounds) (drop k bounds) least most b.1 b.0 h.are_bounds (sym (take-append-drop k bounds)) b.3 b.4
+
+    split : text ≡ (take q text ++ 123 ∷ take k bounds) ++ (drop k bounds ++ 125 ∷ h.rest)
+    split =
+        sym (take-append-drop q text) ∙ ap (λ (xs : List ℕ). take q text ++ xs) (h.braces ∙ ap (λ (bs : List ℕ). 123 ∷ (bs ++ 125 ∷ h.rest)) (sym (take-append-drop k bounds)) ∙ ap (λ (xs : List ℕ). 123 ∷ xs) (append_assoc (take k bounds) (drop k bounds) (125 ∷ h.rest)))
+        ∙ sym (append_assoc (take q text) (123 ∷ take k bounds) (drop k bounds ++ 125 ∷ h.rest))
+
+    taken : take (q + (k + 1)) text ≡ take q text ++ 123 ∷ take k bounds
+    taken =
+        let one : length (take q text) ≡ q = length-take-le q text (omega (arith, lt)) in
+        let two : length (take k bounds) ≡ k = length-take-le k bounds le in
+        ap (take (q + (k + 1))) split ∙ take_at (take q text ++ 123 ∷ take k bounds) (drop k bounds ++ 125 ∷ h.rest) (q + (k + 1)) (omega (arith, length-append (take q text) (123 ∷ take k bounds), one, two))
+
+    all_read : reads (take (q + (k + 1)) text) start ≡ Some i.0
+    all_read =
+        ap (λ (xs : List ℕ). reads xs start) taken ∙ reads-append (take q text) (123 ∷ take k bounds) start ∙ ap (option_and_then (reads (123 ∷ take k bounds))) e
+        ∙ ap (option_and_then (reads (take k bounds))) b.2 ∙ i.1
