@@ -1,9 +1,7 @@
 -- What each character makes of the kind of place at which the machine stands, whatever trees it builds.
-use Rattle.std.proofs.Common.{◌≡◌, ℕ, zero, suc, ◌+◌, ◌-◌, ◌*◌, ◌<◌, ◌≤◌, Bool, true, false, cond, List, [], ◌∷◌, ◌++◌, inl, inr, length, Option, Some, None, refl, sym, ap, subst, ◌∙◌, arith}
-use Rattle.std.specs.Prelude.{◌==◌, ◌&&◌, ◌||◌, ◌⊎◌, max, nat_le, nat_lt}
+use Rattle.std.proofs.Common.{◌≡◌, ℕ, zero, suc, ◌+◌, ◌-◌, ◌*◌, Bool, true, false, cond, List, [], ◌∷◌, ◌++◌, length, Option, Some, None, refl, sym, ap, subst, ◌∙◌, arith}
+use Rattle.std.specs.Prelude.{◌==◌, ◌||◌, ◌⊎◌, max, nat_le}
 use Rattle.std.proofs.lemmas.Option.{same_Some}
-use Rattle.std.proofs.lemmas.Bool.{false≢true}
-use Rattle.std.proofs.lemmas.Bool.Decides.{nat_tests}
 use Rattle.es_pattern.specs.Tree.{CharRange, one_of, nothing, text_start, text_end, word_boundary, choice, lookahead}
 use Rattle.es_pattern.specs.Pieces.{top, below}
 use Rattle.es_pattern.specs.Escapes.{is_digit, set_of, escaped, hex_value}
@@ -30,6 +28,7 @@ pub data Kind : Type 0 where
   class_front : Kind
   inside : Kind
 
+-- the kind of place of a mode, with the characters of its braces
 abbrev pub kind_in : Mode → List ℕ → Kind
 kind_in Term braces = outside
 kind_in Atom braces = outside
@@ -67,6 +66,7 @@ pub data OutsideMoves (d c : ℕ) (k : Kind) (e : ℕ) : Type 0 where
   by_bracket : c ≡ 91 → k ≡ class_front → e ≡ d → OutsideMoves d c k e
   by_backslash : c ≡ 92 → k ≡ behind false → e ≡ d → OutsideMoves d c k e
 
+-- in braces, after `(`, behind a backslash, in hexadecimal digits, in a class and just after `[`
 pub data BoundsMoves (bs : List ℕ) (d c : ℕ) (k : Kind) (e : ℕ) : Type 0 where
   by_inner : (is_digit c ≡ true) ⊎ (c ≡ 44) → k ≡ in_bounds (bs ++ c ∷ []) → e ≡ d → BoundsMoves bs d c k e
   by_other : OutsideMoves d c k e → BoundsMoves bs d c k e
@@ -93,6 +93,7 @@ pub data FrontMoves (d c : ℕ) (k : Kind) (e : ℕ) : Type 0 where
   by_caret : c ≡ 94 → k ≡ inside → e ≡ d → FrontMoves d c k e
   by_first : (c ≡ 94 → ⊥) → InsideMoves d c k e → FrontMoves d c k e
 
+-- from a kind of place within d groups, by a character, to a kind of place within e groups
 abbrev pub Moves : Kind → ℕ → ℕ → Kind → ℕ → Type 0
 Moves outside d c k e = OutsideMoves d c k e
 Moves (in_bounds bs) d c k e = BoundsMoves bs d c k e
@@ -107,6 +108,7 @@ Moves inside d c k e = InsideMoves d c k e
 moved : (P : Kind → ℕ → Type 0) (x s : Reading) → Some x ≡ Some s → P (kind x) (length x.groups) → P (kind s) (length s.groups)
 moved P x s e h = subst (λ (y : Reading). P (kind y) (length y.groups)) (same_Some x s e) h
 
+-- a given character that is no structural one
 symbol_at : (c n : ℕ) → c == n ≡ true → is_structural n ≡ false → is_structural c ≡ false
 symbol_at c n e h = subst (λ (x : ℕ). is_structural x ≡ false) (sym (is_char c n e)) h
 
@@ -164,6 +166,7 @@ plain_moves after_atom may_be_lazy c r s e =
     settled_moves true n123 x = term_moves c (with_term r) s n123 x
     settled_moves false n123 x = term_moves c r s n123 x
 
+-- braces that are no quantifier open no group
 flushed_chars_groups : (cs : List ℕ) (r : Reading) → (flushed_chars cs r).groups ≡ r.groups
 flushed_chars_groups [] r = refl
 flushed_chars_groups (c ∷ cs) r = flushed_chars_groups cs (with_atom (char c) (with_term r))
@@ -172,6 +175,7 @@ flushed_groups : (after_atom : Bool) (r : Reading) → (flushed after_atom r).gr
 flushed_groups true r = flushed_chars_groups r.braces (record (with_atom (char 123) (with_term r)) { braces = [] })
 flushed_groups false r = flushed_chars_groups r.braces (record (with_atom (char 123) r) { braces = [] })
 
+-- in braces
 braces_moves : (after_atom : Bool) (c : ℕ) (r s : Reading) → r.mode ≡ Braces after_atom → in_braces after_atom c r ≡ Some s → BoundsMoves r.braces (length r.groups) c (kind s) (length s.groups)
 braces_moves after_atom c r s m e =
     let P : Type 0 = BoundsMoves r.braces (length r.groups) c (kind s) (length s.groups) in
@@ -188,6 +192,7 @@ braces_moves after_atom c r s m e =
     at_end None y x = by_other (broken x)
     at_end (Some bounds) y x = by_other (marked_moves after_atom 125 (r.atom_product * count_of bounds.0 bounds.1) bounds.0 bounds.1 r s c y refl refl x)
 
+-- a given letter that is no `x` and no `u`
 letter_at : (c n : ℕ) → c == n ≡ true → (n == 120 || n == 117) ≡ false → (c == 120 || c == 117) ≡ false
 letter_at c n e h = subst (λ (x : ℕ). (x == 120 || x == 117) ≡ false) (sym (is_char c n e)) h
 
@@ -203,6 +208,7 @@ set_letter c ranges h = by_x (c == 120) refl (c == 117) refl
     by_x false x true u = absurd (no_set 117 u refl)
     by_x false x false u = refl
 
+-- behind a backslash
 escape_moves : (c : ℕ) (r s : Reading) → with_set (set_of c) c r ≡ Some s → EscapeMoves false (length r.groups) c (kind s) (length s.groups)
 escape_moves c r s e = by_set (set_of c) refl e
   where
@@ -226,9 +232,11 @@ escape_moves c r s e = by_set (set_of c) refl e
         if_else (c == 48) _ _ s P x5 (λ y z. moved M (at Zero (with_atom (char 0) r)) s z (by_letter (letter_at c 48 y refl) refl refl)) (λ n48 x6.
         by_char (escaped c) n120 n117 x6)))))
 
+-- a digit is left
 not_over : (l : ℕ) → suc l == 0 ≡ true → ⊥
 not_over l y = let e : suc l ≡ 0 = is_char (suc l) 0 y in omega (arith, e)
 
+-- in an escape's hexadecimal digits
 hex_moves : (value left c : ℕ) (r s : Reading) → hex_by (hex_value c) value left r ≡ Some s → HexMoves false value left (length r.groups) c (kind s) (length s.groups)
 hex_moves value left c r s e = by_value (hex_value c) refl e
   where
@@ -249,6 +257,7 @@ hex_moves value left c r s e = by_value (hex_value c) refl e
         (λ l is y. let same : left - 1 ≡ l = omega (arith, is) in by_left d l here is (greatest_from (value * 16 + d) l)
         (subst (λ (k : ℕ). hex_to (greatest_from (value * 16 + d) k) (value * 16 + d) k r ≡ Some s) same y))
 
+-- in classes
 item_moves : (c : ℕ) (r s : Reading) → item c r ≡ Some s → InsideMoves (length r.groups) c (kind s) (length s.groups)
 item_moves c r s e =
     let P : Type 0 = InsideMoves (length r.groups) c (kind s) (length s.groups) in
@@ -270,6 +279,7 @@ after_char_moves first c r s e =
     let P : Type 0 = InsideMoves (length r.groups) c (kind s) (length s.groups) in
     if_else (c == 45) _ _ s P e (λ y x. moved (InsideMoves (length r.groups) c) (at (modes.ClassDash first) r) s x (by_member (member_at c 45 y refl) refl refl)) (λ n45 x. item_moves c (ranged first first r) s x)
 
+-- a character that was read in a class, or the end of a range
 class_char_inside : (P : Kind → ℕ → Type 0) (first : Option ℕ) (c : ℕ) (r s : Reading) → class_char first c r ≡ Some s → P inside (length r.groups) → P (kind s) (length s.groups)
 class_char_inside P None c r s e h = moved P (at (modes.ClassChar c) r) s e h
 class_char_inside P (Some first) c r s e h = if_else (nat_le first c) _ _ s (P (kind s) (length s.groups)) e (λ y x. moved P (at ClassNext (ranged first c r)) s x h) (λ n x. no_reading s x)
@@ -283,6 +293,7 @@ after_dash_moves first c r s e =
     if_else (c == 45) _ _ s P e3 (λ y x. if_else (nat_le first 45) _ _ s P x (λ le z. moved M (at ClassLast (ranged first 45 r)) s z (by_member (member_at c 45 y refl) refl refl)) (λ n z. no_reading s z)) (λ n45 x.
     class_char_inside M (Some first) c r s x (by_member (rw (n93, n92) refl) refl refl))))
 
+-- behind a backslash in a class
 class_escape_moves : (first : Option ℕ) (c : ℕ) (r s : Reading) → class_set (set_of c) first c r ≡ Some s → EscapeMoves true (length r.groups) c (kind s) (length s.groups)
 class_escape_moves first c r s e = by_set (set_of c) first refl e
   where
@@ -312,6 +323,7 @@ class_escape_moves first c r s e = by_set (set_of c) first refl e
     by_set (Some ranges) (Some k) here x = no_reading s x
     by_set None f here x = rest_moves f x
 
+-- in the hexadecimal digits of a class's escape
 class_hex_moves : (first : Option ℕ) (value left c : ℕ) (r s : Reading) → class_hex_by (hex_value c) first value left r ≡ Some s → HexMoves true value left (length r.groups) c (kind s) (length s.groups)
 class_hex_moves first value left c r s e = by_value (hex_value c) refl e
   where
@@ -332,6 +344,7 @@ class_hex_moves first value left c r s e = by_value (hex_value c) refl e
         (λ l is y. let same : left - 1 ≡ l = omega (arith, is) in by_left d l here is (greatest_from (value * 16 + d) l)
         (subst (λ (k : ℕ). class_hex_to (greatest_from (value * 16 + d) k) first (value * 16 + d) k r ≡ Some s) same y))
 
+-- after `(?`
 question_moves : (c : ℕ) (r s : Reading) → step_in ParenQuestion c r ≡ Some s → Moves in_question (length r.groups) c (kind s) (length s.groups)
 question_moves c r s e =
     let P : Type 0 = Moves in_question (length r.groups) c (kind s) (length s.groups) in
@@ -370,6 +383,7 @@ step_moves_in (modes.ClassZero false) c r s m e = if_else (is_digit c) _ _ s (In
 step_moves_in (modes.ClassEscape first) c r s m e = class_escape_moves first c r s e
 step_moves_in (modes.ClassHex first value left) c r s m e = class_hex_moves first value left c r s e
 
+-- a step of the machine, from kind to kind
 pub step_moves : (c : ℕ) (r s : Reading) → step c r ≡ Some s → Moves (kind r) (length r.groups) c (kind s) (length s.groups)
 step_moves c r s e = step_moves_in r.mode c r s refl e
 
@@ -404,6 +418,7 @@ pending_at (in_hex within_class value left) = 0
 pending_at class_front = 0
 pending_at inside = 0
 
+-- the mode allows what its kind of place allows
 pub modes_agree : (m : Mode) (braces : List ℕ) → (may_open m ≡ may_open_at (kind_in m braces)) × (may_escape m ≡ may_escape_at (kind_in m braces)) × (pending m ≡ pending_at (kind_in m braces))
 modes_agree Term braces = (refl, refl, refl)
 modes_agree Atom braces = (refl, refl, refl)

@@ -1,15 +1,15 @@
 -- What stands at a place is what the machine says there, wherever it comes so far.
-use Rattle.std.proofs.Common.{◌≡◌, ℕ, zero, suc, ◌+◌, ◌-◌, ◌*◌, ◌<◌, ◌≤◌, Bool, true, false, List, [], ◌∷◌, ◌++◌, inl, inr, length, take, drop, Option, Some, None, refl, sym, ap, subst, ◌∙◌, arith}
+use Rattle.std.proofs.Common.{◌≡◌, ℕ, zero, suc, ◌+◌, ◌-◌, ◌*◌, ◌<◌, ◌≤◌, Bool, true, false, List, [], ◌∷◌, ◌++◌, inl, inr, length, take, drop, Option, Some, refl, sym, ap, subst, ◌∙◌, arith}
 use Rattle.std.specs.Prelude.{◌==◌, ◌&&◌, ◌||◌, ◌⊎◌, cond, nat_le, option_and_then}
 use Rattle.std.proofs.lemmas.List.{append_assoc, append-nil, take-append-drop, take_at, length-append, length-drop, length-take-le}
 use Rattle.std.proofs.lemmas.Option.{same_Some, option_and_then_some}
 use Rattle.std.proofs.lemmas.Bool.{false≢true}
 use Rattle.std.proofs.lemmas.Bool.Decides.{nat_tests}
-use Rattle.es_pattern.specs.Escapes.{is_digit, hex_value}
+use Rattle.es_pattern.specs.Escapes.{hex_value}
 use Rattle.es_pattern.specs.Grammar.{Hex, Bounds}
 use Rattle.es_pattern.specs.Places.{Stands, Within, groups, class_in_groups, is_structural, BeginsQuestion, Escaped, other_escape, two_digit_escape, four_digit_escape}
 use Rattle.es_pattern.specs.Places.{at_front, past_symbol, past_escape, in_group, in_marked_group, past_group, in_class, in_negated_class, past_class_char, past_class_escape, past_class}
-use Rattle.es_pattern.specs.Refusals.{may_escape, may_open, pending, is_unsupported, is_too_deep}
+use Rattle.es_pattern.specs.Refusals.{may_open, pending, is_unsupported, is_too_deep}
 use Rattle.es_pattern.specs.Forms.{begins_unsupported_escape, begins_named_group, begins_group}
 use Rattle.es_pattern.specs.Faults.{IsUnsupportedAt, IsTooDeepAt, IsQuantifierAt}
 use Rattle.es_pattern.specs.declared.mode.Open.TheVariants.{Group}
@@ -21,7 +21,7 @@ use Rattle.es_pattern.proofs.BracesRead.{goes_on}
 use Rattle.es_pattern.proofs.Parsings.{reads-append}
 use Rattle.es_pattern.proofs.Moves.{Kind, outside, in_bounds, in_paren, in_question, behind, in_hex, class_front, inside, kind, behind_escape, Moves, step_moves, may_open_at, may_escape_at, pending_at, modes_agree}
 use Rattle.es_pattern.proofs.Moves.{OutsideMoves, by_symbol, by_brace, by_paren, by_close, by_bracket, by_backslash, BoundsMoves, by_inner, by_other, ParenMoves, by_question, by_content, EscapeMoves, by_letter, by_x, by_u, HexMoves, by_last, by_more, InsideMoves, by_end, by_class_backslash, by_member, FrontMoves, by_caret, by_first}
-use Rattle.es_pattern.proofs.Placing.{inner_symbol, within}
+use Rattle.es_pattern.proofs.Placing.{inner_symbol}
 
 -- the machine, within d groups, is at a kind of place that the tokens before the rest lead to
 abbrev pub Agrees : Within → Kind → ℕ → List ℕ → Type 0
@@ -58,6 +58,7 @@ told_next text c rest Q R h next = (h.0 ++ c ∷ [], h.1 ∙ sym (append_assoc h
     then_ r e = option_and_then_some (reads (c ∷ [])) (reads h.0 start) r (sym (reads-append h.0 (c ∷ []) start) ∙ e) (λ s is again. option_and_then_some (reads []) (step c s) r again (λ last stepped same.
         subst (λ (x : Reading). R (kind x) (length x.groups)) (same_Some last r same) (next (kind s) (length s.groups) (kind last) (length last.groups) (h.2 s is) (step_moves c s last stepped))))
 
+-- less holds too
 told_as : (text rest : List ℕ) (Q R : Kind → ℕ → Type 0) → Told text rest Q → ((k : Kind) (d : ℕ) → Q k d → R k d) → Told text rest R
 told_as text rest Q R h weaker = (h.0, h.1, λ r e. weaker (kind r) (length r.groups) (h.2 r e))
 
@@ -83,12 +84,15 @@ outside_moves (in_hex in_a_class value left) d c new e depth w h m = absurd h
 outside_moves class_front d c new e depth w h m = absurd h
 outside_moves inside d c new e depth w h m = absurd h
 
+-- the same at an equal kind of place
 agrees_as : (place : Within) (new k : Kind) (e d : ℕ) (w : List ℕ) → new ≡ k → e ≡ d → Agrees place k d w → Agrees place new e w
 agrees_as place new k e d w at_k at_d h = subst (λ (j : Kind). Agrees place j e w) (sym at_k) (subst (λ (n : ℕ). Agrees place k n w) (sym at_d) h)
 
+-- a structural character is one
 structural : (c n : ℕ) → c ≡ n → is_structural n ≡ true → is_structural c ≡ false → ⊥
 structural c n at_c is apart = false≢true (sym apart ∙ ap is_structural at_c ∙ is)
 
+-- a character that is no structural one
 symbol_agrees : (c : ℕ) (new : Kind) (e depth : ℕ) (w : List ℕ) → is_structural c ≡ false → OutsideStep depth c new e → Agrees (groups depth) new e w
 symbol_agrees c new e depth w apart (inl (by_symbol x not_brace at_k at_e)) = agrees_as (groups depth) new outside e depth w at_k at_e refl
 symbol_agrees c new e depth w apart (inl (by_brace at_c at_k at_e)) = agrees_as (groups depth) new (in_bounds []) e depth w at_k at_e refl
@@ -156,6 +160,7 @@ inside_moves inside d c new e depth w h m = inl (subst (λ (n : ℕ). InsideMove
 ending : (c n : ℕ) → c ≡ n → (n == 93 || n == 92) ≡ true → (c == 93 || c == 92) ≡ false → ⊥
 ending c n at_c is apart = false≢true (sym apart ∙ ap (λ (x : ℕ). x == 93 || x == 92) at_c ∙ is)
 
+-- a class's character
 member_agrees : (c : ℕ) (new : Kind) (e depth : ℕ) (w : List ℕ) → (c == 93 || c == 92) ≡ false → InsideStep depth c new e → Agrees (class_in_groups depth) new e w
 member_agrees c new e depth w apart (inl (by_end at_c at_k at_e)) = absurd (ending c 93 at_c refl apart)
 member_agrees c new e depth w apart (inl (by_class_backslash at_c at_k at_e)) = absurd (ending c 92 at_c refl apart)
@@ -189,6 +194,7 @@ more_moves in_a_class value left depth c v new e here (by_more w l is at_left at
     let same_left : suc l ≡ suc left = omega (arith, at_left) in
     (at_k ∙ ap (λ (n : ℕ). in_hex in_a_class (value * 16 + n) (suc l)) same_value ∙ ap (in_hex in_a_class (value * 16 + v)) same_left, at_e)
 
+-- to the end of an escape's digits
 hex_told : (in_a_class : Bool) (left value depth : ℕ) (text more rest : List ℕ) (ch : ℕ) → Hex (suc left) value more rest ch → Told text more (Exactly (in_hex in_a_class value (suc left)) depth) → Told text rest (Exactly (behind_escape in_a_class) depth)
 hex_told in_a_class zero value depth text more rest ch h t =
     let here = subst (λ (xs : List ℕ). Told text xs (Exactly (in_hex in_a_class value 1) depth)) h.3 t in
@@ -214,6 +220,7 @@ u_moves in_a_class depth new e (by_letter x at_k at_e) = absurd (false≢true (s
 u_moves in_a_class depth new e (by_x at_c at_k at_e) = absurd (omega (arith, at_c))
 u_moves in_a_class depth new e (by_u at_c at_k at_e) = (at_k, at_e)
 
+-- to the end of an escape
 escape_told : (in_a_class : Bool) (depth : ℕ) (text more rest : List ℕ) → Escaped more rest → Told text more (Exactly (behind in_a_class) depth) → Told text rest (Exactly (behind_escape in_a_class) depth)
 escape_told in_a_class depth text more rest (other_escape {c = c} apart) t =
     told_next text c rest (Exactly (behind in_a_class) depth) (Exactly (behind_escape in_a_class) depth) t (λ k d new e x m. letter_moves in_a_class depth c new e apart (exact_moves (behind in_a_class) depth k d c new e x m))
@@ -277,6 +284,7 @@ stands_told text place rest (past_class {depth = depth} h) =
     told_next text 93 rest (λ k d. Agrees (class_in_groups depth) k d (93 ∷ rest)) (λ k d. Agrees (groups depth) k d rest) (stands_told text (class_in_groups depth) (93 ∷ rest) h)
     (λ k d new e x m. let y = at_end_bracket new e depth (inside_moves k d 93 new e depth rest x m) in agrees_as (groups depth) new outside e depth rest y.0 y.1 refl)
 
+-- the machine, where it comes up to a place, is at such a kind of place
 pub agrees_at : (text : List ℕ) (q : ℕ) (place : Within) (r : Reading) → q ≤ length text → Stands text place (drop q text) → reads (take q text) start ≡ Some r → Agrees place (kind r) (length r.groups) (drop q text)
 agrees_at text q place r le h e = by_front (stands_told text place (drop q text) h)
   where
@@ -289,6 +297,7 @@ agrees_at text q place r le h e = by_front (stands_told text place (drop q text)
             let part : length (drop q text) ≡ length text - q = length-drop q text in
             ap (take q) split ∙ take_at front (drop q text) q (omega (arith, whole, part, le))
 
+-- the kinds of places outside classes, and in classes, refuse forms that aren't supported
 unsupported_outside : (k : Kind) (d depth : ℕ) (rest : List ℕ) → Agrees (groups depth) k d rest → (begins_unsupported_escape rest || begins_named_group rest) ≡ true → may_escape_at k && begins_unsupported_escape rest || may_open_at k && begins_named_group rest ≡ true
 unsupported_outside outside d depth rest h form = form
 unsupported_outside (in_bounds bs) d depth rest h form = form
@@ -329,6 +338,7 @@ unsupported_reads text q r le h e = by_place h
 test_from : (a b : ℕ) → a ≤ b → nat_le a b ≡ true
 test_from a b le = grind (arith, nat_tests)
 
+-- the kinds of places outside classes refuse groups too deep
 deep_outside : (k : Kind) (d depth : ℕ) (rest : List ℕ) → Agrees (groups depth) k d rest → 200 ≤ depth → begins_group rest ≡ true → may_open_at k && begins_group rest && nat_le 200 (d + pending_at k) ≡ true
 deep_outside outside d depth rest h deep form = rw form (test_from 200 (d + 0) (omega (arith, h, deep)))
 deep_outside (in_bounds bs) d depth rest h deep form = rw form (test_from 200 (d + 0) (omega (arith, h, deep)))
@@ -368,6 +378,7 @@ pub forms_within : (text : List ℕ) (q : ℕ) → IsUnsupportedAt text q → q 
 forms_within text q (inl (depth, place, form)) = left_within text q (form_left (drop q text) form)
 forms_within text q (inr (depth, place, form)) = left_within text q (escape_left (drop q text) form)
 
+-- the same of a group too deep, and of a quantifier in braces
 pub deep_within : (text : List ℕ) (q : ℕ) → IsTooDeepAt text q → q < length text
 deep_within text q (depth, place, deep, form) = left_within text q (group_left (drop q text) form)
 
@@ -397,6 +408,7 @@ brace_step (modes.ClassZero is_last) r at_m h = absurd (false≢true h)
 brace_step (modes.ClassEscape first) r at_m h = absurd (false≢true h)
 brace_step (modes.ClassHex first value left) r at_m h = absurd (false≢true h)
 
+-- a character more in braces
 inner_step : (after_atom : Bool) (c : ℕ) (s : Reading) → s.mode ≡ Braces after_atom → is_inner s.braces c ≡ true → step c s ≡ Some (record s { braces = s.braces ++ c ∷ [] })
 inner_step after_atom c s m inner =
     ap (λ (j : Mode). step_in j c s) m
@@ -411,6 +423,7 @@ inner_reads whole done (c ∷ more) tail least most after_atom s b e m here =
     let i = inner_reads whole (done ++ c ∷ []) more tail least most after_atom (record s { braces = s.braces ++ c ∷ [] }) b (e ∙ sym (append_assoc done (c ∷ []) (more ++ tail))) m (ap (λ (bs : List ℕ). bs ++ c ∷ []) here) in
     (i.0, ap (option_and_then (reads more)) (inner_step after_atom c s m inner) ∙ i.1, i.2, i.3 ∙ append_assoc done (c ∷ []) more)
 
+-- where a group may begin
 open_outside : (k : Kind) (d depth : ℕ) (rest : List ℕ) → Agrees (groups depth) k d rest → may_open_at k ≡ true
 open_outside outside d depth rest h = refl
 open_outside (in_bounds bs) d depth rest h = refl

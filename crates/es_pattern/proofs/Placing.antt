@@ -1,16 +1,16 @@
 -- What the machine has read stands at a place.
-use Rattle.std.proofs.Common.{◌≡◌, ℕ, zero, suc, ◌+◌, ◌-◌, ◌*◌, ◌<◌, ◌≤◌, Bool, true, false, cond, List, [], ◌∷◌, ◌++◌, inl, inr, length, get_or, take, drop, Option, Some, None, refl, sym, ap, subst, ◌∙◌, arith, lit<}
-use Rattle.std.specs.Prelude.{◌==◌, ◌&&◌, ◌||◌, ◌⊎◌, nat_le, option_and_then, encode_utf8_all, encode_utf8}
+use Rattle.std.proofs.Common.{◌≡◌, ℕ, zero, suc, ◌+◌, ◌-◌, ◌*◌, ◌<◌, ◌≤◌, Bool, true, false, List, [], ◌∷◌, ◌++◌, inl, inr, length, get_or, take, drop, Option, Some, refl, sym, ap, subst, ◌∙◌, arith, lit<}
+use Rattle.std.specs.Prelude.{◌==◌, ◌&&◌, ◌||◌, ◌⊎◌, nat_le, encode_utf8_all, encode_utf8}
 use Rattle.std.proofs.lemmas.Str.{encodes-append, length-encode, len_utf8_ascii}
 use Rattle.std.proofs.lemmas.List.{append_assoc, take-append-drop, take_at, drop_at, drop_more, length-append, length-drop}
 use Rattle.std.proofs.lemmas.Option.{same_Some, option_and_then_some}
 use Rattle.std.proofs.lemmas.Bool.{false≢true}
 use Rattle.std.proofs.lemmas.Bool.Decides.{nat_tests}
-use Rattle.es_pattern.specs.Escapes.{is_digit, hex_value}
+use Rattle.es_pattern.specs.Escapes.{is_digit}
 use Rattle.es_pattern.specs.Grammar.{Hex, BeginsCaret, Bounds}
 use Rattle.es_pattern.specs.Places.{Stands, Within, groups, class_in_groups, is_structural, BeginsQuestion, Escaped, other_escape, two_digit_escape, four_digit_escape}
 use Rattle.es_pattern.specs.Places.{at_front, past_symbol, past_escape, in_group, in_marked_group, past_group, in_class, in_negated_class, past_class_char, past_class_escape, past_class}
-use Rattle.es_pattern.specs.Refusals.{may_escape, may_open, pending, is_unsupported, is_too_deep}
+use Rattle.es_pattern.specs.Refusals.{may_open, pending, is_unsupported, is_too_deep}
 use Rattle.es_pattern.specs.Forms.{begins_unsupported_escape, begins_named_group, begins_group}
 use Rattle.es_pattern.specs.Faults.{byte_place, IsUnsupportedAt, IsTooDeepAt, IsQuantifierAt}
 use Rattle.es_pattern.specs.declared.mode.Mode.{Mode}
@@ -20,6 +20,7 @@ use Rattle.es_pattern.proofs.BracesRead.{AllInner, inner-append, bounds_sound}
 use Rattle.es_pattern.proofs.Moves.{Kind, outside, in_bounds, in_paren, in_question, behind, in_hex, class_front, inside, kind_in, kind, behind_escape, Moves, step_moves, may_open_at, may_escape_at, pending_at, modes_agree}
 use Rattle.es_pattern.proofs.Moves.{OutsideMoves, by_symbol, by_brace, by_paren, by_close, by_bracket, by_backslash, BoundsMoves, by_inner, by_other, ParenMoves, by_question, by_content, EscapeMoves, by_letter, by_x, by_u, HexMoves, by_last, by_more, InsideMoves, by_end, by_class_backslash, by_member, FrontMoves, by_caret, by_first}
 
+-- the place of an escape, in a class or not
 abbrev pub within : Bool → ℕ → Within
 within false d = groups d
 within true d = class_in_groups d
@@ -35,6 +36,7 @@ Placed (in_hex in_a_class value left) d text rest = (after : List ℕ) (ch : ℕ
 Placed class_front d text rest = Stands text (groups d) (91 ∷ rest)
 Placed inside d text rest = Stands text (class_in_groups d) rest
 
+-- past an escape, in a class or not
 past_any_escape : (in_a_class : Bool) (d : ℕ) (text more rest : List ℕ) → Stands text (within in_a_class d) (92 ∷ more) → Escaped more rest → Stands text (within in_a_class d) rest
 past_any_escape false d text more rest h x = past_escape h x
 past_any_escape true d text more rest h x = past_class_escape h x
@@ -68,6 +70,7 @@ placed_as new k e d text w at_k at_d h = subst (λ (j : Kind). Placed j e text w
 stands_at : (place : Within) (text : List ℕ) (c n : ℕ) (w : List ℕ) → c ≡ n → Stands text place (c ∷ w) → Stands text place (n ∷ w)
 stands_at place text c n w e h = subst (λ (x : ℕ). Stands text place (x ∷ w)) e h
 
+-- a character later, outside classes and escapes
 outside_next : (d c : ℕ) (k : Kind) (e : ℕ) (text w : List ℕ) → OutsideMoves d c k e → Stands text (groups d) (c ∷ w) → Placed k e text w
 outside_next d c k e text w (by_symbol plain_ not_brace at_k at_e) h = placed_as k outside e d text w at_k at_e (past_symbol h plain_)
 outside_next d c k e text w (by_brace at_c at_k at_e) h = placed_as k (in_bounds []) e d text w at_k at_e (tt, stands_at (groups d) text c 123 w at_c h)
@@ -76,11 +79,13 @@ outside_next d c k e text w (by_close at_c at_k at_d) h = placed_as k outside e 
 outside_next d c k e text w (by_bracket at_c at_k at_e) h = placed_as k class_front e d text w at_k at_e (stands_at (groups d) text c 91 w at_c h)
 outside_next d c k e text w (by_backslash at_c at_k at_e) h = placed_as k (behind false) e d text w at_k at_e (stands_at (groups d) text c 92 w at_c h)
 
+-- the same in a class
 inside_next : (d c : ℕ) (k : Kind) (e : ℕ) (text w : List ℕ) → InsideMoves d c k e → Stands text (class_in_groups d) (c ∷ w) → Placed k e text w
 inside_next d c k e text w (by_end at_c at_k at_e) h = placed_as k outside e d text w at_k at_e (past_class (stands_at (class_in_groups d) text c 93 w at_c h))
 inside_next d c k e text w (by_class_backslash at_c at_k at_e) h = placed_as k (behind true) e d text w at_k at_e (stands_at (class_in_groups d) text c 92 w at_c h)
 inside_next d c k e text w (by_member no_end at_k at_e) h = placed_as k inside e d text w at_k at_e (past_class_char h no_end)
 
+-- the same behind a backslash
 escape_next : (in_a_class : Bool) (d c : ℕ) (k : Kind) (e : ℕ) (text w : List ℕ) → EscapeMoves in_a_class d c k e → Stands text (within in_a_class d) (92 ∷ c ∷ w) → Placed k e text w
 escape_next in_a_class d c k e text w (by_letter apart at_k at_e) h =
     placed_as k (behind_escape in_a_class) e d text w at_k at_e (behind_placed in_a_class d text w (past_any_escape in_a_class d text (c ∷ w) w h (other_escape apart)))
@@ -89,6 +94,7 @@ escape_next in_a_class d c k e text w (by_x at_c at_k at_e) h =
 escape_next in_a_class d c k e text w (by_u at_c at_k at_e) h =
     placed_as k (in_hex in_a_class 0 4) e d text w at_k at_e (λ after ch x. past_any_escape in_a_class d text (117 ∷ w) after (subst (λ (n : ℕ). Stands text (within in_a_class d) (92 ∷ n ∷ w)) at_c h) (four_digit_escape x))
 
+-- the same in hexadecimal digits
 hex_next : (in_a_class : Bool) (value left d c : ℕ) (k : Kind) (e : ℕ) (text w : List ℕ) → HexMoves in_a_class value left d c k e → ((after : List ℕ) (ch : ℕ) → Hex left value (c ∷ w) after ch → Stands text (within in_a_class d) after) → Placed k e text w
 hex_next in_a_class value left d c k e text w (by_last v is at_left at_k at_e) h =
     let last : Hex 1 value (c ∷ w) w (value * 16 + v) = (c, v, w, refl, is, (refl, refl)) in
@@ -96,6 +102,7 @@ hex_next in_a_class value left d c k e text w (by_last v is at_left at_k at_e) h
 hex_next in_a_class value left d c k e text w (by_more v l is at_left at_k at_e) h =
     placed_as k (in_hex in_a_class (value * 16 + v) (suc l)) e d text w at_k at_e (λ after ch x. h after ch (subst (λ (n : ℕ). Hex n value (c ∷ w) after ch) (sym at_left) (c, v, w, refl, is, x)))
 
+-- the same in braces, after `(` and just after `[`
 bounds_next : (bs : List ℕ) (d c : ℕ) (k : Kind) (e : ℕ) (text w : List ℕ) → BoundsMoves bs d c k e → AllInner bs × Stands text (groups d) (123 ∷ (bs ++ c ∷ w)) → Placed k e text w
 bounds_next bs d c k e text w (by_inner is at_k at_e) h =
     placed_as k (in_bounds (bs ++ c ∷ [])) e d text w at_k at_e (inner-append bs (c ∷ []) h.0 (is, tt), subst (λ (xs : List ℕ). Stands text (groups d) (123 ∷ xs)) (sym (append_assoc bs (c ∷ []) w)) h.1)
@@ -125,6 +132,7 @@ placed_after : (front rest text : List ℕ) (s r : Reading) → reads front s �
 placed_after [] rest text s r e h = subst (λ (x : Reading). Placed (kind x) (length x.groups) text rest) (same_Some s r e) h
 placed_after (c ∷ front) rest text s r e h = option_and_then_some (reads front) (step c s) r e (λ next is again. placed_after front rest text next r again (placed_next (kind s) (length s.groups) c (kind next) (length next.groups) text (front ++ rest) (step_moves c s next is) h))
 
+-- what was read of the text stands at its place
 pub placed_at : (text : List ℕ) (n : ℕ) (r : Reading) → reads (take n text) start ≡ Some r → Placed (kind r) (length r.groups) text (drop n text)
 placed_at text n r e = placed_after (take n text) (drop n text) text start r e (subst (λ (xs : List ℕ). Stands text (groups 0) xs) (sym (take-append-drop n text)) at_front)
 
@@ -135,11 +143,13 @@ no_form_at_question (c ∷ []) h b = absurd (false≢true h)
 no_form_at_question (c ∷ x ∷ []) h b = false≢true (subst (λ (n : ℕ). (begins_unsupported_escape (n ∷ x ∷ []) || begins_named_group (n ∷ x ∷ [])) ≡ true) b h)
 no_form_at_question (c ∷ x ∷ y ∷ rest) h b = false≢true (subst (λ (n : ℕ). (begins_unsupported_escape (n ∷ x ∷ y ∷ rest) || begins_named_group (n ∷ x ∷ y ∷ rest)) ≡ true) b h)
 
+-- `^` begins no escape
 no_escape_at_caret : (rest : List ℕ) → begins_unsupported_escape rest ≡ true → BeginsCaret rest → ⊥
 no_escape_at_caret [] h b = b
 no_escape_at_caret (c ∷ []) h b = absurd (false≢true h)
 no_escape_at_caret (c ∷ x ∷ rest) h b = false≢true (subst (λ (n : ℕ). begins_unsupported_escape (n ∷ x ∷ rest) ≡ true) b h)
 
+-- `?` begins no group
 no_group_at_question : (rest : List ℕ) → begins_group rest ≡ true → BeginsQuestion rest → ⊥
 no_group_at_question [] h b = b
 no_group_at_question (c ∷ rest) h b = false≢true (subst (λ (n : ℕ). begins_group (n ∷ rest) ≡ true) b h)
@@ -163,6 +173,7 @@ UnsupportedHere text rest = ((depth : ℕ) × Stands text (groups depth) rest ×
 abbrev TooDeepHere : List ℕ → List ℕ → Type 0
 TooDeepHere text rest = (depth : ℕ) × Stands text (groups depth) rest × (200 ≤ depth) × (begins_group rest ≡ true)
 
+-- what a kind of place refuses stands there
 unsupported_kind : (k : Kind) (d : ℕ) (text rest : List ℕ) → Placed k d text rest → may_escape_at k && begins_unsupported_escape rest || may_open_at k && begins_named_group rest ≡ true → UnsupportedHere text rest
 unsupported_kind outside d text rest h e = inl (d, h, e)
 unsupported_kind (in_bounds bs) d text rest h e = inl (d, past_inner d text bs rest h.0 (past_symbol h.1 refl), e)
@@ -181,6 +192,7 @@ unsupported_placed text n r le e h =
     unsupported_kind (kind r) (length r.groups) text rest (placed_at text n r e)
     (subst (λ (b : Bool). may_escape_at (kind r) && begins_unsupported_escape rest || b && begins_named_group rest ≡ true) same.0 (subst (λ (b : Bool). b && begins_unsupported_escape rest || may_open r.mode && begins_named_group rest ≡ true) same.1 h))
 
+-- the same of a group too deep
 deep_kind : (k : Kind) (d : ℕ) (text rest : List ℕ) → Placed k d text rest → may_open_at k && begins_group rest && nat_le 200 (d + pending_at k) ≡ true → TooDeepHere text rest
 deep_kind outside d text rest h e = let parts = both_true (begins_group rest) (nat_le 200 (d + 0)) e in let deep = from_test 200 (d + 0) parts.1 in (d, h, omega (arith, deep), parts.0)
 deep_kind (in_bounds bs) d text rest h e = let parts = both_true (begins_group rest) (nat_le 200 (d + 0)) e in let deep = from_test 200 (d + 0) parts.1 in (d, past_inner d text bs rest h.0 (past_symbol h.1 refl), omega (arith, deep), parts.0)
@@ -203,6 +215,7 @@ deep_placed text n r le e h =
 abbrev pub EndsWith : List ℕ → List ℕ → Type 0
 EndsWith text rest = (front : List ℕ) × (text ≡ front ++ rest)
 
+-- the end after its first character, and the end of an end
 further : (text : List ℕ) (c : ℕ) (rest : List ℕ) → EndsWith text (c ∷ rest) → EndsWith text rest
 further text c rest h = (h.0 ++ c ∷ [], h.1 ∙ sym (append_assoc h.0 (c ∷ []) rest))
 
@@ -218,6 +231,7 @@ escaped_ends more rest (other_escape {c = c} apart) = (c ∷ [], refl)
 escaped_ends more rest (two_digit_escape {text = text} {c = c} h) = let g = hex_ends 2 0 text rest c h in (120 ∷ g.0, ap (λ (xs : List ℕ). 120 ∷ xs) g.1)
 escaped_ends more rest (four_digit_escape {text = text} {c = c} h) = let g = hex_ends 4 0 text rest c h in (117 ∷ g.0, ap (λ (xs : List ℕ). 117 ∷ xs) g.1)
 
+-- what is left at a place is the end of the text
 pub stands_ends : (text : List ℕ) (place : Within) (rest : List ℕ) → Stands text place rest → EndsWith text rest
 stands_ends text place rest at_front = ([], refl)
 stands_ends text place rest (past_symbol {depth = d} {c = c} h apart) = further text c rest (stands_ends text (groups d) (c ∷ rest) h)
