@@ -29,7 +29,8 @@ use Rattle.es_pattern.proofs.Viable.{viable}
 use Rattle.es_pattern.proofs.Above.{term_above}
 use Rattle.es_pattern.proofs.Beginnings.{completes_before, completes_pattern, pattern_reads, begins_reads, reads_begins, reads_part, reads_step, syntax_stops, syntax_ends, no_syntax_before}
 use Rattle.es_pattern.proofs.Kept.{sane_reads, measured_reads}
-use Rattle.es_pattern.proofs.Stubs.{unsupported_placed, deep_placed, quantifier_placed, unsupported_reads, deep_reads, quantifier_reads, unsupported_within, deep_within, quantifier_within}
+use Rattle.es_pattern.proofs.Placing.{unsupported_placed, deep_placed, quantifier_placed}
+use Rattle.es_pattern.proofs.Placed.{unsupported_reads, deep_reads, quantifier_reads, forms_within, deep_within, quantifier_within}
 
 -- the heads of the forms that are refused
 head_of : (text rest : List ℕ) (n c : ℕ) → drop n text ≡ c ∷ rest → get_or text n 0 ≡ c
@@ -283,12 +284,12 @@ all_read text r e = ap (λ (xs : List ℕ). reads xs start) (sym (take_all (leng
 
 pub end_first : (text : List ℕ) (r : Reading) → Comes text (length text) r → finished r ≡ None → IsFirstFault text (Syntax (byte_place text (length text)))
 end_first text r c stop =
-    (length text, refl, clear_before text (length text) r c.within c.so_far c.passes (length text) (omega arith) (end_spans text), (λ h. absurd (omega (arith, unsupported_within text (length text) h))),
+    (length text, refl, clear_before text (length text) r c.within c.so_far c.passes (length text) (omega arith) (end_spans text), (λ h. absurd (omega (arith, forms_within text (length text) h))),
     (λ h. absurd (omega (arith, too_large_within text (length text) h))), syntax_ends text r (all_read text r c.so_far) stop)
 
 -- what is accepted has no fault
 pub accepted_clear : (text : List ℕ) (r : Reading) (t : Tree) → Comes text (length text) r → finished r ≡ Some t → IsClear text
-accepted_clear text r t c end_ = λ p. ((λ h. clear.supported p (unsupported_within text p h) h), (λ h. clear.small p (too_large_within text p h) h), by_place p)
+accepted_clear text r t c end_ = λ p. ((λ h. clear.supported p (forms_within text p h) h), (λ h. clear.small p (too_large_within text p h) h), by_place p)
   where
     clear : IsClearBefore text (length text)
     clear = clear_before text (length text) r c.within c.so_far c.passes (length text) (omega arith) (end_spans text)

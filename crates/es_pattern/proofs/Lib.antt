@@ -10,7 +10,6 @@ pub mod BracesRead
 pub mod Sane
 pub mod Viable
 pub mod Above
-pub mod Stubs
 pub mod Beginnings
 pub mod FirstFaults
 pub mod TakingTerms
@@ -20,3 +19,6 @@ pub mod HexDigits
 pub mod TakingClasses
 pub mod Taking
 pub mod OneFault
+pub mod Moves
+pub mod Placing
+pub mod Placed

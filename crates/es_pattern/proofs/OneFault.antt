@@ -37,14 +37,14 @@ large_there text p q same h = subst (λ (k : ℕ). IsTooLargeAt text k) same h
 
 same_fault : (text : List ℕ) (e f : PatternError) → IsFirstFault text e → IsFirstFault text f → e ≡ f
 same_fault text (Unsupported a) (Unsupported b) (p, at_p, clear_p, u) (q, at_q, clear_q, v) = ap Unsupported (same_bytes text p q a b at_p at_q (same_place text p q clear_p (inl u) clear_q (inl v)))
-same_fault text (Unsupported a) (CountTooLarge b) (p, at_p, clear_p, u) (q, at_q, clear_q, no, v) = absurd (no (there text p q (same_place text p q clear_p (inl u) clear_q (inr (inl v))) u))
-same_fault text (Unsupported a) (Syntax b) (p, at_p, clear_p, u) (q, at_q, clear_q, no, none, v) = absurd (no (there text p q (same_place text p q clear_p (inl u) clear_q (inr (inr v))) u))
-same_fault text (CountTooLarge a) (Unsupported b) (p, at_p, clear_p, no, u) (q, at_q, clear_q, v) = absurd (no (there text q p (same_place text q p clear_q (inl v) clear_p (inr (inl u))) v))
-same_fault text (CountTooLarge a) (CountTooLarge b) (p, at_p, clear_p, no, u) (q, at_q, clear_q, none, v) = ap CountTooLarge (same_bytes text p q a b at_p at_q (same_place text p q clear_p (inr (inl u)) clear_q (inr (inl v))))
-same_fault text (CountTooLarge a) (Syntax b) (p, at_p, clear_p, no, u) (q, at_q, clear_q, none, small, v) = absurd (small (large_there text p q (same_place text p q clear_p (inr (inl u)) clear_q (inr (inr v))) u))
-same_fault text (Syntax a) (Unsupported b) (p, at_p, clear_p, no, small, u) (q, at_q, clear_q, v) = absurd (no (there text q p (same_place text q p clear_q (inl v) clear_p (inr (inr u))) v))
-same_fault text (Syntax a) (CountTooLarge b) (p, at_p, clear_p, no, small, u) (q, at_q, clear_q, none, v) = absurd (small (large_there text q p (same_place text q p clear_q (inr (inl v)) clear_p (inr (inr u))) v))
-same_fault text (Syntax a) (Syntax b) (p, at_p, clear_p, no, small, u) (q, at_q, clear_q, none, small_q, v) = ap Syntax (same_bytes text p q a b at_p at_q (same_place text p q clear_p (inr (inr u)) clear_q (inr (inr v))))
+same_fault text (Unsupported a) (CountTooLarge b) (p, at_p, clear_p, u) (q, at_q, clear_q, apart, v) = absurd (apart (there text p q (same_place text p q clear_p (inl u) clear_q (inr (inl v))) u))
+same_fault text (Unsupported a) (Syntax b) (p, at_p, clear_p, u) (q, at_q, clear_q, apart, apart_q, v) = absurd (apart (there text p q (same_place text p q clear_p (inl u) clear_q (inr (inr v))) u))
+same_fault text (CountTooLarge a) (Unsupported b) (p, at_p, clear_p, apart, u) (q, at_q, clear_q, v) = absurd (apart (there text q p (same_place text q p clear_q (inl v) clear_p (inr (inl u))) v))
+same_fault text (CountTooLarge a) (CountTooLarge b) (p, at_p, clear_p, apart, u) (q, at_q, clear_q, not_q, v) = ap CountTooLarge (same_bytes text p q a b at_p at_q (same_place text p q clear_p (inr (inl u)) clear_q (inr (inl v))))
+same_fault text (CountTooLarge a) (Syntax b) (p, at_p, clear_p, apart, u) (q, at_q, clear_q, apart_q, small, v) = absurd (small (large_there text p q (same_place text p q clear_p (inr (inl u)) clear_q (inr (inr v))) u))
+same_fault text (Syntax a) (Unsupported b) (p, at_p, clear_p, apart, small, u) (q, at_q, clear_q, v) = absurd (apart (there text q p (same_place text q p clear_q (inl v) clear_p (inr (inr u))) v))
+same_fault text (Syntax a) (CountTooLarge b) (p, at_p, clear_p, apart, small, u) (q, at_q, clear_q, apart_q, v) = absurd (small (large_there text q p (same_place text q p clear_q (inr (inl v)) clear_p (inr (inr u))) v))
+same_fault text (Syntax a) (Syntax b) (p, at_p, clear_p, apart, small, u) (q, at_q, clear_q, apart_q, small_q, v) = ap Syntax (same_bytes text p q a b at_p at_q (same_place text p q clear_p (inr (inr u)) clear_q (inr (inr v))))
 same_fault text NoMemory f h g = absurd h
 same_fault text (Syntax a) NoMemory h g = absurd g
 same_fault text (Unsupported a) NoMemory h g = absurd g
@@ -53,8 +53,8 @@ same_fault text (CountTooLarge a) NoMemory h g = absurd g
 -- a clear text has no first fault
 no_fault : (text : List ℕ) (e : PatternError) → IsClear text → IsFirstFault text e → ⊥
 no_fault text (Unsupported a) clear (p, at_p, clear_p, u) = (clear p).0 u
-no_fault text (CountTooLarge a) clear (p, at_p, clear_p, no, u) = (clear p).1 u
-no_fault text (Syntax a) clear (p, at_p, clear_p, no, small, u) = (clear p).2 u
+no_fault text (CountTooLarge a) clear (p, at_p, clear_p, apart, u) = (clear p).1 u
+no_fault text (Syntax a) clear (p, at_p, clear_p, apart, small, u) = (clear p).2 u
 no_fault text NoMemory clear h = h
 
 caused_as : (text : List ℕ) (e f : PatternError) → IsFirstFault text e → IsCaused text f → (f ≡ e) ⊎ (f ≡ NoMemory)
