@@ -22,3 +22,4 @@ pub mod OneFault
 pub mod Moves
 pub mod Placing
 pub mod Placed
+pub mod Refusing

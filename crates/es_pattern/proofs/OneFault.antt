@@ -1,11 +1,10 @@
 -- A text has one first fault, and then no pattern is answered.
 use Rattle.std.proofs.Common.{◌≡◌, ℕ, ◌<◌, ◌≤◌, List, inl, inr, refl, sym, ap, subst, ◌∙◌, arith}
-use Rattle.std.specs.Prelude.{◌⊎◌, Result, Ok, Err, MatchResult, IfErr, OnOk}
+use Rattle.std.specs.Prelude.{◌⊎◌}
 use Rattle.std.proofs.lemmas.Bool.{cases_lt}
 use Rattle.es_pattern.specs.declared.error.PatternError.{PatternError}
 use Rattle.es_pattern.specs.declared.error.PatternError.TheVariants.{Syntax, Unsupported, CountTooLarge, NoMemory}
-use Rattle.es_pattern.specs.Faults.{IsUnsupportedAt, IsTooLargeAt, IsSyntaxAt, IsClearBefore, IsFirstFault, IsCaused, IsClear, FailsBy, byte_place}
-use Rattle.es_pattern.proofs.Runnings.{lt_or_same}
+use Rattle.es_pattern.specs.Faults.{IsUnsupportedAt, IsTooLargeAt, IsSyntaxAt, IsClearBefore, IsFirstFault, IsCaused, IsClear, byte_place}
 
 -- something is refused at the place
 abbrev IsRefusedAt : List ℕ → ℕ → Type 0
@@ -51,19 +50,15 @@ same_fault text (Unsupported a) NoMemory h g = absurd g
 same_fault text (CountTooLarge a) NoMemory h g = absurd g
 
 -- a clear text has no first fault
-no_fault : (text : List ℕ) (e : PatternError) → IsClear text → IsFirstFault text e → ⊥
+pub no_fault : (text : List ℕ) (e : PatternError) → IsClear text → IsFirstFault text e → ⊥
 no_fault text (Unsupported a) clear (p, at_p, clear_p, u) = (clear p).0 u
 no_fault text (CountTooLarge a) clear (p, at_p, clear_p, apart, u) = (clear p).1 u
 no_fault text (Syntax a) clear (p, at_p, clear_p, apart, small, u) = (clear p).2 u
 no_fault text NoMemory clear h = h
 
-caused_as : (text : List ℕ) (e f : PatternError) → IsFirstFault text e → IsCaused text f → (f ≡ e) ⊎ (f ≡ NoMemory)
+-- an error that is caused is the first fault, or want of memory
+pub caused_as : (text : List ℕ) (e f : PatternError) → IsFirstFault text e → IsCaused text f → (f ≡ e) ⊎ (f ≡ NoMemory)
 caused_as text e (Syntax a) h g = inl (same_fault text (Syntax a) e g h)
 caused_as text e (Unsupported a) h g = inl (same_fault text (Unsupported a) e g h)
 caused_as text e (CountTooLarge a) h g = inl (same_fault text (CountTooLarge a) e g h)
 caused_as text e NoMemory h g = inr refl
-
--- an answer that is clear where it is a pattern, and caused where it isn't, is the first fault if there is one
-pub fails_by : {A : Type 0} (text : List ℕ) (result : Result A PatternError) (e : PatternError) → OnOk result (IsClear text) → IfErr result (IsCaused text) → IsFirstFault text e → FailsBy e result
-fails_by text (Ok x) e clear caused h = no_fault text e clear h
-fails_by text (Err f) e clear caused h = caused_as text e f h caused
