@@ -1,10 +1,14 @@
 -- A text has one first fault, and then no pattern is answered.
-use Rattle.std.proofs.Common.{◌≡◌, ℕ, ◌<◌, ◌≤◌, List, inl, inr, refl, sym, ap, subst, ◌∙◌, arith}
+use Rattle.std.proofs.Common.{◌≡◌, ℕ, ◌+◌, ◌<◌, ◌≤◌, List, length, drop, inl, inr, refl, sym, ap, subst, ◌∙◌, arith}
 use Rattle.std.specs.Prelude.{◌⊎◌}
 use Rattle.std.proofs.lemmas.Bool.{cases_lt}
+use Rattle.std.proofs.lemmas.List.{take-append-drop}
+use Rattle.es_pattern.specs.Tree.{Tree}
+use Rattle.es_pattern.specs.Grammar.{IsPattern}
+use Rattle.es_pattern.proofs.Runnings.{lt_or_same}
 use Rattle.es_pattern.specs.declared.error.PatternError.{PatternError}
 use Rattle.es_pattern.specs.declared.error.PatternError.TheVariants.{Syntax, Unsupported, CountTooLarge, NoMemory}
-use Rattle.es_pattern.specs.Faults.{IsUnsupportedAt, IsTooLargeAt, IsSyntaxAt, IsClearBefore, IsFirstFault, IsCaused, IsClear, byte_place}
+use Rattle.es_pattern.specs.Faults.{IsUnsupportedAt, IsTooLargeAt, IsSyntaxAt, IsClearBefore, IsFirstFault, IsCaused, IsClear, IsWithinLimits, byte_place}
 
 -- something is refused at the place
 abbrev IsRefusedAt : List ℕ → ℕ → Type 0
@@ -62,3 +66,18 @@ caused_as text e (Syntax a) h g = inl (same_fault text (Syntax a) e g h)
 caused_as text e (Unsupported a) h g = inl (same_fault text (Unsupported a) e g h)
 caused_as text e (CountTooLarge a) h g = inl (same_fault text (CountTooLarge a) e g h)
 caused_as text e NoMemory h g = inr refl
+
+-- a pattern has no syntax fault
+no_syntax : (text : List ℕ) (tree : Tree) (p : ℕ) → IsPattern text tree → IsSyntaxAt text p → ⊥
+no_syntax text tree p h fault = by_order (lt_or_same p (length text) fault.within)
+  where
+    by_order : (p < length text) ⊎ (p ≡ length text) → ⊥
+    by_order (inl lt) = fault.stops lt (drop (p + 1) text, tree, subst (λ (xs : List ℕ). IsPattern xs tree) (sym (take-append-drop (p + 1) text)) h)
+    by_order (inr same) = fault.ends same tree h
+
+-- a text of the grammar within the limits is refused for want of memory alone
+pub caused_by_memory : (text : List ℕ) (tree : Tree) (e : PatternError) → IsPattern text tree → IsWithinLimits text → IsCaused text e → e ≡ NoMemory
+caused_by_memory text tree (Syntax a) h limits (p, at_p, clear, apart, small, fault) = absurd (no_syntax text tree p h fault)
+caused_by_memory text tree (Unsupported a) h limits (p, at_p, clear, u) = absurd ((limits p).0 u)
+caused_by_memory text tree (CountTooLarge a) h limits (p, at_p, clear, apart, u) = absurd ((limits p).1 u)
+caused_by_memory text tree NoMemory h limits g = refl

@@ -1,4 +1,4 @@
--- Which texts are refused, with which fault, and at which place: the first fault in the text decides, and at one place the order is Unsupported, CountTooLarge, Syntax. A place here counts characters, and the answer counts bytes.
+-- Which texts are refused, with which fault, and at which place. The leftmost fault is told; of faults that share a place a form that isn't supported comes first, and a syntax fault last. A place here counts characters, and the answer counts bytes.
 use Rattle.std.specs.Prelude.{◌≡◌, ℕ, ◌+◌, ◌≤◌, ◌<◌, ◌||◌, true, List, ◌∷◌, ◌++◌, length, take, drop, encode_utf8_all, Option, Result, MatchResult, ◌⊎◌}
 use Rattle.es_pattern.specs.declared.error.PatternError.{PatternError}
 use Rattle.es_pattern.specs.declared.error.PatternError.TheVariants.{Syntax, Unsupported, CountTooLarge, NoMemory}
@@ -21,7 +21,7 @@ abbrev pub IsUnsupportedAt : List ℕ → ℕ → Type 0
 IsUnsupportedAt text p =
     ((depth : ℕ) × Stands text (groups depth) (drop p text) × ((begins_unsupported_escape (drop p text) || begins_named_group (drop p text)) ≡ true)) ⊎ ((depth : ℕ) × Stands text (class_in_groups depth) (drop p text) × (begins_unsupported_escape (drop p text) ≡ true))
 
--- the 201st group within one another begins at the place
+-- a group begins at the place within 200 others
 abbrev pub IsTooDeepAt : List ℕ → ℕ → Type 0
 IsTooDeepAt text p = (depth : ℕ) × Stands text (groups depth) (drop p text) × (200 ≤ depth) × (begins_group (drop p text) ≡ true)
 
@@ -37,12 +37,13 @@ pub record IsQuantifierAt (text : List ℕ) (p : ℕ) (bounds : List ℕ) (least
 abbrev pub IsCountAt : List ℕ → ℕ → Type 0
 IsCountAt text p = (bounds : List ℕ) × (least : ℕ) × (most : Option ℕ) × IsQuantifierAt text p bounds least most × (is_above_limit least most ≡ true)
 
--- with it the product of nested counts passes the limit: patterns begin with the text up to and including the quantifier, and in each of them it does
+-- at its end the product of nested counts has passed the limit: patterns begin with the text up to and including the quantifier, and in each of them it has. The first such quantifier is the one that passes it
 abbrev pub IsProductAt : List ℕ → ℕ → Type 0
 IsProductAt text p =
     (bounds : List ℕ) × (least : ℕ) × (most : Option ℕ) × IsQuantifierAt text p bounds least most × BeginsPattern (take (p + (length bounds + 2)) text)
     × ((rest : List ℕ) (tree : Tree) → IsPattern (take (p + (length bounds + 2)) text ++ rest) tree → 100000 < product_of tree)
 
+-- too many groups, too large a count, or too large a product
 abbrev pub IsTooLargeAt : List ℕ → ℕ → Type 0
 IsTooLargeAt text p = IsTooDeepAt text p ⊎ (IsCountAt text p ⊎ IsProductAt text p)
 
@@ -67,6 +68,10 @@ IsFirstFault text (Syntax place) = (p : ℕ) × (place ≡ byte_place text p) ×
 -- want of memory is no fault of the text
 IsFirstFault text NoMemory = ⊥
 
+-- no form in the text is unsupported, and no group, count or product is too large
+abbrev pub IsWithinLimits : List ℕ → Type 0
+IsWithinLimits text = (p : ℕ) → (IsUnsupportedAt text p → ⊥) × (IsTooLargeAt text p → ⊥)
+
 -- nothing in the text is refused
 abbrev pub IsClear : List ℕ → Type 0
 IsClear text = (p : ℕ) → (IsUnsupportedAt text p → ⊥) × (IsTooLargeAt text p → ⊥) × (IsSyntaxAt text p → ⊥)
@@ -74,6 +79,10 @@ IsClear text = (p : ℕ) → (IsUnsupportedAt text p → ⊥) × (IsTooLargeAt t
 -- the answer is this fault, unless memory ran out
 abbrev pub FailsBy : {A : Type 0} → PatternError → Result A PatternError → Type 0
 FailsBy e result = MatchResult result (λ _. ⊥) (λ f. (f ≡ e) ⊎ (f ≡ NoMemory))
+
+-- an answer, unless memory ran out
+abbrev pub Succeeds : {A : Type 0} → Result A PatternError → Type 0
+Succeeds result = MatchResult result (λ _. Unit {0}) (λ f. f ≡ NoMemory)
 
 -- an error is the first fault, or want of memory
 abbrev pub IsCaused : List ℕ → PatternError → Type 0

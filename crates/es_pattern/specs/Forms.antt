@@ -1,14 +1,11 @@
--- Forms of ECMAScript that aren't supported, by the text that they begin with.
-use Rattle.std.specs.Prelude.{ℕ, ◌==◌, ◌&&◌, ◌||◌, Bool, false, nat_le, List, [], ◌∷◌}
+-- The text that forms begin with which are refused: those of ECMAScript that aren't supported, and groups.
+use Rattle.std.specs.Prelude.{ℕ, ◌+◌, ◌*◌, ◌==◌, ◌&&◌, ◌||◌, Bool, false, nat_le, List, [], ◌∷◌, Option, Some, None}
+use Rattle.es_pattern.specs.Escapes.{hex_value, is_surrogate}
 
-abbrev pub is_hex : ℕ → Bool
-is_hex c = nat_le 48 c && nat_le c 57 || nat_le 65 c && nat_le c 70 || nat_le 97 c && nat_le c 102
-
-abbrev pub is_d : ℕ → Bool
-is_d c = (c == 100) || (c == 68)
-
-abbrev pub is_surrogate_digit : ℕ → Bool
-is_surrogate_digit c = (c == 56) || (c == 57) || nat_le 97 c && nat_le c 102 || nat_le 65 c && nat_le c 70
+-- the values of four hexadecimal digits make a surrogate
+abbrev pub make_surrogate : Option ℕ → Option ℕ → Option ℕ → Option ℕ → Bool
+make_surrogate (Some a) (Some b) (Some c) (Some d) = is_surrogate (((a * 16 + b) * 16 + c) * 16 + d)
+make_surrogate a b c d = false
 
 -- four hexadecimal digits of a surrogate
 abbrev pub begins_surrogate : List ℕ → Bool
@@ -16,8 +13,9 @@ begins_surrogate [] = false
 begins_surrogate (a ∷ []) = false
 begins_surrogate (a ∷ b ∷ []) = false
 begins_surrogate (a ∷ b ∷ c ∷ []) = false
-begins_surrogate (a ∷ b ∷ c ∷ d ∷ rest) = is_d a && is_surrogate_digit b && is_hex c && is_hex d
+begins_surrogate (a ∷ b ∷ c ∷ d ∷ rest) = make_surrogate (hex_value a) (hex_value b) (hex_value c) (hex_value d)
 
+-- `k`, `p`, `P`, `c`, and `1` to `9`
 abbrev pub is_unsupported_letter : ℕ → Bool
 is_unsupported_letter c = (c == 107) || (c == 112) || (c == 80) || (c == 99) || nat_le 49 c && nat_le c 57
 
@@ -35,6 +33,7 @@ begins_named_group (a ∷ []) = false
 begins_named_group (a ∷ b ∷ []) = false
 begins_named_group (a ∷ b ∷ c ∷ rest) = (a == 40) && (b == 63) && (c == 60)
 
+-- `(`, whatever follows
 abbrev pub begins_group : List ℕ → Bool
 begins_group [] = false
 begins_group (a ∷ rest) = a == 40

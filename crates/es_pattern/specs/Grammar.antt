@@ -8,6 +8,7 @@ use Rattle.es_pattern.specs.Escapes.{range, is_digit, set_of, escaped, hex_value
 abbrev pub never : Tree
 never = one_of false []
 
+-- one character, itself
 abbrev pub char : ℕ → Tree
 char c = one_of false (range c c ∷ [])
 
@@ -41,6 +42,7 @@ pub data Mark : ℕ → Option ℕ → List ℕ → List ℕ → Type 0 where
 abbrev pub BeginsBraces : List ℕ → Type 0
 BeginsBraces text = (bounds : List ℕ) × (rest : List ℕ) × (least : ℕ) × (most : Option ℕ) × Bounds bounds least most × (text ≡ 123 ∷ (bounds ++ 125 ∷ rest))
 
+-- the text begins with `^`, or with a digit
 abbrev pub BeginsCaret : List ℕ → Type 0
 BeginsCaret [] = ⊥
 BeginsCaret (c ∷ cs) = c ≡ 94
@@ -86,7 +88,7 @@ pub data Items : Bool → List CharRange → List ℕ → List ℕ → List Char
 abbrev pub is_plain : ℕ → Bool
 is_plain c = not (c == 94 || c == 36 || c == 92 || c == 46 || c == 42 || c == 43 || c == 63 || c == 40 || c == 41 || c == 91 || c == 124)
 
--- what is read: the alternatives after those before and after the terms before of this one, to their tree; a term; an atom
+-- what is read, with the tree that it makes: the rest of some alternatives, where the trees of the earlier alternatives and of this one's terms so far are given; a term; an atom
 pub data Form : Type 0 where
   alternatives : (before terms result : Tree) → Form
   term : Tree → Form

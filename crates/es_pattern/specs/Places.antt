@@ -8,6 +8,7 @@ pub data Escaped : List ℕ → List ℕ → Type 0 where
   two_digit_escape : {text rest : List ℕ} {c : ℕ} → Hex 2 0 text rest c → Escaped (120 ∷ text) rest
   four_digit_escape : {text rest : List ℕ} {c : ℕ} → Hex 4 0 text rest c → Escaped (117 ∷ text) rest
 
+-- the text begins with `?`
 abbrev pub BeginsQuestion : List ℕ → Type 0
 BeginsQuestion [] = ⊥
 BeginsQuestion (c ∷ cs) = c ≡ 63

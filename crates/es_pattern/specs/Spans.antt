@@ -35,6 +35,7 @@ abbrev pub Chain : (ℕ → ℕ → Type 0) → ℕ → ℕ → ℕ → Type 0
 Chain R zero i j = i ≡ j
 Chain R (suc n) i j = (x : ℕ) × R i x × Chain R n x j
 
+-- a number is at most a bound, where there is one
 abbrev pub IsUpTo : Option ℕ → ℕ → Type 0
 IsUpTo None n = Unit {0}
 IsUpTo (Some most) n = n ≤ most
@@ -53,6 +54,6 @@ Spans (repetition least most a) text i j = (n : ℕ) × (least ≤ n) × IsUpTo 
 Spans (lookahead false a) text i j = (i ≡ j) × ((x : ℕ) × Spans a text i x)
 Spans (lookahead true a) text i j = (i ≡ j) × ((x : ℕ) → Spans a text i x → ⊥)
 
--- some part of the text, an empty one too, is spanned
+-- wherever it begins and ends, a part of the text is spanned; it may be empty
 abbrev pub IsFound : Tree → List ℕ → Type 0
 IsFound tree text = (i : ℕ) × (j : ℕ) × (i ≤ length text) × Spans tree text i j

@@ -157,7 +157,8 @@ pub fn hex_value(digit: char) -> Option<u32>
     }
 }
 
-fn is_surrogate(value: u32) -> bool
+/// Whether the number is that of a surrogate.
+pub fn is_surrogate(value: u32) -> bool
     ensures { result ≡ is_surrogate value }
 {
     matches!(value, 0xd800..=0xdfff)

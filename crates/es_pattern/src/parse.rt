@@ -1,5 +1,6 @@
 // From a text to the pieces of its pattern, or the place of its first fault.
 ghost use Rattle.std.specs.Prelude.{◌≡◌, ◌≤◌, ◌<◌, length, slice_index, take, ◌+◌, ◌^◌, IfOk, IfErr, OnOk, Some};
+ghost use Rattle.std.specs.Option.{ForSome};
 ghost use Rattle.std.specs.Str.{chars};
 ghost use Rattle.es_pattern.specs.Pieces.{tree_of};
 ghost use Rattle.es_pattern.specs.Faults.{IsCaused, IsClear, byte_place};
@@ -9,16 +10,15 @@ ghost use Rattle.es_pattern.specs.Forms.{
   begins_named_group,
   begins_surrogate,
   begins_unsupported_escape,
-  is_d,
-  is_hex,
-  is_surrogate_digit,
   is_unsupported_letter,
+  make_surrogate,
 };
 ghost use Rattle.es_pattern.specs.Refusals.{is_too_deep, is_unsupported};
 ghost use Rattle.es_pattern.specs.Reading.{accepted, reads, start};
 ghost use Rattle.es_pattern.specs.ReaderView.{reading};
 
 use crate::error::PatternError;
+use crate::escape::{hex_value, is_surrogate};
 use crate::piece::Piece;
 use crate::reader::{Reader, Taken};
 use std::alloc::Global;
@@ -26,22 +26,15 @@ use std::alloc::Global;
 /// The greatest number of groups within one another.
 const DEPTH_LIMIT: usize = 200;
 
-fn is_hex(c: char) -> bool
-    ensures { result ≡ is_hex c }
+/// Whether the values of four hexadecimal digits make a surrogate.
+fn makes_surrogate(a: Option<u32>, b: Option<u32>, c: Option<u32>, d: Option<u32>) -> bool
+    requires { ForSome a (λ k. k < 16) × ForSome b (λ k. k < 16) × ForSome c (λ k. k < 16) × ForSome d (λ k. k < 16) }
+    ensures { result ≡ make_surrogate a b c d }
 {
-    matches!(c, '0'..='9' | 'A'..='F' | 'a'..='f')
-}
-
-fn is_d(c: char) -> bool
-    ensures { result ≡ is_d c }
-{
-    c == 'd' || c == 'D'
-}
-
-fn is_surrogate_digit(c: char) -> bool
-    ensures { result ≡ is_surrogate_digit c }
-{
-    matches!(c, '8' | '9' | 'a'..='f' | 'A'..='F')
+    match (a, b, c, d) {
+        (Some(a), Some(b), Some(c), Some(d)) => is_surrogate(((a * 16 + b) * 16 + c) * 16 + d),
+        _ => false,
+    }
 }
 
 /// Whether the text begins with the digits of a surrogate.
@@ -49,7 +42,7 @@ fn begins_surrogate(rest: &[char]) -> bool
     ensures { result ≡ begins_surrogate rest.now }
 {
     match rest {
-        [a, b, c, d, ..] => is_d(*a) && is_surrogate_digit(*b) && is_hex(*c) && is_hex(*d),
+        [a, b, c, d, ..] => makes_surrogate(hex_value(*a), hex_value(*b), hex_value(*c), hex_value(*d)),
         _ => false,
     }
 }

@@ -5,7 +5,7 @@ ghost use Rattle.es_pattern.specs.Spans.{IsFound};
 ghost use Rattle.es_pattern.specs.Tree.{Tree};
 ghost use Rattle.es_pattern.specs.Pieces.{tree_of, with_piece};
 ghost use Rattle.es_pattern.specs.declared.error.PatternError.{PatternError};
-ghost use Rattle.es_pattern.specs.Faults.{FailsBy, IsCaused, IsClear, IsFirstFault};
+ghost use Rattle.es_pattern.specs.Faults.{FailsBy, IsCaused, IsClear, IsFirstFault, IsWithinLimits, Succeeds};
 ghost use Rattle.es_pattern.specs.Grammar.{IsPattern};
 
 use crate::compile;
@@ -74,6 +74,8 @@ impl Pattern {
         ensures ok { IfOk result (λ pattern. IsPattern (chars text.now) pattern) }
         ensures one_tree { (tree : Tree) → IsPattern (chars text.now) tree → IfOk result (λ pattern. pattern ≡ tree) }
         ensures clear { OnOk result (IsClear (chars text.now)) }
+        // Each text of the grammar within the limits is accepted.
+        ensures accepts { (tree : Tree) → IsPattern (chars text.now) tree → IsWithinLimits (chars text.now) → Succeeds result }
         // A fault is the first one in the text, with its place; and where there is one, it is told.
         ensures fault { IfErr result (IsCaused (chars text.now)) }
         ensures refused { (e : PatternError) → IsFirstFault (chars text.now) e → FailsBy e result }

@@ -5,7 +5,7 @@ use Rattle.std.proofs.lemmas.Result.{err_from_is_err_and}
 use Rattle.es_pattern.specs.Pieces.{tree_of}
 use Rattle.es_pattern.proofs.Sound.{accepted_is_pattern}
 use Rattle.es_pattern.proofs.Beginnings.{pattern_accepted}
-use Rattle.es_pattern.proofs.OneFault.{caused_as, no_fault}
+use Rattle.es_pattern.proofs.OneFault.{caused_as, caused_by_memory, no_fault}
 use Rattle.es_pattern.proofs.pattern.Pattern.parse.Goals as goal
 
 pub returns-in_err-pieces_of-clause-refused : goal.returns-in_err-pieces_of-clause-refused
@@ -21,3 +21,8 @@ returns-clause-one_tree c = λ tree h. same_Some (tree_of c.in_ok-pieces_of.fiel
 
 pub returns-clause-refused : goal.returns-clause-refused
 returns-clause-refused c = λ e h. no_fault (chars c.args.text.now) e c.in_ok-pieces_of.ensures.clear h
+
+pub returns-in_err-pieces_of-clause-accepts : goal.returns-in_err-pieces_of-clause-accepts
+returns-in_err-pieces_of-clause-accepts c = λ tree h limits.
+    let p = err_from_is_err_and c.from_residual.result c.from_residual.ensures.1 in rw (p.1, p.2)
+    (caused_by_memory (chars c.args.text.now) tree c.in_err-pieces_of.field-0.0 h limits c.in_err-pieces_of.ensures.fault)
