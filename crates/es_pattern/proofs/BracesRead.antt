@@ -5,7 +5,7 @@ use Rattle.std.specs.List.{position_or_len, list_any}
 use Rattle.std.proofs.lemmas.List.{take_at, drop_at, length-append, take-append-drop, drop_more, append_assoc, append-nil}
 use Rattle.std.proofs.lemmas.List.Quantifiers.{position-Some}
 use Rattle.std.proofs.lemmas.Option.{some_pair_parts}
-use Rattle.std.proofs.lemmas.Bool.{false≢true}
+use Rattle.std.proofs.lemmas.Bool.{false≢true, le-leb}
 use Rattle.std.proofs.lemmas.Bool.Decides.{nat_tests}
 use Rattle.es_pattern.specs.Escapes.{is_digit}
 use Rattle.es_pattern.specs.Grammar.{number, number_from, Bounds, exactly, at_least, between, BeginsBraces}
@@ -72,9 +72,6 @@ seconds ds es h =
     ∙ ap (λ (xs : List ℕ). second_bounds (number ds) (drop (length ds + 1) xs)) (sym (append_assoc ds (44 ∷ []) es))
     ∙ ap (second_bounds (number ds)) (drop_at (ds ++ 44 ∷ []) es (length ds + 1) (omega (arith, length-append ds (44 ∷ []))))
 
-le_holds : (n m : ℕ) → n ≤ m → nat_le n m ≡ true
-le_holds n m h = grind (arith, nat_tests)
-
 abbrev exact : ℕ → ℕ × Option ℕ
 exact k = (k, Some k)
 
@@ -90,7 +87,7 @@ bounds_complete b n m (exactly ds e) = ap (λ (o : Option ℕ). bounds_by o ds) 
 bounds_complete b n m (at_least ds e) = seconds ds [] (number_digits ds n e).0 ∙ ap (option_map unbounded) e
 bounds_complete b n m (between ds [] e f le) = cc f
 bounds_complete b n m (between ds (c ∷ es) {m = k} e f le) =
-    seconds ds (c ∷ es) (number_digits ds n e).0 ∙ ap (λ (o : Option ℕ). pair_bounds o (number (c ∷ es))) e ∙ ap (pair_bounds (Some n)) f ∙ ap (λ (b : Bool). cond b (Some (n, Some k)) None) (le_holds n k le)
+    seconds ds (c ∷ es) (number_digits ds n e).0 ∙ ap (λ (o : Option ℕ). pair_bounds o (number (c ∷ es))) e ∙ ap (pair_bounds (Some n)) f ∙ ap (λ (b : Bool). cond b (Some (n, Some k)) None) (le-leb n k le)
 
 pub bounds_inner : (b : List ℕ) (n : ℕ) (m : Option ℕ) → Bounds b n m → AllInner b
 bounds_inner b n m (exactly ds e) = digits_inner ds (number_digits ds n e).0

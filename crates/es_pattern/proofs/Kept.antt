@@ -3,7 +3,7 @@ use Rattle.std.proofs.Common.{◌≡◌, ℕ, zero, suc, ◌+◌, ◌-◌, ◌*�
 use Rattle.std.specs.Prelude.{◌==◌, ◌&&◌, ◌||◌, max, nat_le, nat_lt, option_and_then}
 use Rattle.std.proofs.lemmas.List.{take_more}
 use Rattle.std.proofs.lemmas.Option.{same_Some}
-use Rattle.std.proofs.lemmas.Bool.{false≢true}
+use Rattle.std.proofs.lemmas.Bool.{false≢true, eqb-true, ltb-false}
 use Rattle.std.proofs.lemmas.Bool.Decides.{nat_tests}
 use Rattle.es_pattern.specs.Tree.{Tree, CharRange, nothing, one_of, text_start, text_end, word_boundary, sequence, choice, repetition, lookahead}
 use Rattle.es_pattern.specs.Pieces.{top, below}
@@ -18,7 +18,7 @@ use Rattle.es_pattern.specs.declared.mode.Mode.TheVariants as modes
 use Rattle.es_pattern.specs.Reading.{Reading, asserted, joined, leaf, chosen, with_atom, flushed_chars, charged, with_term, top_product, products_below, closed_by, quantified, marked, term_begun, plain, with_set, with_char, settled, opened, at, greatest_from, scalar, hex_to, hex_by, flushed, bounds_of, overcounts, overcounts_in, overcounts_at, in_braces_end, is_inner, in_braces, ranged, class_end, item, next_item, after_char, class_char, after_dash, class_char_if, can_end, class_zero, with_ranges, class_set, class_hex_to, class_hex_by, step_in, step, start, reads}
 use Rattle.es_pattern.specs.Parsing.{PassesBefore}
 use Rattle.es_pattern.proofs.BracesRead.{inner-append}
-use Rattle.es_pattern.proofs.Sound.{if_else, is_char, no_reading, inner_is, scalar_is, hex_guard}
+use Rattle.es_pattern.proofs.Sound.{if_else, no_reading, inner_is, scalar_is, hex_guard}
 use Rattle.es_pattern.proofs.Parsings.{reads-append}
 use Rattle.es_pattern.proofs.Sane.{CanEnd, greatest_of_three, IsPartial, IsSane, IsSaneIn, Outer, MeasuredBase, after_atom_in, IsMeasured}
 
@@ -114,7 +114,7 @@ no_thirteen : (v : ℕ) → is_surrogate (v * 4096 + 4095) ≡ false → v == 13
 no_thirteen v h = by_test (v == 13) refl
   where
     by_test : (b : Bool) → v == 13 ≡ b → b ≡ false
-    by_test true y = absurd (false≢true (sym h ∙ subst (λ (k : ℕ). is_surrogate (k * 4096 + 4095) ≡ true) (sym (is_char v 13 y)) refl))
+    by_test true y = absurd (false≢true (sym h ∙ subst (λ (k : ℕ). is_surrogate (k * 4096 + 4095) ≡ true) (sym (eqb-true v 13 y)) refl))
     by_test false y = refl
 
 three_greatest : (v g : ℕ) → greatest_from v 3 ≡ Some g → g ≡ greatest_of_three v
@@ -439,10 +439,7 @@ in_braces_measured after_atom c r s m h within e =
     at_end None w x = broken x
     at_end (Some bounds) w x =
         let product = r.atom_product * count_of bounds.0 bounds.1 in
-        marked_measured after_atom product bounds.0 bounds.1 r s refl (λ y. at_most product 100000 (counted (is_above_limit bounds.0 bounds.1) after_atom (nat_lt 100000 product) w y)) h x
-      where
-        at_most : (p k : ℕ) → nat_lt k p ≡ false → p ≤ k
-        at_most p k w = grind (arith, nat_tests)
+        marked_measured after_atom product bounds.0 bounds.1 r s refl (λ y. ltb-false 100000 product (counted (is_above_limit bounds.0 bounds.1) after_atom (nat_lt 100000 product) w y)) h x
 
 -- hexadecimal digits
 hex_to_measured : (o : Option ℕ) (value left : ℕ) (r s : Reading) → MeasuredBase false r → hex_to o value left r ≡ Some s → IsMeasured s

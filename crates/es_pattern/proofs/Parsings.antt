@@ -40,4 +40,3 @@ byte_place_below cs n le = below (length cs - n) n (omega (arith, le))
 
 pub reads_next : (cs : List ℕ) (n c : ℕ) (r s new : Reading) → n < length cs → c ≡ get_or cs n c → reads (take n cs) r ≡ Some s → step c s ≡ Some new → reads (take (n + 1) cs) r ≡ Some new
 reads_next cs n c r s new lt e so_far next = reads_more cs n r s new lt so_far (subst (λ (d : ℕ). step d s ≡ Some new) (get_or_read cs n c lt e 0) next)
-

@@ -3,7 +3,7 @@ use Rattle.std.proofs.Common.{◌≡◌, ℕ, zero, suc, ◌+◌, ◌-◌, ◌*�
 use Rattle.std.specs.Prelude.{◌==◌, ◌&&◌, ◌||◌, ◌⊎◌, cond, nat_le, option_and_then}
 use Rattle.std.proofs.lemmas.List.{append_assoc, append-nil, take-append-drop, take_at, length-append, length-drop, length-take-le}
 use Rattle.std.proofs.lemmas.Option.{same_Some, option_and_then_some}
-use Rattle.std.proofs.lemmas.Bool.{false≢true}
+use Rattle.std.proofs.lemmas.Bool.{false≢true, le-leb}
 use Rattle.std.proofs.lemmas.Bool.Decides.{nat_tests}
 use Rattle.es_pattern.specs.Escapes.{hex_value}
 use Rattle.es_pattern.specs.Grammar.{Hex, Bounds}
@@ -335,14 +335,11 @@ unsupported_reads text q r le h e = by_place h
     by_place (inl (depth, place, form)) = by_kind (unsupported_outside (kind r) (length r.groups) depth rest (agrees_at text q (groups depth) r le place e) form)
     by_place (inr (depth, place, form)) = by_kind (unsupported_inside (kind r) (length r.groups) depth rest (agrees_at text q (class_in_groups depth) r le place e) form)
 
-test_from : (a b : ℕ) → a ≤ b → nat_le a b ≡ true
-test_from a b le = grind (arith, nat_tests)
-
 -- the kinds of places outside classes refuse groups too deep
 deep_outside : (k : Kind) (d depth : ℕ) (rest : List ℕ) → Agrees (groups depth) k d rest → 200 ≤ depth → begins_group rest ≡ true → may_open_at k && begins_group rest && nat_le 200 (d + pending_at k) ≡ true
-deep_outside outside d depth rest h deep form = rw form (test_from 200 (d + 0) (omega (arith, h, deep)))
-deep_outside (in_bounds bs) d depth rest h deep form = rw form (test_from 200 (d + 0) (omega (arith, h, deep)))
-deep_outside in_paren d depth rest h deep form = rw form (test_from 200 (d + 1) (omega (arith, h.0, deep)))
+deep_outside outside d depth rest h deep form = rw form (le-leb 200 (d + 0) (omega (arith, h, deep)))
+deep_outside (in_bounds bs) d depth rest h deep form = rw form (le-leb 200 (d + 0) (omega (arith, h, deep)))
+deep_outside in_paren d depth rest h deep form = rw form (le-leb 200 (d + 1) (omega (arith, h.0, deep)))
 deep_outside in_question d depth rest h deep form = absurd h
 deep_outside (behind in_a_class) d depth rest h deep form = absurd h
 deep_outside (in_hex in_a_class value left) d depth rest h deep form = absurd h

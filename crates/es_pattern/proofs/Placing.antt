@@ -4,8 +4,9 @@ use Rattle.std.specs.Prelude.{◌==◌, ◌&&◌, ◌||◌, ◌⊎◌, nat_le, e
 use Rattle.std.proofs.lemmas.Str.{encodes-append, length-encode, len_utf8_ascii}
 use Rattle.std.proofs.lemmas.List.{append_assoc, take-append-drop, take_at, drop_at, drop_more, length-append, length-drop}
 use Rattle.std.proofs.lemmas.Option.{same_Some, option_and_then_some}
-use Rattle.std.proofs.lemmas.Bool.{false≢true}
+use Rattle.std.proofs.lemmas.Bool.{false≢true, leb-true, and_parts}
 use Rattle.std.proofs.lemmas.Bool.Decides.{nat_tests}
+use Rattle.std.proofs.Math.Bool.{or-false}
 use Rattle.es_pattern.specs.Escapes.{is_digit}
 use Rattle.es_pattern.specs.Grammar.{Hex, BeginsCaret, Bounds}
 use Rattle.es_pattern.specs.Places.{Stands, Within, groups, class_in_groups, is_structural, BeginsQuestion, Escaped, other_escape, two_digit_escape, four_digit_escape}
@@ -154,18 +155,6 @@ no_group_at_question : (rest : List ℕ) → begins_group rest ≡ true → Begi
 no_group_at_question [] h b = b
 no_group_at_question (c ∷ rest) h b = false≢true (subst (λ (n : ℕ). begins_group (n ∷ rest) ≡ true) b h)
 
-left_true : (b : Bool) → b || false ≡ true → b ≡ true
-left_true true e = refl
-left_true false e = e
-
-both_true : (a b : Bool) → a && b ≡ true → (a ≡ true) × (b ≡ true)
-both_true true true e = (refl, refl)
-both_true true false e = absurd (false≢true e)
-both_true false b e = absurd (false≢true e)
-
-from_test : (a b : ℕ) → nat_le a b ≡ true → a ≤ b
-from_test a b e = grind (arith, nat_tests)
-
 -- a form that isn't supported, or a group too deep, where what is left of the text begins
 abbrev UnsupportedHere : List ℕ → List ℕ → Type 0
 UnsupportedHere text rest = ((depth : ℕ) × Stands text (groups depth) rest × ((begins_unsupported_escape rest || begins_named_group rest) ≡ true)) ⊎ ((depth : ℕ) × Stands text (class_in_groups depth) rest × (begins_unsupported_escape rest ≡ true))
@@ -181,8 +170,8 @@ unsupported_kind in_paren d text rest h e = inl (suc d, in_group h (no_form_at_q
 unsupported_kind in_question d text rest h e = absurd (false≢true e)
 unsupported_kind (behind in_a_class) d text rest h e = absurd (false≢true e)
 unsupported_kind (in_hex in_a_class value left) d text rest h e = absurd (false≢true e)
-unsupported_kind class_front d text rest h e = let begins = left_true (begins_unsupported_escape rest) e in inr (d, in_class h (no_escape_at_caret rest begins), begins)
-unsupported_kind inside d text rest h e = inr (d, h, left_true (begins_unsupported_escape rest) e)
+unsupported_kind class_front d text rest h e = let begins = sym (or-false (begins_unsupported_escape rest)) ∙ e in inr (d, in_class h (no_escape_at_caret rest begins), begins)
+unsupported_kind inside d text rest h e = inr (d, h, sym (or-false (begins_unsupported_escape rest)) ∙ e)
 
 -- where the machine refuses a form that isn't supported, one stands
 pub unsupported_placed : (text : List ℕ) (n : ℕ) (r : Reading) → n ≤ length text → reads (take n text) start ≡ Some r → is_unsupported r.mode (drop n text) ≡ true → IsUnsupportedAt text n
@@ -194,9 +183,9 @@ unsupported_placed text n r le e h =
 
 -- the same of a group too deep
 deep_kind : (k : Kind) (d : ℕ) (text rest : List ℕ) → Placed k d text rest → may_open_at k && begins_group rest && nat_le 200 (d + pending_at k) ≡ true → TooDeepHere text rest
-deep_kind outside d text rest h e = let parts = both_true (begins_group rest) (nat_le 200 (d + 0)) e in let deep = from_test 200 (d + 0) parts.1 in (d, h, omega (arith, deep), parts.0)
-deep_kind (in_bounds bs) d text rest h e = let parts = both_true (begins_group rest) (nat_le 200 (d + 0)) e in let deep = from_test 200 (d + 0) parts.1 in (d, past_inner d text bs rest h.0 (past_symbol h.1 refl), omega (arith, deep), parts.0)
-deep_kind in_paren d text rest h e = let parts = both_true (begins_group rest) (nat_le 200 (d + 1)) e in let deep = from_test 200 (d + 1) parts.1 in (suc d, in_group h (no_group_at_question rest parts.0), omega (arith, deep), parts.0)
+deep_kind outside d text rest h e = let parts = and_parts (begins_group rest) (nat_le 200 (d + 0)) e in let deep = leb-true 200 (d + 0) parts.1 in (d, h, omega (arith, deep), parts.0)
+deep_kind (in_bounds bs) d text rest h e = let parts = and_parts (begins_group rest) (nat_le 200 (d + 0)) e in let deep = leb-true 200 (d + 0) parts.1 in (d, past_inner d text bs rest h.0 (past_symbol h.1 refl), omega (arith, deep), parts.0)
+deep_kind in_paren d text rest h e = let parts = and_parts (begins_group rest) (nat_le 200 (d + 1)) e in let deep = leb-true 200 (d + 1) parts.1 in (suc d, in_group h (no_group_at_question rest parts.0), omega (arith, deep), parts.0)
 deep_kind in_question d text rest h e = absurd (false≢true e)
 deep_kind (behind in_a_class) d text rest h e = absurd (false≢true e)
 deep_kind (in_hex in_a_class value left) d text rest h e = absurd (false≢true e)

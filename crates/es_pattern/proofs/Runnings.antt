@@ -5,7 +5,7 @@ use Rattle.std.specs.List.{sum_by}
 use Rattle.std.proofs.lemmas.List.{length-set, length-replicate}
 use Rattle.std.proofs.lemmas.Bool.{cases_eq}
 use Rattle.std.proofs.lemmas.Bool.Decides.{nat_tests}
-use Rattle.std.proofs.lemmas.Option.{slice_get_within, slice_get_read}
+use Rattle.std.proofs.lemmas.Option.{slice_get_within, slice_get_read, same_Some}
 use Rattle.std.proofs.lemmas.List.Elements.{Contains-append_left, Contains-append_right, Contains-append_cases, Contains-push, Contains-push_cases}
 use Rattle.es_pattern.specs.declared.step.Step.{Step}
 use Rattle.es_pattern.specs.declared.step.Step.TheVariants.{Pass, Fork, Jump, Back}
@@ -67,14 +67,11 @@ ends_near pieces text number i j h = by_piece h.piece h.single (subst (λ (t : T
     by_piece (Lookahead false) single s = inl (sym s.0)
 
 module _ (passes : ℕ → ℕ → ℕ → Type 0) (program : List Step) (at : ℕ) (s : Step) (stands : slice_get program at ≡ Some s) where
-  same_step : (t u : Step) → Some t ≡ Some u → t ≡ u
-  same_step t u e = cc
-
   goes_by : (i next j : ℕ) → Does passes s at i next j → Goes passes program at i next j
   goes_by i next j d = record { step = s; stands = stands; does = d }
 
   does_by : (i next j : ℕ) → Goes passes program at i next j → Does passes s at i next j
-  does_by i next j g = subst (λ (t : Step). Does passes t at i next j) (same_step g.step s (sym g.stands ∙ stands)) g.does
+  does_by i next j g = subst (λ (t : Step). Does passes t at i next j) (same_Some g.step s (sym g.stands ∙ stands)) g.does
 
   -- appending lists of next steps, each of which the step goes to, and which are all
   module _ (size place : ℕ) (waiting next xs ys : List ℕ) where

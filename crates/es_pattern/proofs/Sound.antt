@@ -3,7 +3,7 @@ use Rattle.std.proofs.Common.{◌≡◌, ℕ, zero, suc, ◌+◌, ◌-◌, ◌*�
 use Rattle.std.specs.Prelude.{◌==◌, ◌&&◌, ◌||◌, ◌⊎◌, max, nat_le, nat_lt, option_and_then}
 use Rattle.std.proofs.lemmas.List.{append_assoc}
 use Rattle.std.proofs.lemmas.Option.{same_Some}
-use Rattle.std.proofs.lemmas.Bool.{false≢true}
+use Rattle.std.proofs.lemmas.Bool.{false≢true, eqb-true, eqb-false, leb-true}
 use Rattle.std.proofs.lemmas.Bool.Decides.{nat_tests}
 use Rattle.es_pattern.specs.Tree.{Tree, CharRange, nothing, one_of, text_start, text_end, word_boundary, sequence, choice, repetition, lookahead}
 use Rattle.es_pattern.specs.Pieces.{top, below}
@@ -24,12 +24,6 @@ use Rattle.es_pattern.proofs.BracesRead.{AllInner, inner-append, bounds_sound, b
 pub if_else : (b : Bool) (x y : Option Reading) (s : Reading) (P : Type 0) → cond b x y ≡ Some s → (b ≡ true → x ≡ Some s → P) → (b ≡ false → y ≡ Some s → P) → P
 if_else true x y s P e yes_ no_ = yes_ refl e
 if_else false x y s P e yes_ no_ = no_ refl e
-
-pub is_char : (c k : ℕ) → c == k ≡ true → c ≡ k
-is_char c k h = grind (arith, nat_tests)
-
-pub is_no_char : (c k : ℕ) → c == k ≡ false → c ≡ k → ⊥
-is_no_char c k h e = grind (arith, nat_tests)
 
 -- what a quantifier, greedy or lazy, or none, makes of an atom
 pub data Suffix : Tree → Tree → List ℕ → List ℕ → Type 0 where
@@ -146,7 +140,7 @@ module _ (ts : List Tree) (gs : List Open) (t : Tree) where
 
   -- at a given character
   pub term_at : (c k : ℕ) (w : List ℕ) → c == k ≡ true → InTerm ts gs (k ∷ w) t → InTerm ts gs (c ∷ w) t
-  term_at c k w e i = subst (λ (d : ℕ). InTerm ts gs (d ∷ w) t) (sym (is_char c k e)) i
+  term_at c k w e i = subst (λ (d : ℕ). InTerm ts gs (d ∷ w) t) (sym (eqb-true c k e)) i
 
   pub opened_next : (text w : List ℕ) → ((g : Tree) (rest : List ℕ) → Reads (alternatives never nothing g) w (41 ∷ rest) → Reads (atom g) text rest) → InTerm (nothing ∷ never ∷ ts) (Group ∷ gs) w t → InTerm ts gs text t
   opened_next text w build i =
@@ -192,7 +186,7 @@ term_step c r s w t n42 n43 n63 n123 e h =
     if_else (c == 91) _ _ s P e6 (λ y x. term_at ts gs t c 91 w y (class_opened ts gs w (completes_at (at ClassOpen (record r { negated = false; ranges = [] })) s w t x h))) (λ n91 e7.
     if_else (c == 92) _ _ s P e7 (λ y x. term_at ts gs t c 92 w y (completes_at (at Escape r) s w t x h)) (λ n92 e8.
     if_else (c == 46) _ _ s P e8 (λ y x. term_at ts gs t c 46 w y (atom_next ts gs t any (46 ∷ w) w dot (completes_at (with_atom any r) s w t x h))) (λ n46 x.
-    atom_next ts gs t (char c) (c ∷ w) w (ordinary (all_false c n94 n36 n92 n46 n42 n43 n63 n40 n41 n91 n124) (no_braces c w (is_no_char c 123 n123))) (completes_at (with_atom (char c) r) s w t x h)))))))))
+    atom_next ts gs t (char c) (c ∷ w) w (ordinary (all_false c n94 n36 n92 n46 n42 n43 n63 n40 n41 n91 n124) (no_braces c w (eqb-false c 123 n123))) (completes_at (with_atom (char c) r) s w t x h)))))))))
   where
     class_opened : (ts : List Tree) (gs : List Open) (w : List ℕ) → CompletesIn ClassOpen (record { trees = ts; groups = gs; mode = ClassOpen; braces = []; negated = false; ranges = []; product = 1; atom_product = 1; products = [] }) w t → InTerm ts gs (91 ∷ w) t
     class_opened ts gs w (inl h) = let i = h.1 in atom_next ts gs t (one_of false i.0) (91 ∷ w) i.1 (class h.0 i.2) i.3
@@ -219,14 +213,14 @@ plain_step after_atom may_be_lazy c r s w t e h =
     if_else (c == 123) _ _ s P e4 (λ y x. inl (braced after_atom y x)) (λ n123 x. inl (settled_step after_atom n42 n43 n63 n123 x)))))
   where
     based : (after : Bool) (k : ℕ) → c == k ≡ true → Base after r (k ∷ w) t → Base after r (c ∷ w) t
-    based after k y b = subst (λ (d : ℕ). Base after r (d ∷ w) t) (sym (is_char c k y)) b
+    based after k y b = subst (λ (d : ℕ). Base after r (d ∷ w) t) (sym (eqb-true c k y)) b
 
     marked_step : (after : Bool) (least : ℕ) (most : Option ℕ) (k : ℕ) → c == k ≡ true → ((rest : List ℕ) → rest ≡ w → Mark least most (k ∷ w) rest) → marked after r.atom_product least most r ≡ Some s → Base after r (c ∷ w) t
     marked_step true least most k y mark x = based true k y (mark_step r s r.atom_product least most w (k ∷ w) t mark (same_Some (quantified least most (charged r.atom_product r)) s x) h)
     marked_step false least most k y mark x = no_reading s x
 
     lazy_by : (after may : Bool) → c == 63 ≡ true → cond may (Some (at Term r)) (marked after r.atom_product 0 (Some 1) r) ≡ Some s → Base after r (c ∷ w) t ⊎ ((may ≡ true) × (c ≡ 63) × InTerm r.trees r.groups w t)
-    lazy_by after true y x = inr (refl, is_char c 63 y, completes_at (at Term r) s w t x h)
+    lazy_by after true y x = inr (refl, eqb-true c 63 y, completes_at (at Term r) s w t x h)
     lazy_by after false y x = inl (marked_step after 0 (Some 1) 63 y (λ rest same. subst (λ (v : List ℕ). Mark 0 (Some 1) (63 ∷ w) v) (sym same) question_mark) x)
 
     lazy_step : c == 63 ≡ true → cond may_be_lazy (Some (at Term r)) (marked after_atom r.atom_product 0 (Some 1) r) ≡ Some s → Base after_atom r (c ∷ w) t ⊎ ((may_be_lazy ≡ true) × (c ≡ 63) × InTerm r.trees r.groups w t)
@@ -293,7 +287,7 @@ pub inner_is : (bs : List ℕ) (c : ℕ) → is_inner bs c ≡ true → (is_digi
 inner_is bs c h = by_digit (is_digit c) refl h
   where
     by_comma : (b : Bool) → c == 44 ≡ b → b && may_be_comma bs ≡ true → (is_digit c ≡ true) ⊎ (c ≡ 44)
-    by_comma true e g = inr (is_char c 44 e)
+    by_comma true e g = inr (eqb-true c 44 e)
     by_comma false e g = absurd (false≢true g)
 
     by_digit : (b : Bool) → is_digit c ≡ b → b || (c == 44) && may_be_comma bs ≡ true → (is_digit c ≡ true) ⊎ (c ≡ 44)
@@ -304,7 +298,7 @@ pub braces_step : (after_atom : Bool) (c : ℕ) (r s : Reading) (w : List ℕ) (
 braces_step after_atom c r s w t m e h inner =
     let P : Type 0 = Base after_atom r (123 ∷ (r.braces ++ c ∷ w)) t in
     if_else (is_inner r.braces c) _ _ s P e (λ y x. goes_on y x) (λ out e2.
-    if_else (c == 125) _ _ s P e2 (λ y x. at_end (bounds_of r.braces) refl y out x) (λ n125 x. broken out (λ e125. absurd (is_no_char c 125 n125 e125)) x))
+    if_else (c == 125) _ _ s P e2 (λ y x. at_end (bounds_of r.braces) refl y out x) (λ n125 x. broken out (λ e125. absurd (eqb-false c 125 n125 e125)) x))
   where
     more : Reading
     more = record r { braces = r.braces ++ c ∷ [] }
@@ -324,7 +318,7 @@ braces_step after_atom c r s w t m e h inner =
 
     counted : (after : Bool) (n : ℕ) (k : Option ℕ) → bounds_of r.braces ≡ Some (n, k) → c == 125 ≡ true → marked after (r.atom_product * count_of n k) n k r ≡ Some s → Base after r (123 ∷ (r.braces ++ c ∷ w)) t
     counted true n k b y x =
-        subst (λ (d : ℕ). AfterAtom (top r.trees) (below r.trees) r.groups (123 ∷ (r.braces ++ d ∷ w)) t) (sym (is_char c 125 y))
+        subst (λ (d : ℕ). AfterAtom (top r.trees) (below r.trees) r.groups (123 ∷ (r.braces ++ d ∷ w)) t) (sym (eqb-true c 125 y))
         (mark_step r s (r.atom_product * count_of n k) n k w (123 ∷ (r.braces ++ 125 ∷ w)) t (λ rest same. subst (λ (v : List ℕ). Mark n k (123 ∷ (r.braces ++ 125 ∷ w)) v) (sym same) (braces_mark r.braces (bounds_sound r.braces n k b))) (same_Some (quantified n k (charged (r.atom_product * count_of n k) r)) s x) h)
     counted false n k b y x = no_reading s x
 
@@ -368,7 +362,7 @@ hex_step value left c r s w t e h = by_digit (hex_value c) refl e
     by_left d l here is (Some top_char) g x =
         if_else (l == 0) _ _ s P x
         (λ z y.
-        let l0 : l ≡ 0 = is_char l 0 z in
+        let l0 : l ≡ 0 = eqb-true l 0 z in
         let last = last_digit (value * 16 + d) top_char (subst (λ (k : ℕ). greatest_from (value * 16 + d) k ≡ Some top_char) l0 g) in
         let after = completes_at (with_atom (char top_char) r) s w t y h in
         subst (λ (k : ℕ). CompletesIn (modes.Hex value k) r (c ∷ w) t) (sym is)
@@ -397,7 +391,7 @@ escape_step c r s w t e h = by_set (set_of c) refl e
     P = InTerm ts gs (92 ∷ c ∷ w) t
 
     at_char : (k : ℕ) → c == k ≡ true → InTerm ts gs (92 ∷ k ∷ w) t → P
-    at_char k y i = subst (λ (d : ℕ). InTerm ts gs (92 ∷ d ∷ w) t) (sym (is_char c k y)) i
+    at_char k y i = subst (λ (d : ℕ). InTerm ts gs (92 ∷ d ∷ w) t) (sym (eqb-true c k y)) i
 
     by_char : (o : Option ℕ) → escaped c ≡ o → with_char o r ≡ Some s → P
     by_char None here x = no_reading s x
@@ -425,10 +419,10 @@ item_step is_first c r s w t dash e h =
     let i = completes_at (at (modes.ClassChar c) r) s w t x h in (i.0, i.1, first_after (first (c == 45) refl n93 n92) i.2, i.3)))
   where
     at_char : (k : ℕ) → c == k ≡ true → InClass is_first r (k ∷ w) t → InClass is_first r (c ∷ w) t
-    at_char k y i = subst (λ (d : ℕ). InClass is_first r (d ∷ w) t) (sym (is_char c k y)) i
+    at_char k y i = subst (λ (d : ℕ). InClass is_first r (d ∷ w) t) (sym (eqb-true c k y)) i
 
     first : (b : Bool) → c == 45 ≡ b → c == 93 ≡ false → c == 92 ≡ false → FirstChar is_first c (c ∷ w) w
-    first true y n93 n92 = subst (λ (f : Bool). FirstChar f c (c ∷ w) w) (sym (dash y)) (subst (λ (d : ℕ). FirstChar true d (d ∷ w) w) (sym (is_char c 45 y)) first_dash)
+    first true y n93 n92 = subst (λ (f : Bool). FirstChar f c (c ∷ w) w) (sym (dash y)) (subst (λ (d : ℕ). FirstChar true d (d ∷ w) w) (sym (eqb-true c 45 y)) first_dash)
     first false y n93 n92 = other_char (itself (rw (n93, n92, y)))
 
 pub next_item_step : (c : ℕ) (r s : Reading) (w : List ℕ) (t : Tree) → next_item c r ≡ Some s → Completes s w t → InClass false r (c ∷ w) t
@@ -437,7 +431,7 @@ next_item_step c r s w t e h =
     if_else (c == 45) _ _ s P e
     (λ y x.
     let i = completes_at (at ClassLast (ranged 45 45 r)) s w t x h in
-    subst (λ (d : ℕ). InClass false r (d ∷ w) t) (sym (is_char c 45 y))
+    subst (λ (d : ℕ). InClass false r (d ∷ w) t) (sym (eqb-true c 45 y))
     (subst (λ (v : List ℕ). InClass false r (45 ∷ v) t) (sym i.1) (r.ranges ++ range 45 45 ∷ [], i.0, last_dash, i.2)))
     (λ n45 x. item_step false c r s w t (λ y. absurd (false≢true (sym n45 ∙ y))) x h)
 
@@ -445,7 +439,7 @@ pub after_char_step : (first c : ℕ) (r s : Reading) (w : List ℕ) (t : Tree) 
 after_char_step first c r s w t e h =
     let P : Type 0 = AfterChar first r (c ∷ w) t in
     if_else (c == 45) _ _ s P e
-    (λ y x. subst (λ (d : ℕ). AfterChar first r (d ∷ w) t) (sym (is_char c 45 y)) (completes_at (at (modes.ClassDash first) r) s w t x h))
+    (λ y x. subst (λ (d : ℕ). AfterChar first r (d ∷ w) t) (sym (eqb-true c 45 y)) (completes_at (at (modes.ClassDash first) r) s w t x h))
     (λ n45 x. let i = item_step false c (ranged first first r) s w t (λ y. absurd (false≢true (sym n45 ∙ y))) x h in (i.0, i.1, after_one i.2, i.3))
 
 -- a character that ends a range, or begins an item
@@ -453,11 +447,8 @@ pub class_char_step : (first : Option ℕ) (d : ℕ) (r s : Reading) (w : List �
 class_char_step None d r s w t e h = let i = completes_at (at (modes.ClassChar d) r) s w t e h in (i.0, i.1, i.2, i.3)
 class_char_step (Some c) d r s w t e h =
     if_else (nat_le c d) _ _ s ((all : List CharRange) × (mid : List ℕ) × Ended (Some c) d r.ranges w mid all × AfterClass r t all mid) e
-    (λ y x. let i = completes_at (at ClassNext (ranged c d r)) s w t x h in (i.0, i.1, (le_from c d y, i.2), i.3))
+    (λ y x. let i = completes_at (at ClassNext (ranged c d r)) s w t x h in (i.0, i.1, (leb-true c d y, i.2), i.3))
     (λ n x. no_reading s x)
-  where
-    le_from : (a b : ℕ) → nat_le a b ≡ true → a ≤ b
-    le_from a b e = grind (arith, nat_tests)
 
 pub after_dash_step : (first c : ℕ) (r s : Reading) (w : List ℕ) (t : Tree) → after_dash first c r ≡ Some s → Completes s w t → AfterChar first r (45 ∷ c ∷ w) t
 after_dash_step first c r s w t e h =
@@ -470,20 +461,17 @@ after_dash_step first c r s w t e h =
     (i.0, i.1, after_range (itself (rw (n93, n92, n45))) i.2.0 i.2.1, i.3))))
   where
     at_char : (k : ℕ) → c == k ≡ true → AfterChar first r (45 ∷ k ∷ w) t → AfterChar first r (45 ∷ c ∷ w) t
-    at_char k y i = subst (λ (d : ℕ). AfterChar first r (45 ∷ d ∷ w) t) (sym (is_char c k y)) i
+    at_char k y i = subst (λ (d : ℕ). AfterChar first r (45 ∷ d ∷ w) t) (sym (eqb-true c k y)) i
 
     escaped_end : c == 92 ≡ true → cond (nat_le first 0xffff) (Some (at (modes.ClassEscape (Some first)) r)) None ≡ Some s → AfterChar first r (45 ∷ 92 ∷ w) t
     escaped_end y x = if_else (nat_le first 0xffff) _ _ s (AfterChar first r (45 ∷ 92 ∷ w) t) x
         (λ z g. let i = completes_at (at (modes.ClassEscape (Some first)) r) s w t g h in (i.0, i.1, after_range i.4 i.5 i.6, i.7)) (λ z g. no_reading s g)
 
-    le_from : (a b : ℕ) → nat_le a b ≡ true → a ≤ b
-    le_from a b e = grind (arith, nat_tests)
-
     dash_end : cond (nat_le first 45) (Some (at ClassLast (ranged first 45 r))) None ≡ Some s → AfterChar first r (45 ∷ 45 ∷ w) t
     dash_end x = if_else (nat_le first 45) _ _ s (AfterChar first r (45 ∷ 45 ∷ w) t) x
         (λ z g.
         let i = completes_at (at ClassLast (ranged first 45 r)) s w t g h in
-        subst (λ (v : List ℕ). AfterChar first r (45 ∷ 45 ∷ v) t) (sym i.1) (r.ranges ++ range first 45 ∷ [], i.0, after_dash_end (le_from first 45 z), i.2))
+        subst (λ (v : List ℕ). AfterChar first r (45 ∷ 45 ∷ v) t) (sym i.1) (r.ranges ++ range first 45 ∷ [], i.0, after_dash_end (leb-true first 45 z), i.2))
         (λ z g. no_reading s g)
 
 -- an escape in a class, of a character that was read
@@ -495,7 +483,7 @@ pub class_escape_step : (first : Option ℕ) (c : ℕ) (r s : Reading) (w : List
 class_escape_step first c r s w t e h = by_set (set_of c) first refl e
   where
     at_char : (f : Option ℕ) (k : ℕ) → c == k ≡ true → InEscape f r (k ∷ w) t → InEscape f r (c ∷ w) t
-    at_char f k y i = subst (λ (d : ℕ). InEscape f r (d ∷ w) t) (sym (is_char c k y)) i
+    at_char f k y i = subst (λ (d : ℕ). InEscape f r (d ∷ w) t) (sym (eqb-true c k y)) i
 
     hexed : (f : Option ℕ) (left k : ℕ) → ((d : ℕ) (after : List ℕ) → Hex left 0 w after d → is_surrogate d ≡ false → ClassChar d (92 ∷ k ∷ w) after) → Some (at (modes.ClassHex f 0 left) r) ≡ Some s → InEscape f r (k ∷ w) t
     hexed f left k build x = let i = completes_at (at (modes.ClassHex f 0 left) r) s w t x h in escape_ended f i.2 r (k ∷ w) i.3 t (build i.2 i.3 i.4 i.5) (i.0, i.1, i.6, i.7)
@@ -505,7 +493,7 @@ class_escape_step first c r s w t e h = by_set (set_of c) first refl e
     zero_step (Some k) x = if_else (k == 0) _ _ s (InEscape (Some k) r (48 ∷ w) t) x
         (λ y g.
         let i = completes_at (at (modes.ClassZero true) (ranged 0 0 r)) s w t g h in
-        subst (λ (j : ℕ). InEscape (Some j) r (48 ∷ w) t) (sym (is_char k 0 y)) (i.1.0, i.1.1, 0, w, class_escape (zero_char i.0), omega arith, i.1.2, i.1.3))
+        subst (λ (j : ℕ). InEscape (Some j) r (48 ∷ w) t) (sym (eqb-true k 0 y)) (i.1.0, i.1.1, 0, w, class_escape (zero_char i.0), omega arith, i.1.2, i.1.3))
         (λ y g. no_reading s g)
 
     by_char : (f : Option ℕ) (o : Option ℕ) → escaped c ≡ o → class_char_if f o r ≡ Some s → InEscape f r (c ∷ w) t
@@ -537,7 +525,7 @@ class_hex_step first value left c r s w t e h = by_digit (hex_value c) refl e
         if_else (can_end first top_char) _ _ s P x
         (λ ok x2. if_else (l == 0) _ _ s P x2
         (λ z y.
-        let l0 : l ≡ 0 = is_char l 0 z in
+        let l0 : l ≡ 0 = eqb-true l 0 z in
         let last = last_digit (value * 16 + d) top_char (subst (λ (k : ℕ). greatest_from (value * 16 + d) k ≡ Some top_char) l0 g) in
         let i = class_char_step first top_char r s w t y h in
         subst (λ (k : ℕ). CompletesIn (modes.ClassHex first value k) r (c ∷ w) t) (sym is)
@@ -568,21 +556,21 @@ step_completes (Braces after_atom) c r s w t m e h = braces_step after_atom c r 
 step_completes Escape c r s w t m e h = escape_step c r s w t e h
 step_completes (modes.Hex value left) c r s w t m e h = hex_step value left c r s w t e h
 step_completes Paren c r s w t m e h = if_else (c == 63) _ _ s (InTerm r.trees r.groups (40 ∷ c ∷ w) t) e
-    (λ y x. subst (λ (d : ℕ). InTerm r.trees r.groups (40 ∷ d ∷ w) t) (sym (is_char c 63 y)) (completes_at (at ParenQuestion r) s w t x h))
+    (λ y x. subst (λ (d : ℕ). InTerm r.trees r.groups (40 ∷ d ∷ w) t) (sym (eqb-true c 63 y)) (completes_at (at ParenQuestion r) s w t x h))
     (λ n x. opened_next r.trees r.groups t (40 ∷ c ∷ w) (c ∷ w) (λ g rest body. group body) (base_step false c (opened Group r) s w t x h))
 step_completes ParenQuestion c r s w t m e h =
     let P : Type 0 = InTerm r.trees r.groups (40 ∷ 63 ∷ c ∷ w) t in
-    let at_char : (k : ℕ) → c == k ≡ true → InTerm r.trees r.groups (40 ∷ 63 ∷ k ∷ w) t → P = λ k y i. subst (λ (d : ℕ). InTerm r.trees r.groups (40 ∷ 63 ∷ d ∷ w) t) (sym (is_char c k y)) i in
+    let at_char : (k : ℕ) → c == k ≡ true → InTerm r.trees r.groups (40 ∷ 63 ∷ k ∷ w) t → P = λ k y i. subst (λ (d : ℕ). InTerm r.trees r.groups (40 ∷ 63 ∷ d ∷ w) t) (sym (eqb-true c k y)) i in
     if_else (c == 58) _ _ s P e (λ y x. at_char 58 y (opened_next r.trees r.groups t (40 ∷ 63 ∷ 58 ∷ w) w (λ g rest body. bare_group body) (completes_at (opened Group r) s w t x h))) (λ n58 e2.
     if_else (c == 61) _ _ s P e2 (λ y x. at_char 61 y (ahead_next r.trees r.groups t false (40 ∷ 63 ∷ 61 ∷ w) w (λ g rest body. ahead body) (completes_at (opened (Ahead false) r) s w t x h))) (λ n61 e3.
     if_else (c == 33) _ _ s P e3 (λ y x. at_char 33 y (ahead_next r.trees r.groups t true (40 ∷ 63 ∷ 33 ∷ w) w (λ g rest body. not_ahead body) (completes_at (opened (Ahead true) r) s w t x h))) (λ n33 x. no_reading s x)))
 step_completes ClassOpen c r s w t m e h = if_else (c == 94) _ _ s (CompletesIn ClassOpen r (c ∷ w) t) e
-    (λ y x. inr (w, ap (λ (d : ℕ). d ∷ w) (is_char c 94 y), completes_at (at ClassFirst (record r { negated = true })) s w t x h))
-    (λ n x. inl (is_no_char c 94 n, item_step true c r s w t (λ y. refl) x h))
+    (λ y x. inr (w, ap (λ (d : ℕ). d ∷ w) (eqb-true c 94 y), completes_at (at ClassFirst (record r { negated = true })) s w t x h))
+    (λ n x. inl (eqb-false c 94 n, item_step true c r s w t (λ y. refl) x h))
 step_completes ClassFirst c r s w t m e h = item_step true c r s w t (λ y. refl) e h
 step_completes ClassNext c r s w t m e h = next_item_step c r s w t e h
 step_completes ClassLast c r s w t m e h = if_else (c == 93) _ _ s (CompletesIn ClassLast r (c ∷ w) t) e
-    (λ y x. (w, ap (λ (d : ℕ). d ∷ w) (is_char c 93 y), completes_at (class_end r) s w t x h)) (λ n x. no_reading s x)
+    (λ y x. (w, ap (λ (d : ℕ). d ∷ w) (eqb-true c 93 y), completes_at (class_end r) s w t x h)) (λ n x. no_reading s x)
 step_completes (modes.ClassChar first) c r s w t m e h = after_char_step first c r s w t e h
 step_completes (modes.ClassDash first) c r s w t m e h = after_dash_step first c r s w t e h
 step_completes (modes.ClassZero true) c r s w t m e h = if_else (is_digit c) _ _ s (CompletesIn (modes.ClassZero true) r (c ∷ w) t) e (λ y x. no_reading s x) (λ n x. ((λ d. false≢true (sym n ∙ d)), next_item_step c r s w t x h))

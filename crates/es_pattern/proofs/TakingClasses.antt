@@ -2,7 +2,7 @@
 use Rattle.std.proofs.Common.{◌≡◌, ℕ, zero, suc, ◌+◌, ◌-◌, ◌*◌, ◌<◌, ◌≤◌, Bool, true, false, cond, List, [], ◌∷◌, ◌++◌, inl, inr, Option, Some, None, refl, sym, ap, subst, ◌∙◌, arith}
 use Rattle.std.specs.Prelude.{◌==◌, ◌||◌, nat_le, nat_lt}
 use Rattle.std.proofs.lemmas.Option.{same_Some}
-use Rattle.std.proofs.lemmas.Bool.{false≢true}
+use Rattle.std.proofs.lemmas.Bool.{false≢true, eqb-true, eq-eqb, ne_eqb, le-leb, false_from_ne_true}
 use Rattle.std.proofs.lemmas.Bool.Decides.{nat_tests}
 use Rattle.es_pattern.specs.Tree.{Tree, CharRange}
 use Rattle.es_pattern.specs.Escapes.{range, is_digit, is_punctuation, set_of, escaped, hex_value, is_surrogate}
@@ -12,7 +12,7 @@ use Rattle.es_pattern.specs.declared.mode.Mode.TheVariants.{ClassOpen, ClassFirs
 use Rattle.es_pattern.specs.declared.mode.Mode.TheVariants as modes
 use Rattle.es_pattern.specs.Reading.{Reading, at, with_atom, greatest_from, hex_to, hex_by, ranged, class_end, item, next_item, after_char, class_char, after_dash, class_char_if, can_end, class_zero, with_ranges, class_set, class_hex_to, class_hex_by, step_in}
 use Rattle.es_pattern.proofs.Sane.{IsPartial}
-use Rattle.es_pattern.proofs.Sound.{is_char, After, after_one, after_range, after_dash_end, EscapeItem, escape_set, escape_char, Ended, AfterAtom, AfterClass, InClass, AfterChar, InEscape, CompletesIn, Completes}
+use Rattle.es_pattern.proofs.Sound.{After, after_one, after_range, after_dash_end, EscapeItem, escape_set, escape_char, Ended, AfterAtom, AfterClass, InClass, AfterChar, InEscape, CompletesIn, Completes}
 use Rattle.es_pattern.proofs.HexDigits.{hex_digit, two_digits_more, four_digits_more, no_surrogate_below, greatest_last, greatest_of_one, greatest_of_two, greatest_of_three}
 
 -- there is a next state, which the rest of the text completes
@@ -27,20 +27,6 @@ takes_then false x y w t e h = absurd (false≢true e)
 pub takes_else : (b : Bool) (x y : Option Reading) (w : List ℕ) (t : Tree) → b ≡ false → Takes y w t → Takes (cond b x y) w t
 takes_else true x y w t e h = absurd (false≢true (sym e))
 takes_else false x y w t e h = h
-
--- the tests of numbers, from what they test
-pub is_same : (c k : ℕ) → c ≡ k → c == k ≡ true
-is_same c k e = grind (arith, nat_tests)
-
-pub is_other : (c k : ℕ) → (c ≡ k → ⊥) → c == k ≡ false
-is_other c k e = grind (arith, nat_tests)
-
-pub le_holds : (a b : ℕ) → a ≤ b → nat_le a b ≡ true
-le_holds a b h = grind (arith, nat_tests)
-
-pub is_false : (b : Bool) → (b ≡ true → ⊥) → b ≡ false
-is_false true h = absurd (h refl)
-is_false false h = refl
 
 -- the test of a character that stands for itself in a class
 no_syntax : (c : ℕ) → (c == 93 || c == 92 || c == 45) ≡ false → (c == 93 ≡ false) × (c == 92 ≡ false) × (c == 45 ≡ false)
@@ -70,7 +56,7 @@ first_char_cases : (f : Bool) (d k : ℕ) (text w mid : List ℕ) (P : Type 0) �
 first_char_cases f d k text w mid P (other_char r) e at_escape at_other =
     class_char_cases d k text w mid P r e at_escape (λ n93 n92 n45 same rest. at_other n93 n92 (λ y. absurd (false≢true (sym n45 ∙ y))) same rest)
 first_char_cases f d k text w mid P first_dash e at_escape at_other =
-    let same : k ≡ 45 = cc in at_other (is_other k 93 (λ g. omega (arith, same, g))) (is_other k 92 (λ g. omega (arith, same, g))) (λ y. refl) (sym same) (cc)
+    let same : k ≡ 45 = cc in at_other (ne_eqb k 93 (λ g. omega (arith, same, g))) (ne_eqb k 92 (λ g. omega (arith, same, g))) (λ y. refl) (sym same) (cc)
 
 -- a `-` before the end of a class
 abbrev LastDash : List CharRange → List ℕ → List ℕ → List CharRange → Type 0
@@ -98,8 +84,8 @@ item_cases f k ranges all text w rest P (to_dash {c = c} r le) e at_end at_escap
 -- after a character of a class, another character than `-` begins the next item
 after_other : (first k : ℕ) (ranges all : List CharRange) (text w rest : List ℕ) → After first ranges text rest all → text ≡ k ∷ w → k == 45 ≡ false → Items false (ranges ++ range first first ∷ []) text rest all
 after_other first k ranges all text w rest (after_one i) e n45 = i
-after_other first k ranges all text w rest (after_range last le i) e n45 = let same : k ≡ 45 = cc in absurd (false≢true (sym n45 ∙ is_same k 45 same))
-after_other first k ranges all text w rest (after_dash_end le) e n45 = let same : k ≡ 45 = cc in absurd (false≢true (sym n45 ∙ is_same k 45 same))
+after_other first k ranges all text w rest (after_range last le i) e n45 = let same : k ≡ 45 = cc in absurd (false≢true (sym n45 ∙ eq-eqb k 45 same))
+after_other first k ranges all text w rest (after_dash_end le) e n45 = let same : k ≡ 45 = cc in absurd (false≢true (sym n45 ∙ eq-eqb k 45 same))
 
 -- after a character of a class and `-`
 after_dash_cases : (first : ℕ) (ranges all : List CharRange) (text w rest : List ℕ) (P : Type 0) → After first ranges text rest all → text ≡ 45 ∷ w
@@ -116,14 +102,14 @@ after_dash_cases first ranges all text w rest P (after_dash_end le) e at_last at
 taking_item : (f : Bool) (c : ℕ) (r : Reading) (w : List ℕ) (t : Tree) → (c ≡ 45 → f ≡ true) → InClass f r (c ∷ w) t → Takes (item c r) w t
 taking_item f c r w t dash i =
     item_cases f c r.ranges i.0 (c ∷ w) w i.1 (Takes (item c r) w t) i.2 refl
-    (λ y rest all. takes_then (c == 93) _ _ w t (is_same c 93 y)
+    (λ y rest all. takes_then (c == 93) _ _ w t (eq-eqb c 93 y)
     (class_end r, refl, subst (λ (v : List ℕ). AfterClass r t r.ranges v) rest (subst (λ (a : List CharRange). AfterClass r t a i.1) all i.3)))
     (λ y h. in_escape y (i.0, i.1, h, i.3))
-    (λ y l. in_char (is_other c 93 (λ g. omega (arith, y, g))) (is_other c 92 (λ g. omega (arith, y, g))) (i.0, i.1, first_dash_ends y l, i.3))
+    (λ y l. in_char (ne_eqb c 93 (λ g. omega (arith, y, g))) (ne_eqb c 92 (λ g. omega (arith, y, g))) (i.0, i.1, first_dash_ends y l, i.3))
     (λ n93 n92 d h. in_char n93 n92 (i.0, i.1, h, i.3))
   where
     in_escape : c ≡ 92 → InEscape None r w t → Takes (item c r) w t
-    in_escape y h = takes_else (c == 93) _ _ w t (is_other c 93 (λ g. omega (arith, y, g))) (takes_then (c == 92) _ _ w t (is_same c 92 y) (at (modes.ClassEscape None) r, refl, h))
+    in_escape y h = takes_else (c == 93) _ _ w t (ne_eqb c 93 (λ g. omega (arith, y, g))) (takes_then (c == 92) _ _ w t (eq-eqb c 92 y) (at (modes.ClassEscape None) r, refl, h))
 
     in_char : c == 93 ≡ false → c == 92 ≡ false → AfterChar c r w t → Takes (item c r) w t
     in_char n93 n92 h = takes_else (c == 93) _ _ w t n93 (takes_else (c == 92) _ _ w t n92 (at (modes.ClassChar c) r, refl, h))
@@ -142,21 +128,21 @@ taking_next_item c r w t i = by_test (c == 45) refl
         item_cases false c r.ranges i.0 (c ∷ w) w i.1 (Completes (at ClassLast (ranged 45 45 r)) w t) i.2 refl
         (λ g rest all. absurd (omega (arith, y, g))) (λ g h. absurd (omega (arith, y, g)))
         (λ g l. (i.1, l.0, subst (λ (a : List CharRange). AfterClass r t a i.1) l.1 i.3))
-        (λ n93 n92 dash h. absurd (false≢true (dash (is_same c 45 y))))
+        (λ n93 n92 dash h. absurd (false≢true (dash (eq-eqb c 45 y))))
 
     by_test : (b : Bool) → c == 45 ≡ b → Takes (next_item c r) w t
-    by_test true y = takes_then (c == 45) _ _ w t y (at ClassLast (ranged 45 45 r), refl, ends_so (is_char c 45 y))
-    by_test false n = takes_else (c == 45) _ _ w t n (taking_item false c r w t (λ y. absurd (false≢true (sym n ∙ is_same c 45 y))) i)
+    by_test true y = takes_then (c == 45) _ _ w t y (at ClassLast (ranged 45 45 r), refl, ends_so (eqb-true c 45 y))
+    by_test false n = takes_else (c == 45) _ _ w t n (taking_item false c r w t (λ y. absurd (false≢true (sym n ∙ eq-eqb c 45 y))) i)
 
 -- after a character of a class
 taking_after_char : (first c : ℕ) (r : Reading) (w : List ℕ) (t : Tree) → AfterChar first r (c ∷ w) t → Takes (after_char first c r) w t
 taking_after_char first c r w t i = by_test (c == 45) refl
   where
     by_test : (b : Bool) → c == 45 ≡ b → Takes (after_char first c r) w t
-    by_test true y = takes_then (c == 45) _ _ w t y (at (modes.ClassDash first) r, refl, subst (λ (k : ℕ). AfterChar first r (k ∷ w) t) (is_char c 45 y) i)
+    by_test true y = takes_then (c == 45) _ _ w t y (at (modes.ClassDash first) r, refl, subst (λ (k : ℕ). AfterChar first r (k ∷ w) t) (eqb-true c 45 y) i)
     by_test false n =
         takes_else (c == 45) _ _ w t n
-        (taking_item false c (ranged first first r) w t (λ y. absurd (false≢true (sym n ∙ is_same c 45 y))) (i.0, i.1, after_other first c r.ranges i.0 (c ∷ w) w i.1 i.2 refl n, i.3))
+        (taking_item false c (ranged first first r) w t (λ y. absurd (false≢true (sym n ∙ eq-eqb c 45 y))) (i.0, i.1, after_other first c r.ranges i.0 (c ∷ w) w i.1 i.2 refl n, i.3))
 
 -- a character that a letter stands for in an escape is at most `~`
 escaped_small : (c d : ℕ) → escaped c ≡ Some d → d ≤ 126
@@ -191,7 +177,7 @@ Left first d r after t = (all : List CharRange) × (mid : List ℕ) × Ended fir
 -- a character that ends a range, or begins an item
 taking_class_character : (first : Option ℕ) (d : ℕ) (r : Reading) (w : List ℕ) (t : Tree) → Left first d r w t → Takes (class_char first d r) w t
 taking_class_character None d r w t i = (at (modes.ClassChar d) r, refl, (i.0, i.1, i.2, i.3))
-taking_class_character (Some first) d r w t i = takes_then (nat_le first d) _ _ w t (le_holds first d i.2.0) (at ClassNext (ranged first d r), refl, (i.0, i.1, i.2.1, i.3))
+taking_class_character (Some first) d r w t i = takes_then (nat_le first d) _ _ w t (le-leb first d i.2.0) (at ClassNext (ranged first d r), refl, (i.0, i.1, i.2.1, i.3))
 
 -- after a character of a class and `-`
 taking_after_dash : (first c : ℕ) (r : Reading) (w : List ℕ) (t : Tree) → AfterChar first r (45 ∷ c ∷ w) t → Takes (after_dash first c r) w t
@@ -201,14 +187,14 @@ taking_after_dash first c r w t i =
     ends_so : LastDash (r.ranges ++ range first first ∷ []) (c ∷ w) i.1 i.0 → Takes (after_dash first c r) w t
     ends_so l =
         let tails : i.1 ≡ w = cc (l.0) in
-        takes_then (c == 93) _ _ w t (is_same c 93 (cc (l.0)))
+        takes_then (c == 93) _ _ w t (eq-eqb c 93 (cc (l.0)))
         (class_end (ranged 45 45 (ranged first first r)), refl, subst (λ (v : List ℕ). AfterClass r t (r.ranges ++ range first first ∷ [] ++ range 45 45 ∷ []) v) tails (subst (λ (a : List CharRange). AfterClass r t a i.1) l.1 i.3))
 
     escape_so : (d : ℕ) (after : List ℕ) → c ≡ 92 → ClassChar d (92 ∷ w) after → first ≤ d → Items false (r.ranges ++ range first d ∷ []) after i.1 i.0 → Takes (after_dash first c r) w t
     escape_so d after y last le items =
         let small = class_escape_small d (92 ∷ w) w after last refl in
-        takes_else (c == 93) _ _ w t (is_other c 93 (λ g. omega (arith, y, g))) (takes_then (c == 92) _ _ w t (is_same c 92 y)
-        (takes_then (nat_le first 0xffff) _ _ w t (le_holds first 0xffff (omega (arith, small, le))) (at (modes.ClassEscape (Some first)) r, refl, (i.0, i.1, d, after, last, le, items, i.3))))
+        takes_else (c == 93) _ _ w t (ne_eqb c 93 (λ g. omega (arith, y, g))) (takes_then (c == 92) _ _ w t (eq-eqb c 92 y)
+        (takes_then (nat_le first 0xffff) _ _ w t (le-leb first 0xffff (omega (arith, small, le))) (at (modes.ClassEscape (Some first)) r, refl, (i.0, i.1, d, after, last, le, items, i.3))))
 
     ranges_so : (d : ℕ) (after : List ℕ) → ClassChar d (c ∷ w) after → first ≤ d → Items false (r.ranges ++ range first d ∷ []) after i.1 i.0 → Takes (after_dash first c r) w t
     ranges_so d after last le items =
@@ -221,17 +207,17 @@ taking_after_dash first c r w t i =
     dash_so : c ∷ w ≡ 45 ∷ 93 ∷ i.1 → first ≤ 45 → i.0 ≡ r.ranges ++ range first 45 ∷ [] → Takes (after_dash first c r) w t
     dash_so e le all =
         let y : c ≡ 45 = cc in
-        takes_else (c == 93) _ _ w t (is_other c 93 (λ g. omega (arith, y, g))) (takes_else (c == 92) _ _ w t (is_other c 92 (λ g. omega (arith, y, g))) (takes_then (c == 45) _ _ w t (is_same c 45 y)
-        (takes_then (nat_le first 45) _ _ w t (le_holds first 45 le) (at ClassLast (ranged first 45 r), refl, (i.1, cc, subst (λ (a : List CharRange). AfterClass r t a i.1) all i.3)))))
+        takes_else (c == 93) _ _ w t (ne_eqb c 93 (λ g. omega (arith, y, g))) (takes_else (c == 92) _ _ w t (ne_eqb c 92 (λ g. omega (arith, y, g))) (takes_then (c == 45) _ _ w t (eq-eqb c 45 y)
+        (takes_then (nat_le first 45) _ _ w t (le-leb first 45 le) (at ClassLast (ranged first 45 r), refl, (i.1, cc, subst (λ (a : List CharRange). AfterClass r t a i.1) all i.3)))))
 
 -- where the range, if one has begun, ends at a character, it can end at a greater one
 ended_can_end : (first : Option ℕ) (d g : ℕ) (ranges all : List CharRange) (after mid : List ℕ) → Ended first d ranges after mid all → d ≤ g → can_end first g ≡ true
 ended_can_end None d g ranges all after mid h le = refl
-ended_can_end (Some first) d g ranges all after mid h le = let low = h.0 in le_holds first g (omega (arith, low, le))
+ended_can_end (Some first) d g ranges all after mid h le = let low = h.0 in le-leb first g (omega (arith, low, le))
 
 -- a letter that stands for a character is none of the other escapes' letters
 not_escaped : (c k d : ℕ) → escaped c ≡ Some d → escaped k ≡ None → c == k ≡ false
-not_escaped c k d here none = is_other c k (λ e. no_both (sym (ap escaped e) ∙ here) none)
+not_escaped c k d here none = ne_eqb c k (λ e. no_both (sym (ap escaped e) ∙ here) none)
   where
     no_both : escaped k ≡ Some d → escaped k ≡ None → ⊥
     no_both x y = cc
@@ -269,7 +255,7 @@ taking_zero None r w t no_digit i = (at (modes.ClassZero false) r, refl, (no_dig
 taking_zero (Some first) r w t no_digit i =
     let le = i.2.0 in
     let zero_is : first ≡ 0 = omega (arith, le) in
-    takes_then (first == 0) _ _ w t (is_same first 0 zero_is)
+    takes_then (first == 0) _ _ w t (eq-eqb first 0 zero_is)
     (at (modes.ClassZero true) (ranged 0 0 r), refl, (no_digit, (i.0, i.1, subst (λ (k : ℕ). Items false (r.ranges ++ range k 0 ∷ []) w i.1 i.0) zero_is i.2.1, i.3)))
 
 module _ (first : Option ℕ) (r : Reading) (c : ℕ) (w : List ℕ) (t : Tree) where
@@ -358,7 +344,7 @@ one_less left = omega arith
 
 -- the guard on a number's digits
 hex_unguarded : (value left : ℕ) → nat_lt 0xfff value ≡ false → (nat_lt 0xfff value || (suc left == 0)) ≡ false
-hex_unguarded value left small = rw (small, is_other (suc left) 0 (λ e. absurd (omega (arith, e)))) refl
+hex_unguarded value left small = rw (small, ne_eqb (suc left) 0 (λ e. absurd (omega (arith, e)))) refl
 
 -- hexadecimal digits
 pub taking_hex : (value left c : ℕ) (r : Reading) (w : List ℕ) (t : Tree) → r.mode ≡ modes.Hex value left → IsPartial None value left → CompletesIn (modes.Hex value left) r (c ∷ w) t
@@ -367,7 +353,7 @@ taking_hex value left c r w t m p h = by_digit (digit_taken None value left c h.
   where
     by_end : (l d g : ℕ) → Hex l (value * 16 + d) w h.1 h.0 → (l ≡ 0 → g ≡ h.0) → (b : Bool) → l == 0 ≡ b → Takes (cond b (Some (with_atom (char g) r)) (Some (at (modes.Hex (value * 16 + d) l) r))) w t
     by_end l d g more last true y =
-        let l0 : l ≡ 0 = is_char l 0 y in
+        let l0 : l ≡ 0 = eqb-true l 0 y in
         let ended = subst (λ (k : ℕ). Hex k (value * 16 + d) w h.1 h.0) l0 more in
         (with_atom (char g) r, refl, subst (λ (v : List ℕ). AfterAtom (char g) r.trees r.groups v t) (sym ended.0) (subst (λ (k : ℕ). AfterAtom (char k) r.trees r.groups h.1 t) (sym (last l0)) h.4))
     by_end l d g more last false y = (at (modes.Hex (value * 16 + d) l) r, refl, (h.0, h.1, more, h.3, h.4))
@@ -387,7 +373,7 @@ taking_class_hex first value left c r w t m p h = by_digit (digit_taken first va
   where
     by_end : (l d g : ℕ) → Hex l (value * 16 + d) w h.3 h.2 → (l ≡ 0 → g ≡ h.2) → (b : Bool) → l == 0 ≡ b → Takes (cond b (class_char first g r) (Some (at (modes.ClassHex first (value * 16 + d) l) r))) w t
     by_end l d g more last true y =
-        let l0 : l ≡ 0 = is_char l 0 y in
+        let l0 : l ≡ 0 = eqb-true l 0 y in
         let ended = subst (λ (k : ℕ). Hex k (value * 16 + d) w h.3 h.2) l0 more in
         taking_class_character first g r w t (subst (λ (v : List ℕ). Left first g r v t) (sym ended.0) (subst (λ (k : ℕ). Left first k r h.3 t) (sym (last l0)) (h.0, h.1, h.6, h.7)))
     by_end l d g more last false y = (at (modes.ClassHex first (value * 16 + d) l) r, refl, (h.0, h.1, h.2, h.3, more, h.5, h.6, h.7))
@@ -403,11 +389,11 @@ taking_class_hex first value left c r w t m p h = by_digit (digit_taken first va
 
 -- what is taken of a class, in each of its states
 pub taking_class_open : (c : ℕ) (r : Reading) (w : List ℕ) (t : Tree) → r.mode ≡ ClassOpen → CompletesIn ClassOpen r (c ∷ w) t → (s : Reading) × (step_in ClassOpen c r ≡ Some s) × Completes s w t
-taking_class_open c r w t m (inl h) = takes_else (c == 94) _ _ w t (is_other c 94 h.0) (taking_item true c r w t (λ y. refl) h.1)
+taking_class_open c r w t m (inl h) = takes_else (c == 94) _ _ w t (ne_eqb c 94 h.0) (taking_item true c r w t (λ y. refl) h.1)
 taking_class_open c r w t m (inr h) =
     let same : c ≡ 94 = cc (h.1) in
     let tails : h.0 ≡ w = cc (h.1) in
-    takes_then (c == 94) _ _ w t (is_same c 94 same) (at ClassFirst (record r { negated = true }), refl, subst (λ (v : List ℕ). InClass true (record r { negated = true }) v t) tails h.2)
+    takes_then (c == 94) _ _ w t (eq-eqb c 94 same) (at ClassFirst (record r { negated = true }), refl, subst (λ (v : List ℕ). InClass true (record r { negated = true }) v t) tails h.2)
 
 pub taking_class_first : (c : ℕ) (r : Reading) (w : List ℕ) (t : Tree) → r.mode ≡ ClassFirst → CompletesIn ClassFirst r (c ∷ w) t → (s : Reading) × (step_in ClassFirst c r ≡ Some s) × Completes s w t
 taking_class_first c r w t m h = taking_item true c r w t (λ y. refl) h
@@ -419,7 +405,7 @@ pub taking_class_last : (c : ℕ) (r : Reading) (w : List ℕ) (t : Tree) → r.
 taking_class_last c r w t m h =
     let same : c ≡ 93 = cc (h.1) in
     let tails : h.0 ≡ w = cc (h.1) in
-    takes_then (c == 93) _ _ w t (is_same c 93 same) (class_end r, refl, subst (λ (v : List ℕ). AfterClass r t r.ranges v) tails h.2)
+    takes_then (c == 93) _ _ w t (eq-eqb c 93 same) (class_end r, refl, subst (λ (v : List ℕ). AfterClass r t r.ranges v) tails h.2)
 
 pub taking_class_char : (first c : ℕ) (r : Reading) (w : List ℕ) (t : Tree) → r.mode ≡ modes.ClassChar first → CompletesIn (modes.ClassChar first) r (c ∷ w) t → (s : Reading) × (step_in (modes.ClassChar first) c r ≡ Some s) × Completes s w t
 taking_class_char first c r w t m h = taking_after_char first c r w t h
@@ -428,8 +414,8 @@ pub taking_class_dash : (first c : ℕ) (r : Reading) (w : List ℕ) (t : Tree) 
 taking_class_dash first c r w t m h = taking_after_dash first c r w t h
 
 pub taking_class_zero : (is_last : Bool) (c : ℕ) (r : Reading) (w : List ℕ) (t : Tree) → r.mode ≡ modes.ClassZero is_last → CompletesIn (modes.ClassZero is_last) r (c ∷ w) t → (s : Reading) × (step_in (modes.ClassZero is_last) c r ≡ Some s) × Completes s w t
-taking_class_zero true c r w t m h = takes_else (is_digit c) _ _ w t (is_false (is_digit c) h.0) (taking_next_item c r w t h.1)
-taking_class_zero false c r w t m h = takes_else (is_digit c) _ _ w t (is_false (is_digit c) h.0) (taking_after_char 0 c r w t h.1)
+taking_class_zero true c r w t m h = takes_else (is_digit c) _ _ w t (false_from_ne_true (is_digit c) h.0) (taking_next_item c r w t h.1)
+taking_class_zero false c r w t m h = takes_else (is_digit c) _ _ w t (false_from_ne_true (is_digit c) h.0) (taking_after_char 0 c r w t h.1)
 
 pub taking_class_escape : (first : Option ℕ) (c : ℕ) (r : Reading) (w : List ℕ) (t : Tree) → r.mode ≡ modes.ClassEscape first → CompletesIn (modes.ClassEscape first) r (c ∷ w) t → (s : Reading) × (step_in (modes.ClassEscape first) c r ≡ Some s) × Completes s w t
 taking_class_escape first c r w t m h = taking_escape first c r w t h

@@ -1,6 +1,6 @@
 -- What completes a reading where the text ends is finished, with the same tree.
 use Rattle.std.proofs.Common.{◌≡◌, ℕ, zero, suc, Bool, true, false, List, [], ◌∷◌, ◌++◌, inl, inr, Option, Some, None, refl, sym, ap, subst, ◌∙◌}
-use Rattle.std.proofs.lemmas.Bool.{false≢true}
+use Rattle.std.proofs.lemmas.Bool.{false≢true, eqb-false}
 use Rattle.es_pattern.specs.Tree.{Tree, CharRange, nothing, sequence, choice}
 use Rattle.es_pattern.specs.Pieces.{top, below}
 use Rattle.es_pattern.specs.Escapes.{range}
@@ -14,7 +14,7 @@ use Rattle.es_pattern.specs.declared.mode.Mode.TheVariants.{Term, Atom, Quantifi
 use Rattle.es_pattern.specs.declared.mode.Mode.TheVariants as modes
 use Rattle.es_pattern.specs.Reading.{Reading, with_term, opened, flushed, ended, finished_in}
 use Rattle.es_pattern.proofs.BracesRead.{breaks_at_end}
-use Rattle.es_pattern.proofs.Sound.{is_no_char, Suffix, no_suffix, greedy_suffix, lazy_suffix, Closes, InTerm, AfterAtom, After, after_one, after_range, EscapeItem, escape_char, CompletesIn}
+use Rattle.es_pattern.proofs.Sound.{Suffix, no_suffix, greedy_suffix, lazy_suffix, Closes, InTerm, AfterAtom, After, after_one, after_range, EscapeItem, escape_char, CompletesIn}
 use Rattle.es_pattern.proofs.Sane.{IsPartial, IsSaneIn}
 use Rattle.es_pattern.proofs.TakingTerms.{first_term, flushed_taken, group_opened, term_taken}
 
@@ -151,10 +151,10 @@ taking_end Zero r t e s h = in_term_end (with_term r) t (after_atom_end (top r.t
 taking_end (Braces after_atom) r t e s h =
     let f = flushed after_atom r in
     in_term_end (with_term f) t (after_atom_end (top f.trees) (below f.trees) f.groups t (flushed_taken after_atom r [] t s (breaks_at_end r.braces s) (h s)))
-taking_end Escape r t e s h = let f = first_term r.trees r.groups t 92 [] (is_no_char 92 41 refl) (is_no_char 92 124 refl) h in absurd (no_escape_term f.0 f.1 f.2)
+taking_end Escape r t e s h = let f = first_term r.trees r.groups t 92 [] (eqb-false 92 41 refl) (eqb-false 92 124 refl) h in absurd (no_escape_term f.0 f.1 f.2)
 taking_end (modes.Hex value left) r t e s h = absurd (no_hex None left value h.0 h.1 s h.2)
-taking_end Paren r t e s h = let f = first_term r.trees r.groups t 40 [] (is_no_char 40 41 refl) (is_no_char 40 124 refl) h in absurd (no_paren_term f.0 f.1 f.2)
-taking_end ParenQuestion r t e s h = let f = first_term r.trees r.groups t 40 (63 ∷ []) (is_no_char 40 41 refl) (is_no_char 40 124 refl) h in absurd (no_question_term r t f.0 f.1 f.2 f.3)
+taking_end Paren r t e s h = let f = first_term r.trees r.groups t 40 [] (eqb-false 40 41 refl) (eqb-false 40 124 refl) h in absurd (no_paren_term f.0 f.1 f.2)
+taking_end ParenQuestion r t e s h = let f = first_term r.trees r.groups t 40 (63 ∷ []) (eqb-false 40 41 refl) (eqb-false 40 124 refl) h in absurd (no_question_term r t f.0 f.1 f.2 f.3)
 taking_end ClassOpen r t e s (inl h) = absurd (no_items true r.ranges h.1.0 h.1.1 h.1.2)
 taking_end ClassOpen r t e s (inr h) = absurd (cc (h.1))
 taking_end ClassFirst r t e s h = absurd (no_items true r.ranges h.0 h.1 h.2)

@@ -3,7 +3,7 @@ use Rattle.std.proofs.Common.{◌≡◌, ℕ, ◌-◌, ◌*◌, ◌<◌, ◌≤�
 use Rattle.std.specs.Prelude.{◌==◌, ◌&&◌, ◌⊎◌, max, nat_le}
 use Rattle.std.proofs.lemmas.List.{append_assoc}
 use Rattle.std.proofs.lemmas.Option.{same_Some}
-use Rattle.std.proofs.lemmas.Bool.{false≢true}
+use Rattle.std.proofs.lemmas.Bool.{false≢true, eqb-true, eqb-false}
 use Rattle.std.proofs.lemmas.Bool.Decides.{nat_tests}
 use Rattle.es_pattern.specs.Tree.{Tree, CharRange, nothing, one_of, text_start, text_end, word_boundary, sequence, choice, lookahead}
 use Rattle.es_pattern.specs.Pieces.{top, below}
@@ -19,7 +19,7 @@ use Rattle.es_pattern.specs.declared.mode.Mode.TheVariants as modes
 use Rattle.es_pattern.specs.Reading.{Reading, charged, with_term, top_product, products_below, closed_by, quantified, term_begun, plain, with_set, with_char, asserted, joined, with_atom, opened, at, leaf, chosen, flushed, flushed_chars, bounds_of, in_braces_end, is_inner, in_braces, step_in}
 use Rattle.es_pattern.specs.Limits.{count_of}
 use Rattle.es_pattern.proofs.BracesRead.{AllInner, bounds_complete, bounds_inner, bounds_sound, breaks}
-use Rattle.es_pattern.proofs.Sound.{is_char, is_no_char, no_braces, completes_at, digit_plain, Suffix, no_suffix, greedy_suffix, lazy_suffix, Closes, InTerm, AfterAtom, Base, CompletesIn, Completes, term_next, atom_next, unsuffixed}
+use Rattle.es_pattern.proofs.Sound.{no_braces, completes_at, digit_plain, Suffix, no_suffix, greedy_suffix, lazy_suffix, Closes, InTerm, AfterAtom, Base, CompletesIn, Completes, term_next, atom_next, unsuffixed}
 
 -- the machine goes on, to what the rest of the text completes
 abbrev pub Taken : Option Reading → List ℕ → Tree → Type 0
@@ -30,7 +30,7 @@ pub apart_by : (p : ℕ → Bool) (c k : ℕ) → p c ≡ true → p k ≡ false
 apart_by p c k h n = by_test (c == k) refl
   where
     by_test : (b : Bool) → c == k ≡ b → c == k ≡ false
-    by_test true e = absurd (false≢true (sym n ∙ ap p (sym (is_char c k e)) ∙ h))
+    by_test true e = absurd (false≢true (sym n ∙ ap p (sym (eqb-true c k e)) ∙ h))
     by_test false e = e
 
 -- the character marks no quantifier
@@ -47,7 +47,7 @@ FirstTerm ts gs text t = (u : Tree) × (mid : List ℕ) × Reads (term u) text m
 
 -- a character that is no `{` begins no braces
 pub begins_term : (c : ℕ) (r : Reading) (w : List ℕ) (t : Tree) → NoMark c → c == 123 ≡ false → Taken (term_begun c r) w t → BeginsTerm r c w t
-begins_term c r w t n n123 h = (n, no_braces c w (is_no_char c 123 n123), h)
+begins_term c r w t n n123 h = (n, no_braces c w (eqb-false c 123 n123), h)
 
 -- a character that is no part of the syntax stands for itself
 pub plain_begun : (r : Reading) (c : ℕ) → is_plain c ≡ true → term_begun c r ≡ Some (with_atom (char c) r)
@@ -131,7 +131,7 @@ pub plain_taken : (may_be_lazy : Bool) (c : ℕ) (r : Reading) (w : List ℕ) (t
 plain_taken may_be_lazy c r w t i = by_brace (c == 123) refl (term_taken r c w t i)
   where
     by_brace : (b : Bool) → c == 123 ≡ b → BeginsTerm r c w t → Taken (plain false may_be_lazy c r) w t
-    by_brace true e h = (at (Braces false) (record r { braces = [] }), rw (h.0.0, h.0.1, h.0.2, e) refl, λ inner. subst (λ (d : ℕ). InTerm r.trees r.groups (d ∷ w) t) (is_char c 123 e) i)
+    by_brace true e h = (at (Braces false) (record r { braces = [] }), rw (h.0.0, h.0.1, h.0.2, e) refl, λ inner. subst (λ (d : ℕ). InTerm r.trees r.groups (d ∷ w) t) (eqb-true c 123 e) i)
     by_brace false e h = (h.2.0, rw (h.0.0, h.0.1, h.0.2, e) h.2.1, h.2.2)
 
 -- where a term may begin, after an atom
@@ -140,7 +140,7 @@ settled_taken c r w t i = by_brace (c == 123) refl (term_taken (with_term r) c w
   where
     by_brace : (b : Bool) → c == 123 ≡ b → BeginsTerm (with_term r) c w t → Taken (plain true false c r) w t
     by_brace true e h =
-        (at (Braces true) (record r { braces = [] }), rw (h.0.0, h.0.1, h.0.2, e) refl, λ inner. unsuffixed (below r.trees) r.groups t (top r.trees) (123 ∷ w) (subst (λ (d : ℕ). InTerm (with_term r).trees r.groups (d ∷ w) t) (is_char c 123 e) i))
+        (at (Braces true) (record r { braces = [] }), rw (h.0.0, h.0.1, h.0.2, e) refl, λ inner. unsuffixed (below r.trees) r.groups t (top r.trees) (123 ∷ w) (subst (λ (d : ℕ). InTerm (with_term r).trees r.groups (d ∷ w) t) (eqb-true c 123 e) i))
     by_brace false e h = (h.2.0, rw (h.0.0, h.0.1, h.0.2, e) h.2.1, h.2.2)
 
 -- after an atom, a quantifier, or where a term may begin
@@ -198,7 +198,7 @@ pub no_escape : (c k v : ℕ) → escaped c ≡ Some v → escaped k ≡ None �
 no_escape c k v h n = by_test (c == k) refl
   where
     by_test : (b : Bool) → c == k ≡ b → c == k ≡ false
-    by_test true e = let same : escaped c ≡ escaped k = ap escaped (is_char c k e) in cc
+    by_test true e = let same : escaped c ≡ escaped k = ap escaped (eqb-true c k e) in cc
     by_test false e = e
 
 -- a hexadecimal digit's value
@@ -259,7 +259,7 @@ escape_term_taken c r w t u mid (lazy {t = b} {mid = after} a m) i = escape_atom
 
 -- what completes a reading after a backslash
 pub taking_escape : (c : ℕ) (r : Reading) (w : List ℕ) (t : Tree) → r.mode ≡ Escape → CompletesIn Escape r (c ∷ w) t → (s : Reading) × (step_in Escape c r ≡ Some s) × Completes s w t
-taking_escape c r w t m h = let f = first_term r.trees r.groups t 92 (c ∷ w) (is_no_char 92 41 refl) (is_no_char 92 124 refl) h in escape_term_taken c r w t f.0 f.1 f.2 f.3
+taking_escape c r w t m h = let f = first_term r.trees r.groups t 92 (c ∷ w) (eqb-false 92 41 refl) (eqb-false 92 124 refl) h in escape_term_taken c r w t f.0 f.1 f.2 f.3
 
 -- a group's alternatives
 pub group_opened : (r : Reading) (w : List ℕ) (t a : Tree) (mid : List ℕ) → Reads (alternatives never nothing a) w (41 ∷ mid) → AfterAtom a r.trees r.groups mid t → InTerm (opened Group r).trees (opened Group r).groups w t
@@ -289,9 +289,9 @@ pub taking_paren : (c : ℕ) (r : Reading) (w : List ℕ) (t : Tree) → r.mode 
 taking_paren c r w t m h = by_question (c == 63) refl
   where
     by_question : (b : Bool) → c == 63 ≡ b → Taken (cond (c == 63) (Some (at ParenQuestion r)) (plain false false c (opened Group r))) w t
-    by_question true e = (at ParenQuestion r, rw e refl, subst (λ (d : ℕ). InTerm r.trees r.groups (40 ∷ d ∷ w) t) (is_char c 63 e) h)
+    by_question true e = (at ParenQuestion r, rw e refl, subst (λ (d : ℕ). InTerm r.trees r.groups (40 ∷ d ∷ w) t) (eqb-true c 63 e) h)
     by_question false e =
-        let f = first_term r.trees r.groups t 40 (c ∷ w) (is_no_char 40 41 refl) (is_no_char 40 124 refl) h in
+        let f = first_term r.trees r.groups t 40 (c ∷ w) (eqb-false 40 41 refl) (eqb-false 40 124 refl) h in
         subst (λ (b : Bool). Taken (cond b (Some (at ParenQuestion r)) (plain false false c (opened Group r))) w t) (sym e) (plain_taken false c (opened Group r) w t (paren_term c r w t f.0 f.1 e f.2 f.3))
 
 -- what begins with `(?` as an atom
@@ -310,7 +310,7 @@ question_term c r w t u mid (lazy {t = b} {mid = after} a m) i = question_atom c
 
 -- what completes a reading after `(?`
 pub taking_paren_question : (c : ℕ) (r : Reading) (w : List ℕ) (t : Tree) → r.mode ≡ ParenQuestion → CompletesIn ParenQuestion r (c ∷ w) t → (s : Reading) × (step_in ParenQuestion c r ≡ Some s) × Completes s w t
-taking_paren_question c r w t m h = let f = first_term r.trees r.groups t 40 (63 ∷ c ∷ w) (is_no_char 40 41 refl) (is_no_char 40 124 refl) h in question_term c r w t f.0 f.1 f.2 f.3
+taking_paren_question c r w t m h = let f = first_term r.trees r.groups t 40 (63 ∷ c ∷ w) (eqb-false 40 41 refl) (eqb-false 40 124 refl) h in question_term c r w t f.0 f.1 f.2 f.3
 
 -- a digit or a comma is no `}`
 not_end : (y : ℕ) → (is_digit y ≡ true) ⊎ (y ≡ 44) → y ≡ 125 → ⊥
@@ -351,7 +351,7 @@ pub flushed_chars_taken : (cs : List ℕ) (r : Reading) (rest : List ℕ) (t : T
 flushed_chars_taken [] r rest t h a = a
 flushed_chars_taken (c ∷ cs) r rest t h a =
     let p = inner_plain c h.0 in
-    let i = unmarked (below r.trees) r.groups t (top r.trees) a.0 c (cs ++ rest) a.1 p.1 (no_braces c (cs ++ rest) (is_no_char c 123 p.2)) a.2 a.3 in
+    let i = unmarked (below r.trees) r.groups t (top r.trees) a.0 c (cs ++ rest) a.1 p.1 (no_braces c (cs ++ rest) (eqb-false c 123 p.2)) a.2 a.3 in
     flushed_chars_taken cs (with_atom (char c) (with_term r)) rest t h.1 (itself_taken (with_term r) c (cs ++ rest) t p.0 i)
 
 -- braces that are no quantifier
@@ -404,12 +404,12 @@ braces_taken after_atom c r w t m inner h = by_inner (is_inner r.braces c) refl
     by_bounds : (o : Option (ℕ × Option ℕ)) → bounds_of r.braces ≡ o → c == 125 ≡ true → is_inner r.braces c ≡ false → Taken (in_braces_end (bounds_of r.braces) after_atom c r) w t
     by_bounds None b e out = subst (λ (o : Option (ℕ × Option ℕ)). Taken (in_braces_end o after_atom c r) w t) (sym b) (broken out (λ e125. b))
     by_bounds (Some bounds) b e out =
-        let is = is_char c 125 e in
+        let is = eqb-true c 125 e in
         subst (λ (d : ℕ). Taken (in_braces_end (bounds_of r.braces) after_atom d r) w t) (sym is) (bounds_taken after_atom r w t inner bounds.0 bounds.1 b (subst (λ (d : ℕ). Base after_atom r (123 ∷ (r.braces ++ d ∷ w)) t) is h))
 
     by_end : (b : Bool) → c == 125 ≡ b → is_inner r.braces c ≡ false → Taken (cond b (in_braces_end (bounds_of r.braces) after_atom c r) (plain true false c (flushed after_atom r))) w t
     by_end true e out = by_bounds (bounds_of r.braces) refl e out
-    by_end false e out = broken out (λ e125. absurd (is_no_char c 125 e e125))
+    by_end false e out = broken out (λ e125. absurd (eqb-false c 125 e e125))
 
     by_inner : (b : Bool) → is_inner r.braces c ≡ b → Taken (in_braces after_atom c r) w t
     by_inner true e = (more, ap (λ (b : Bool). cond b (Some more) (cond (c == 125) (in_braces_end (bounds_of r.braces) after_atom c r) (plain true false c (flushed after_atom r)))) e, goes_on)

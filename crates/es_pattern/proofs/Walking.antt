@@ -1,7 +1,7 @@
 -- Programs of parts walk as the parts do.
 use Rattle.std.proofs.Common.{◌≡◌, ℕ, zero, suc, ◌+◌, ◌-◌, ◌≤◌, List, [], ◌∷◌, ◌++◌, ◌⊎◌, inl, inr, length, Some, None, Option, option_map, refl, sym, subst, ◌∙◌, arith, length-append, add-zero, add-one, append_assoc}
 use Rattle.std.specs.Prelude.{slice_get}
-use Rattle.std.proofs.lemmas.Option.{slice_get_within}
+use Rattle.std.proofs.lemmas.Option.{slice_get_within, same_Some}
 use Rattle.es_pattern.specs.declared.step.Step.{Step}
 use Rattle.es_pattern.specs.declared.step.Step.TheVariants.{Pass, Fork, Jump, Back}
 use Rattle.es_pattern.specs.Program.{Does, Runs, Stands, Walks, choice_steps, maybe_steps, star_steps, copies, further_steps, repetition_steps}
@@ -28,16 +28,13 @@ module _ (passes : ℕ → ℕ → ℕ → Type 0) where
   no_end : (program : List Step) (at : ℕ) (s : Step) → slice_get program at ≡ Some s → at ≡ length program → ⊥
   no_end p at s h e = omega (arith, slice_get_within p at s h)
 
-  same_step : (s t : Step) → Some s ≡ Some t → s ≡ t
-  same_step s t e = cc
-
   -- what a step that stands does first
   first_step : (program : List Step) (at : ℕ) (s : Step) → slice_get program at ≡ Some s → (i n : ℕ) → Runs passes program n at i
       → (k : ℕ) × (n ≡ suc k) × (next : ℕ) × (j : ℕ) × Does passes s at i next j × Runs passes program k next j
   first_step p at s h i zero r = absurd (no_end p at s h r)
   first_step p at s h i (suc k) r =
       let goes = r.2 in
-      let e : goes.step ≡ s = same_step goes.step s (sym goes.stands ∙ h) in
+      let e : goes.step ≡ s = same_Some goes.step s (sym goes.stands ∙ h) in
       (k, refl, r.0, r.1, subst (λ (t : Step). Does passes t at i r.0 r.1) e goes.does, r.3)
 
   runs_at : (p : List Step) (n i x y : ℕ) → x ≡ y → Runs passes p n x i → Runs passes p n y i
