@@ -16,9 +16,9 @@ use Rattle.es_pattern.specs.Program.{Stands, Runs, Walks, copies, maybe_steps, f
 use Rattle.es_pattern.specs.Passing.{PassesPiece, IsSingle, Tells}
 use Rattle.es_pattern.specs.Reaching.{IsPassBelow, PassesBelow, Reaches}
 use Rattle.es_pattern.proofs.Walking.{walks_nothing, walks_piece, walks_sequence, walks_choice, walks_repetition, walks_same}
-use Rattle.es_pattern.proofs.Runnings.{lt_or_same}
 use Rattle.es_pattern.proofs.Passings.{tree_at_is, with_more}
 use Rattle.es_pattern.specs.Compiled.{stack_of, top_code, code_below, with_code, AllWalk, Compiled, Tabulates}
+use Rattle.es_pattern.proofs.Tests.{lt_or_same}
 
 stack_push : (programs : List (Vec Step)) (p : Vec Step) → stack_of (programs ++ p ∷ []) ≡ p.items ∷ stack_of programs
 stack_push programs p = ap reverse (map-append (λ (q : Vec Step). q.items) programs (p ∷ [])) ∙ reverse-append (map (λ (q : Vec Step). q.items) programs) (p.items ∷ [])
@@ -175,9 +175,6 @@ slice_get_end [] b = refl
 slice_get_end (x ∷ xs) b = slice_get_end xs b
 
 module _ (passes : ℕ → ℕ → ℕ → Type 0) (program : List Step) (negated : Bool) where
-  pub tabulating_start : Tabulating passes program negated 0 []
-  tabulating_start = record { counted = refl; told = λ k lt. absurd (omega (arith, lt)) }
-
   pub tabulating_more : (count : ℕ) (table : List Bool) (found : Bool) → Tabulating passes program negated count table → (IsTrue found ↔ Reaches passes program count count) → Tabulating passes program negated (count + 1) (table ++ differs negated found ∷ [])
   tabulating_more count table found t h = record {
     counted = omega (arith, length-append table (differs negated found ∷ []), t.counted);
@@ -187,9 +184,6 @@ module _ (passes : ℕ → ℕ → ℕ → Type 0) (program : List Step) (negate
       by_order : (k : ℕ) → (k < count) ⊎ (k ≡ count) → (f : Bool) × (slice_get (table ++ differs negated found ∷ []) k ≡ Some (differs negated f)) × (IsTrue f ↔ Reaches passes program k k)
       by_order k (inl lt) = let old = t.told k lt in (old.0, slice_get-append table (differs negated found ∷ []) k (differs negated old.0) old.1, old.2)
       by_order k (inr e) = (found, subst (λ (x : ℕ). slice_get (table ++ differs negated found ∷ []) x ≡ Some (differs negated found)) (t.counted ∙ sym e) (slice_get_end table (differs negated found)), subst (λ (x : ℕ). IsTrue found ↔ Reaches passes program x x) (sym e) h)
-
-  pub tabulates : (size : ℕ) (table : List Bool) → Tabulating passes program negated (size + 1) table → Tabulates passes program negated size table
-  tabulates size table t = record { at = λ k le. t.told k (omega (arith, le)) }
 
 -- a lookahead's table
 pub tells_from : (pieces : List Piece) (text : List ℕ) (count : ℕ) (programs : List (List Step)) (tables : List (Vec Bool)) (negated : Bool) (table : List Bool) → Compiled pieces text count programs tables → slice_get pieces count ≡ Some (Lookahead negated)
@@ -263,10 +257,6 @@ found_from pieces text programs tables program c e found h = (λ yes_. to (h.0 y
 
     from : IsFound (tree_of pieces) text → Reaches (PassesPiece pieces text) program 0 (length text)
     from f = let r = ends_from (PassesPiece pieces text) program (Spans (tree_of pieces) text) walks f.0 f.1 f.3 in (f.0, r.0, omega arith, f.2, r.1)
-
-pub part_passes : (pieces : List Piece) (text : List ℕ) (count : ℕ) (programs : List (List Step)) (tables : List (Vec Bool)) (part : List Step) → Compiled pieces text count programs tables → part ≡ top_code programs → PassesBelow part (length tables)
-part_passes pieces text count programs tables part c e =
-    subst (λ (p : List Step). PassesBelow p (length tables)) (sym e) (subst (λ (k : ℕ). PassesBelow (top_code programs) k) (sym c.counted) (passes_top pieces text count programs (with_pieces (take count pieces) []) c.walk))
 
 pub found_if : {E : Type 0} (r : Result Bool E) (pieces : List Piece) (cs lent text : List ℕ) (programs : List (List Step)) (tables : List (Vec Bool)) (program taken : List Step) (count last : ℕ)
     → Compiled pieces cs count programs tables → count ≡ length pieces → program ≡ top_code programs → taken ≡ program → lent ≡ cs → last ≡ length cs → cs ≡ text

@@ -10,10 +10,10 @@ use Rattle.es_pattern.specs.declared.braces.Bounds.{Bounds}
 use Rattle.es_pattern.specs.Reading.{Reading, second_bounds, pair_bounds, bounds_by, in_braces_end, marked, quantified, charged, overcounts}
 use Rattle.es_pattern.specs.Limits.{is_above_limit, count_of}
 use Rattle.es_pattern.specs.Spans.{IsUpTo}
-use Rattle.es_pattern.proofs.Runnings.{lt_from}
 use Rattle.es_pattern.specs.Escapes.{is_digit}
 use Rattle.es_pattern.specs.Grammar.{number, number_from}
 use Rattle.es_pattern.specs.Bounds.{padded, Counts, Bounded}
+use Rattle.es_pattern.proofs.Tests.{lt_from, within_bounds}
 
 -- a digit's number goes on only over a digit
 pub digit_only : (value c : ℕ) (cs : List ℕ) (n : ℕ) → number_from value (c ∷ cs) ≡ Some n → (is_digit c ≡ true) × (number_from (value * 10 + (c - 48)) cs ≡ Some n)
@@ -23,8 +23,9 @@ digit_only value c cs n h = by_test (is_digit c) refl h
     by_test true e g = (e, g)
     by_test false e g = cc
 
-digit_at_most : (c : ℕ) → is_digit c ≡ true → (48 ≤ c) × (c ≤ 57)
-digit_at_most c h = (grind (arith, nat_tests), grind (arith, nat_tests))
+-- a digit's bounds
+pub digit_within : (c : ℕ) → is_digit c ≡ true → (48 ≤ c) × (c ≤ 57)
+digit_within c h = within_bounds 48 57 c h
 
 -- of two numbers of as many digits, the one that began smaller stays smaller
 stays_less : (xs ys : List ℕ) (x y n m : ℕ) → length xs ≡ length ys → x < y → number_from x xs ≡ Some n → number_from y ys ≡ Some m → n < m
@@ -34,8 +35,8 @@ stays_less (c ∷ xs) [] x y n m l lt hx hy = absurd (omega (arith, l))
 stays_less (c ∷ xs) (d ∷ ys) x y n m l lt hx hy =
     let cx = digit_only x c xs n hx in
     let dy = digit_only y d ys m hy in
-    let cb = digit_at_most c cx.0 in
-    let db = digit_at_most d dy.0 in
+    let cb = digit_within c cx.0 in
+    let db = digit_within d dy.0 in
     stays_less xs ys (x * 10 + (c - 48)) (y * 10 + (d - 48)) n m (omega (arith, l)) (omega (arith, lt, cb.1, cb.0, db.0)) cx.1 dy.1
 
 -- the first digit that differs decides
@@ -45,7 +46,7 @@ first_decides (c ∷ xs) [] i value n m l same lt less hx hy = absurd (omega (ar
 first_decides (c ∷ xs) (d ∷ ys) zero value n m l same lt less hx hy =
     let cx = digit_only value c xs n hx in
     let dy = digit_only value d ys m hy in
-    let cb = digit_at_most c cx.0 in
+    let cb = digit_within c cx.0 in
     stays_less xs ys (value * 10 + (c - 48)) (value * 10 + (d - 48)) n m (omega (arith, l)) (omega (arith, less, cb.0)) cx.1 dy.1
 first_decides (c ∷ xs) (d ∷ ys) (suc i) value n m l same lt less hx hy =
     let heads : c ≡ d = cc in

@@ -20,17 +20,17 @@ use Rattle.es_pattern.specs.declared.mode.Mode.TheVariants.{Braces}
 use Rattle.es_pattern.specs.Reading.{Reading, step, step_in, plain, flushed, in_braces, in_braces_end, marked, quantified, charged, bounds_of, is_inner, overcounts, overcounts_in, overcounts_at, reads, start, finished, accepted}
 use Rattle.es_pattern.specs.Parsing.{PassesBefore}
 use Rattle.es_pattern.specs.Faults.{BeginsPattern, IsUnsupportedAt, IsTooDeepAt, IsQuantifierAt, IsCountAt, IsProductAt, IsTooLargeAt, IsSyntaxAt, IsClearBefore, IsFirstFault, IsClear, byte_place}
-use Rattle.es_pattern.proofs.Runnings.{lt_or_same}
 use Rattle.es_pattern.proofs.Parsings.{reads_more}
 use Rattle.es_pattern.proofs.BracesRead.{bounds_complete, goes_on}
-use Rattle.es_pattern.proofs.Sound.{Completes, InTerm, if_else, inner_is, no_reading, accepted_is_pattern}
+use Rattle.es_pattern.proofs.Sound.{Completes, InTerm, if_else, inner_is, accepted_is_pattern}
 use Rattle.es_pattern.proofs.Sane.{IsMeasured, MeasuredBase, after_atom_in}
 use Rattle.es_pattern.proofs.Viable.{viable}
 use Rattle.es_pattern.proofs.Above.{term_above}
 use Rattle.es_pattern.proofs.Beginnings.{completes_before, completes_pattern, pattern_reads, begins_reads, reads_begins, reads_part, reads_step, syntax_stops, syntax_ends, no_syntax_before}
 use Rattle.es_pattern.proofs.Kept.{sane_reads, measured_reads}
 use Rattle.es_pattern.proofs.Placing.{unsupported_placed, deep_placed, quantifier_placed}
-use Rattle.es_pattern.proofs.Placed.{unsupported_reads, deep_reads, quantifier_reads, forms_within, deep_within, quantifier_within}
+use Rattle.es_pattern.proofs.Placed.{unsupported_reads, deep_reads, quantifier_reads, forms_within, deep_within, quantifier_within, inner_step}
+use Rattle.es_pattern.proofs.Tests.{lt_or_same, no_some}
 
 -- the heads of the forms that are refused
 head_of : (text rest : List ℕ) (n c : ℕ) → drop n text ≡ c ∷ rest → get_or text n 0 ≡ c
@@ -220,12 +220,7 @@ deep_first text n r c u d = (
 
 -- a quantifier doesn't begin where the machine stops
 no_start : (text : List ℕ) (n : ℕ) (r : Reading) (bounds : List ℕ) (least : ℕ) (most : Option ℕ) → n < length text → reads (take n text) start ≡ Some r → step (get_or text n 0) r ≡ None → IsQuantifierAt text n bounds least most → ⊥
-no_start text n r bounds least most lt e stop h = let s = quantifier_reads text n bounds least most r h e 0 (omega arith) in no_reading s.0 (sym stop ∙ reads_step text n r s.0 lt e s.2)
-
-inner_step : (r : Reading) (after_atom : Bool) (c : ℕ) → r.mode ≡ Braces after_atom → is_inner r.braces c ≡ true → step c r ≡ None → ⊥
-inner_step r after_atom c m inner stop =
-    let taken : step c r ≡ Some (record r { braces = r.braces ++ c ∷ [] }) = ap (λ (k : Mode). step_in k c r) m ∙ ap (λ (b : Bool). cond b (Some (record r { braces = r.braces ++ c ∷ [] })) (cond (c == 125) (in_braces_end (bounds_of r.braces) after_atom c r) (plain true false c (flushed after_atom r)))) inner in
-    no_reading (record r { braces = r.braces ++ c ∷ [] }) (sym stop ∙ taken)
+no_start text n r bounds least most lt e stop h = let s = quantifier_reads text n bounds least most r h e 0 (omega arith) in no_some s.0 (sym stop ∙ reads_step text n r s.0 lt e s.2)
 
 -- where no character goes on
 module _ (text : List ℕ) (n : ℕ) (r : Reading) (c : Comes text n r) (lt : n < length text) (stop : step (get_or text n 0) r ≡ None) (small : overcounts_at (get_or text n 0) r ≡ false) where
@@ -239,10 +234,10 @@ module _ (text : List ℕ) (n : ℕ) (r : Reading) (c : Comes text n r) (lt : n 
       by_large after_atom m same at b (inr (begins, over)) =
           let next : q + (length bounds + 2) ≡ n + 1 = omega (arith, same) in
           let s = begins_reads (take (n + 1) text) (subst (λ (k : ℕ). BeginsPattern (take k text)) next begins) in
-          no_reading s.0 (sym stop ∙ reads_step text n r s.0 lt c.so_far s.1)
+          no_some s.0 (sym stop ∙ reads_step text n r s.0 lt c.so_far s.1)
 
       by_interior : (after_atom : Bool) → r.mode ≡ Braces after_atom → (is_inner r.braces (get_or text n 0) ≡ true) ⊎ ((n ≡ q + (length bounds + 1)) × (get_or text n 0 ≡ 125) × (r.braces ≡ bounds)) → IsLarge text q bounds least most → ⊥
-      by_interior after_atom m (inl inner) large = inner_step r after_atom (get_or text n 0) m inner stop
+      by_interior after_atom m (inl inner) large = no_some _ (sym stop ∙ inner_step after_atom (get_or text n 0) r m inner)
       by_interior after_atom m (inr (same, at, b)) large = by_large after_atom m same at b large
 
   pub syntax_first : is_unsupported r.mode (drop n text) ≡ false → is_too_deep (length r.groups) r.mode (drop n text) ≡ false → IsFirstFault text (Syntax (byte_place text n))

@@ -406,7 +406,7 @@ brace_step (modes.ClassEscape first) r at_m h = absurd (false≢true h)
 brace_step (modes.ClassHex first value left) r at_m h = absurd (false≢true h)
 
 -- a character more in braces
-inner_step : (after_atom : Bool) (c : ℕ) (s : Reading) → s.mode ≡ Braces after_atom → is_inner s.braces c ≡ true → step c s ≡ Some (record s { braces = s.braces ++ c ∷ [] })
+pub inner_step : (after_atom : Bool) (c : ℕ) (s : Reading) → s.mode ≡ Braces after_atom → is_inner s.braces c ≡ true → step c s ≡ Some (record s { braces = s.braces ++ c ∷ [] })
 inner_step after_atom c s m inner =
     ap (λ (j : Mode). step_in j c s) m
     ∙ ap (λ (b : Bool). cond b (Some (record s { braces = s.braces ++ c ∷ [] })) (cond (c == 125) (in_braces_end (bounds_of s.braces) after_atom c s) (plain true false c (flushed after_atom s)))) inner

@@ -20,6 +20,8 @@ use Rattle.es_pattern.specs.Reading.{Reading, step, reads, start, bounds_of}
 use Rattle.es_pattern.proofs.BracesRead.{AllInner, inner-append, bounds_sound}
 use Rattle.es_pattern.proofs.Moves.{Kind, outside, in_bounds, in_paren, in_question, behind, in_hex, class_front, inside, kind_in, kind, behind_escape, Moves, step_moves, may_open_at, may_escape_at, pending_at, modes_agree}
 use Rattle.es_pattern.proofs.Moves.{OutsideMoves, by_symbol, by_brace, by_paren, by_close, by_bracket, by_backslash, BoundsMoves, by_inner, by_other, ParenMoves, by_question, by_content, EscapeMoves, by_letter, by_x, by_u, HexMoves, by_last, by_more, InsideMoves, by_end, by_class_backslash, by_member, FrontMoves, by_caret, by_first}
+use Rattle.es_pattern.proofs.Digits.{digit_within}
+use Rattle.es_pattern.proofs.Tests.{below_apart, above_apart}
 
 -- the place of an escape, in a class or not
 abbrev pub within : Bool → ℕ → Within
@@ -50,15 +52,8 @@ behind_placed true d text rest h = h
 -- digits and commas are symbols
 pub inner_symbol : (c : ℕ) → (is_digit c ≡ true) ⊎ (c ≡ 44) → is_structural c ≡ false
 inner_symbol c (inl h) =
-    let high : c ≤ 57 = grind (arith, nat_tests) in
-    let low : 48 ≤ c = grind (arith, nat_tests) in
-    rw (apart_low 40 (omega (arith, low)), apart_low 41 (omega (arith, low)), apart 91 (omega (arith, high)), apart 92 (omega (arith, high))) refl
-  where
-    apart : (k : ℕ) → c < k → c == k ≡ false
-    apart k lt = grind (arith, nat_tests)
-
-    apart_low : (k : ℕ) → k < c → c == k ≡ false
-    apart_low k lt = grind (arith, nat_tests)
+    let bounds = digit_within c h in
+    rw (above_apart c 40 (omega (arith, bounds.0)), above_apart c 41 (omega (arith, bounds.0)), below_apart c 91 (omega (arith, bounds.1)), below_apart c 92 (omega (arith, bounds.1))) refl
 inner_symbol c (inr h) = subst (λ (x : ℕ). is_structural x ≡ false) (sym h) refl
 
 past_inner : (d : ℕ) (text bs rest : List ℕ) → AllInner bs → Stands text (groups d) (bs ++ rest) → Stands text (groups d) rest
@@ -238,7 +233,7 @@ one_byte_more : (c : ℕ) (cs : List ℕ) → c < 128 → length (encode_utf8_al
 one_byte_more c cs low = omega (arith, length-append (encode_utf8 c) (encode_utf8_all cs), length-encode c, len_utf8_ascii c low)
 
 inner_low : (c : ℕ) → (is_digit c ≡ true) ⊎ (c ≡ 44) → c < 128
-inner_low c (inl h) = let high : c ≤ 57 = grind (arith, nat_tests) in omega (arith, high)
+inner_low c (inl h) = omega (arith, digit_within c h)
 inner_low c (inr h) = omega (arith, h)
 
 -- digits and commas take a byte each

@@ -21,21 +21,12 @@ use Rattle.es_pattern.specs.Program.{Does, Goes, Runs}
 use Rattle.es_pattern.specs.Passing.{IsSingle, PassesPiece}
 use Rattle.es_pattern.specs.Reaching.{Advances, Ends, FromSome, IsPassBelow, PassesBelow, Reaches, Settles, if_within, same_place, next_place, with_start}
 use Rattle.es_pattern.proofs.Passings.{tree_at_is}
+use Rattle.es_pattern.proofs.Tests.{lt_from, lt_or_same}
 
 pub below_at : (program : List Step) (count at : ℕ) (s : Step) → PassesBelow program count → slice_get program at ≡ Some s → IsPassBelow s count
 below_at [] count at s below h = cc
 below_at (t ∷ program) count zero s below h = let e : t ≡ s = cc in subst (λ (u : Step). IsPassBelow u count) e below.0
 below_at (t ∷ program) count (suc at) s below h = below_at program count at s below.1 h
-
-pub lt_from : (a b : ℕ) → a ≤ b → (a ≡ b → ⊥) → a < b
-lt_from a b le apart = grind (arith)
-
-pub lt_or_same : (a b : ℕ) → a ≤ b → (a < b) ⊎ (a ≡ b)
-lt_or_same a b le = by_order (cases_eq a b)
-  where
-    by_order : (a ≡ b) ⊎ (a ≡ b → ⊥) → (a < b) ⊎ (a ≡ b)
-    by_order (inl e) = inr e
-    by_order (inr apart) = inl (lt_from a b le apart)
 
 contains_none : (q : ℕ) → Contains [] q → ⊥
 contains_none q h = omega (arith, h.1)
@@ -248,16 +239,6 @@ runs_within passes program zero q i r = omega (arith, r)
 runs_within passes program (suc n) q i r = let g = r.2 in omega (arith, slice_get_within program q g.step g.stands)
 
 module _ (passes : ℕ → ℕ → ℕ → Type 0) (program : List Step) (size : ℕ) (first : List ℕ) (place : ℕ) where
-  pub settling_start : Settling passes program size first place first (replicate (length program) false) []
-  settling_start = record {
-    same = length-replicate (length program) false;
-    waits_by = λ q n h r. (q, n, h, r);
-    comes_by = λ q n h r. absurd (contains_none q h);
-    within = λ q h. absurd (contains_none q h);
-    closed = λ at q j seen g le. absurd (none_seen (length program) at seen);
-    kept = λ q h le. inl h;
-  }
-
   pub popping : (whole waiting : List ℕ) (at : ℕ) (seen : List Bool) (next : List ℕ) → whole ≡ waiting ++ at ∷ [] → Settling passes program size first place whole seen next → Settling passes program size first place (waiting ++ at ∷ []) seen next
   popping whole waiting at seen next e s = subst (λ (w : List ℕ). Settling passes program size first place w seen next) e s
 
@@ -377,13 +358,6 @@ pub record Started (passes : ℕ → ℕ → ℕ → Type 0) (program : List Ste
   pub complete : (i n : ℕ) → first ≤ i → i ≤ place → i ≤ last → Runs passes program n 0 i → FromSome passes program waiting place
 
 module _ (passes : ℕ → ℕ → ℕ → Type 0) (program : List Step) (size first last : ℕ) where
-  pub seeking_start : (place : ℕ) → place ≤ first → Seeking passes program size first last place []
-  seeking_start place le = record {
-    sound = λ q n h r. absurd (contains_none q h);
-    complete = λ i n low high below r. absurd (omega (arith, low, high, le));
-    within = λ q h. absurd (contains_none q h);
-  }
-
   module _ (place : ℕ) (waiting : List ℕ) (s : Seeking passes program size first last place waiting) where
     pub started_here : first ≤ place → place ≤ last → Started passes program first last place (waiting ++ 0 ∷ [])
     started_here low high = record {

@@ -2,8 +2,8 @@
 use Rattle.std.proofs.Common.{◌≡◌, ℕ, ◌-◌, ◌*◌, ◌<◌, ◌≤◌, Bool, true, false, cond, List, [], ◌∷◌, ◌++◌, inl, inr, Option, Some, None, refl, sym, ap, subst, ◌∙◌, arith}
 use Rattle.std.specs.Prelude.{◌==◌, ◌&&◌, ◌⊎◌, max, nat_le}
 use Rattle.std.proofs.lemmas.List.{append_assoc}
-use Rattle.std.proofs.lemmas.Option.{same_Some}
-use Rattle.std.proofs.lemmas.Bool.{false≢true, eqb-true, eqb-false}
+use Rattle.std.proofs.lemmas.Option.{same_Some, none-some}
+use Rattle.std.proofs.lemmas.Bool.{false≢true, eqb-true, eqb-false, ne_eqb}
 use Rattle.std.proofs.lemmas.Bool.Decides.{nat_tests}
 use Rattle.es_pattern.specs.Tree.{Tree, CharRange, nothing, one_of, text_start, text_end, word_boundary, sequence, choice, lookahead}
 use Rattle.es_pattern.specs.Pieces.{top, below}
@@ -18,20 +18,10 @@ use Rattle.es_pattern.specs.declared.mode.Mode.TheVariants.{Term, Atom, Quantifi
 use Rattle.es_pattern.specs.declared.mode.Mode.TheVariants as modes
 use Rattle.es_pattern.specs.Reading.{Reading, charged, with_term, top_product, products_below, closed_by, quantified, term_begun, plain, with_set, with_char, asserted, joined, with_atom, opened, at, leaf, chosen, flushed, flushed_chars, bounds_of, in_braces_end, is_inner, in_braces, step_in}
 use Rattle.es_pattern.specs.Limits.{count_of}
-use Rattle.es_pattern.proofs.BracesRead.{AllInner, bounds_complete, bounds_inner, bounds_sound, breaks}
-use Rattle.es_pattern.proofs.Sound.{no_braces, completes_at, digit_plain, Suffix, no_suffix, greedy_suffix, lazy_suffix, Closes, InTerm, AfterAtom, Base, CompletesIn, Completes, term_next, atom_next, unsuffixed}
-
--- the machine goes on, to what the rest of the text completes
-abbrev pub Taken : Option Reading → List ℕ → Tree → Type 0
-Taken o w t = (s : Reading) × (o ≡ Some s) × Completes s w t
-
--- a test that one number passes and another doesn't tells them apart
-pub apart_by : (p : ℕ → Bool) (c k : ℕ) → p c ≡ true → p k ≡ false → c == k ≡ false
-apart_by p c k h n = by_test (c == k) refl
-  where
-    by_test : (b : Bool) → c == k ≡ b → c == k ≡ false
-    by_test true e = absurd (false≢true (sym n ∙ ap p (sym (eqb-true c k e)) ∙ h))
-    by_test false e = e
+use Rattle.es_pattern.proofs.BracesRead.{AllInner, bounds_complete, bounds_inner, bounds_sound, breaks, inner_no_end}
+use Rattle.es_pattern.proofs.Sound.{no_braces, completes_at, digit_plain, Suffix, no_suffix, greedy_suffix, lazy_suffix, Closes, InTerm, AfterAtom, Base, CompletesIn, Completes, term_next, atom_next, unsuffixed, Taken}
+use Rattle.es_pattern.proofs.HexDigits.{two_small}
+use Rattle.es_pattern.proofs.Tests.{apart_by}
 
 -- the character marks no quantifier
 abbrev pub NoMark : ℕ → Type 0
@@ -161,15 +151,15 @@ base_taken true c r w t h = suffix_taken c r w t h.0 h.1 h.2 h.3
 base_taken false c r w t h = plain_taken false c r w t h
 
 -- what completes a reading in one of these modes, with a character in front, is taken: here where a term may begin
-pub taking_term : (c : ℕ) (r : Reading) (w : List ℕ) (t : Tree) → r.mode ≡ Term → CompletesIn Term r (c ∷ w) t → (s : Reading) × (step_in Term c r ≡ Some s) × Completes s w t
+pub taking_term : (c : ℕ) (r : Reading) (w : List ℕ) (t : Tree) → r.mode ≡ Term → CompletesIn Term r (c ∷ w) t → Taken (step_in Term c r) w t
 taking_term c r w t m h = plain_taken false c r w t h
 
 -- after an atom
-pub taking_atom : (c : ℕ) (r : Reading) (w : List ℕ) (t : Tree) → r.mode ≡ Atom → CompletesIn Atom r (c ∷ w) t → (s : Reading) × (step_in Atom c r ≡ Some s) × Completes s w t
+pub taking_atom : (c : ℕ) (r : Reading) (w : List ℕ) (t : Tree) → r.mode ≡ Atom → CompletesIn Atom r (c ∷ w) t → Taken (step_in Atom c r) w t
 taking_atom c r w t m h = base_taken true c r w t h
 
 -- after a quantifier a `?` may stand
-pub taking_quantified : (c : ℕ) (r : Reading) (w : List ℕ) (t : Tree) → r.mode ≡ Quantified → CompletesIn Quantified r (c ∷ w) t → (s : Reading) × (step_in Quantified c r ≡ Some s) × Completes s w t
+pub taking_quantified : (c : ℕ) (r : Reading) (w : List ℕ) (t : Tree) → r.mode ≡ Quantified → CompletesIn Quantified r (c ∷ w) t → Taken (step_in Quantified c r) w t
 taking_quantified c r w t m (inl i) = plain_taken true c r w t i
 taking_quantified c r w t m (inr l) =
     let heads : 63 ≡ c = cc (l.1) in
@@ -177,7 +167,7 @@ taking_quantified c r w t m (inr l) =
     subst (λ (d : ℕ). Taken (plain false true d r) w t) heads (at Term r, refl, subst (λ (v : List ℕ). InTerm r.trees r.groups v t) tails l.2)
 
 -- after `\0` no digit may stand
-pub taking_zero : (c : ℕ) (r : Reading) (w : List ℕ) (t : Tree) → r.mode ≡ Zero → CompletesIn Zero r (c ∷ w) t → (s : Reading) × (step_in Zero c r ≡ Some s) × Completes s w t
+pub taking_zero : (c : ℕ) (r : Reading) (w : List ℕ) (t : Tree) → r.mode ≡ Zero → CompletesIn Zero r (c ∷ w) t → Taken (step_in Zero c r) w t
 taking_zero c r w t m h = by_digit (is_digit c) refl (base_taken true c r w t h.1)
   where
     by_digit : (b : Bool) → is_digit c ≡ b → Taken (plain true false c r) w t → Taken (cond (is_digit c) None (plain true false c r)) w t
@@ -195,42 +185,7 @@ first_term ts gs t c w n41 n124 i = by_front (front ts gs t c w i.1 i.0 i.2 i.3)
 
 -- a letter of an escape is none that has no escape
 pub no_escape : (c k v : ℕ) → escaped c ≡ Some v → escaped k ≡ None → c == k ≡ false
-no_escape c k v h n = by_test (c == k) refl
-  where
-    by_test : (b : Bool) → c == k ≡ b → c == k ≡ false
-    by_test true e = let same : escaped c ≡ escaped k = ap escaped (eqb-true c k e) in cc
-    by_test false e = e
-
--- a hexadecimal digit's value
-pub hex_small : (c d : ℕ) → hex_value c ≡ Some d → d < 16
-hex_small c d h = by_digit (nat_le 48 c && nat_le c 57) refl h
-  where
-    least : (low high : ℕ) → nat_le low c && nat_le c high ≡ true → c ≤ high
-    least low high e = grind (arith, nat_tests)
-
-    by_small : (b : Bool) → nat_le 97 c && nat_le c 102 ≡ b → cond b (Some (c - 87)) None ≡ Some d → d < 16
-    by_small true e x = let le = least 97 102 e in let is = same_Some (c - 87) d x in omega (arith, le, is)
-    by_small false e x = cc
-
-    by_capital : (b : Bool) → nat_le 65 c && nat_le c 70 ≡ b → cond b (Some (c - 55)) (cond (nat_le 97 c && nat_le c 102) (Some (c - 87)) None) ≡ Some d → d < 16
-    by_capital true e x = let le = least 65 70 e in let is = same_Some (c - 55) d x in omega (arith, le, is)
-    by_capital false e x = by_small (nat_le 97 c && nat_le c 102) refl x
-
-    by_digit : (b : Bool) → nat_le 48 c && nat_le c 57 ≡ b → cond b (Some (c - 48)) (cond (nat_le 65 c && nat_le c 70) (Some (c - 55)) (cond (nat_le 97 c && nat_le c 102) (Some (c - 87)) None)) ≡ Some d → d < 16
-    by_digit true e x = let le = least 48 57 e in let is = same_Some (c - 48) d x in omega (arith, le, is)
-    by_digit false e x = by_capital (nat_le 65 c && nat_le c 70) refl x
-
--- a number of two hexadecimal digits is no surrogate
-pub two_small : (text rest : List ℕ) (k : ℕ) → Hex 2 0 text rest k → is_surrogate k ≡ false
-two_small text rest k h =
-    let first = hex_small h.0 h.1 h.4 in
-    let second = hex_small h.5.0 h.5.1 h.5.4 in
-    let is = h.5.5.1 in
-    let small : k < 256 = omega (arith, first, second, is) in
-    ap (λ (b : Bool). b && nat_le k 0xdfff) (above small)
-  where
-    above : k < 256 → nat_le 0xd800 k ≡ false
-    above lt = grind (arith, nat_tests)
+no_escape c k v h n = ne_eqb c k (λ e. none-some v (sym n ∙ ap escaped (sym e) ∙ h))
 
 -- an escape of one character
 pub char_escape_taken : (c : ℕ) (r : Reading) (w : List ℕ) (t : Tree) (k : ℕ) (mid : List ℕ) → CharEscape k (c ∷ w) mid → AfterAtom (char k) r.trees r.groups mid t → Taken (with_set (set_of c) c r) w t
@@ -258,7 +213,7 @@ escape_term_taken c r w t u mid (greedy {t = b} {mid = after} a m) i = escape_at
 escape_term_taken c r w t u mid (lazy {t = b} {mid = after} a m) i = escape_atom_taken c r w t b after a (u, mid, lazy_suffix m, i)
 
 -- what completes a reading after a backslash
-pub taking_escape : (c : ℕ) (r : Reading) (w : List ℕ) (t : Tree) → r.mode ≡ Escape → CompletesIn Escape r (c ∷ w) t → (s : Reading) × (step_in Escape c r ≡ Some s) × Completes s w t
+pub taking_escape : (c : ℕ) (r : Reading) (w : List ℕ) (t : Tree) → r.mode ≡ Escape → CompletesIn Escape r (c ∷ w) t → Taken (step_in Escape c r) w t
 taking_escape c r w t m h = let f = first_term r.trees r.groups t 92 (c ∷ w) (eqb-false 92 41 refl) (eqb-false 92 124 refl) h in escape_term_taken c r w t f.0 f.1 f.2 f.3
 
 -- a group's alternatives
@@ -285,7 +240,7 @@ paren_term c r w t u mid n (greedy {t = b} {mid = after} a m) i = paren_atom c r
 paren_term c r w t u mid n (lazy {t = b} {mid = after} a m) i = paren_atom c r w t b after n a (u, mid, lazy_suffix m, i)
 
 -- what completes a reading after `(`
-pub taking_paren : (c : ℕ) (r : Reading) (w : List ℕ) (t : Tree) → r.mode ≡ Paren → CompletesIn Paren r (c ∷ w) t → (s : Reading) × (step_in Paren c r ≡ Some s) × Completes s w t
+pub taking_paren : (c : ℕ) (r : Reading) (w : List ℕ) (t : Tree) → r.mode ≡ Paren → CompletesIn Paren r (c ∷ w) t → Taken (step_in Paren c r) w t
 taking_paren c r w t m h = by_question (c == 63) refl
   where
     by_question : (b : Bool) → c == 63 ≡ b → Taken (cond (c == 63) (Some (at ParenQuestion r)) (plain false false c (opened Group r))) w t
@@ -309,19 +264,14 @@ question_term c r w t u mid (greedy {t = b} {mid = after} a m) i = question_atom
 question_term c r w t u mid (lazy {t = b} {mid = after} a m) i = question_atom c r w t b after a (u, mid, lazy_suffix m, i)
 
 -- what completes a reading after `(?`
-pub taking_paren_question : (c : ℕ) (r : Reading) (w : List ℕ) (t : Tree) → r.mode ≡ ParenQuestion → CompletesIn ParenQuestion r (c ∷ w) t → (s : Reading) × (step_in ParenQuestion c r ≡ Some s) × Completes s w t
+pub taking_paren_question : (c : ℕ) (r : Reading) (w : List ℕ) (t : Tree) → r.mode ≡ ParenQuestion → CompletesIn ParenQuestion r (c ∷ w) t → Taken (step_in ParenQuestion c r) w t
 taking_paren_question c r w t m h = let f = first_term r.trees r.groups t 40 (63 ∷ c ∷ w) (eqb-false 40 41 refl) (eqb-false 40 124 refl) h in question_term c r w t f.0 f.1 f.2 f.3
-
--- a digit or a comma is no `}`
-not_end : (y : ℕ) → (is_digit y ≡ true) ⊎ (y ≡ 44) → y ≡ 125 → ⊥
-not_end y (inl d) e = grind (arith, nat_tests)
-not_end y (inr d) e = absurd (omega (arith, d, e))
 
 -- two runs of digits and commas that end in `}` are the same
 pub same_braces : (b bs rest w : List ℕ) → AllInner b → AllInner bs → b ++ 125 ∷ rest ≡ bs ++ 125 ∷ w → (b ≡ bs) × (rest ≡ w)
 same_braces [] [] rest w hb hbs e = (refl, cc)
-same_braces [] (y ∷ bs) rest w hb hbs e = absurd (not_end y hbs.0 cc)
-same_braces (x ∷ b) [] rest w hb hbs e = absurd (not_end x hb.0 cc)
+same_braces [] (y ∷ bs) rest w hb hbs e = absurd (inner_no_end y hbs.0 cc)
+same_braces (x ∷ b) [] rest w hb hbs e = absurd (inner_no_end x hb.0 cc)
 same_braces (x ∷ b) (y ∷ bs) rest w hb hbs e = let tails = same_braces b bs rest w hb.1 hbs.1 cc in let heads : x ≡ y = cc in (cc (heads, tails.0), tails.1)
 
 -- no quantifier follows the atom
@@ -416,5 +366,5 @@ braces_taken after_atom c r w t m inner h = by_inner (is_inner r.braces c) refl
     by_inner false e = subst (λ (b : Bool). Taken (cond b (Some more) (cond (c == 125) (in_braces_end (bounds_of r.braces) after_atom c r) (plain true false c (flushed after_atom r)))) w t) (sym e) (by_end (c == 125) refl e)
 
 -- what completes a reading in braces
-pub taking_braces : (after_atom : Bool) (c : ℕ) (r : Reading) (w : List ℕ) (t : Tree) → r.mode ≡ Braces after_atom → AllInner r.braces → CompletesIn (Braces after_atom) r (c ∷ w) t → (s : Reading) × (step_in (Braces after_atom) c r ≡ Some s) × Completes s w t
+pub taking_braces : (after_atom : Bool) (c : ℕ) (r : Reading) (w : List ℕ) (t : Tree) → r.mode ≡ Braces after_atom → AllInner r.braces → CompletesIn (Braces after_atom) r (c ∷ w) t → Taken (step_in (Braces after_atom) c r) w t
 taking_braces after_atom c r w t m inner h = braces_taken after_atom c r w t m inner (h inner)
