@@ -1,13 +1,13 @@
 -- The states that the machine comes to are those of the texts that patterns begin with.
-use Rattle.std.proofs.Common.{◌≡◌, ℕ, suc, ◌+◌, ◌<◌, ◌≤◌, List, [], ◌∷◌, ◌++◌, length, get_or, take, drop, Option, Some, None, refl, sym, ap, subst, ◌∙◌, arith}
+use Rattle.std.proofs.Common.{◌≡◌, ℕ, ◌+◌, ◌<◌, ◌≤◌, List, [], ◌∷◌, ◌++◌, length, get_or, take, Option, Some, None, refl, sym, ap, subst, ◌∙◌, arith}
 use Rattle.std.specs.Prelude.{option_and_then}
-use Rattle.std.proofs.lemmas.List.{append-nil, take_more, take_all, take-take, take-append-drop}
+use Rattle.std.proofs.lemmas.List.{append-nil, take_all}
 use Rattle.std.proofs.lemmas.Option.{same_Some}
 use Rattle.es_pattern.specs.Tree.{Tree, nothing}
 use Rattle.es_pattern.specs.Grammar.{never, alternatives, Reads, IsPattern}
 use Rattle.es_pattern.specs.Reading.{Reading, step, reads, start, finished, accepted}
 use Rattle.es_pattern.specs.Faults.{BeginsPattern, IsSyntaxAt}
-use Rattle.es_pattern.proofs.Parsings.{reads-append}
+use Rattle.es_pattern.proofs.Parsings.{reads_part, reads_step}
 use Rattle.es_pattern.proofs.Sound.{Completes, step_completes, Taken}
 use Rattle.es_pattern.proofs.Sane.{IsSane}
 use Rattle.es_pattern.proofs.Viable.{viable}
@@ -60,35 +60,6 @@ pub pattern_accepted : (text : List ℕ) (t : Tree) → IsPattern text t → acc
 pattern_accepted text t h =
     let s = pattern_reads text [] t (subst (λ (xs : List ℕ). IsPattern xs t) (sym (append-nil text)) h) in
     ap (option_and_then finished) s.1 ∙ taking_end s.0.mode s.0 t refl (sane_reads text s.0 s.1) s.2
-
--- what is read in two parts
-part_reads : (xs ys : List ℕ) (r s : Reading) → reads (xs ++ ys) r ≡ Some s → (m : Reading) × (reads xs r ≡ Some m) × (reads ys m ≡ Some s)
-part_reads xs ys r s e = by_part (reads xs r) refl (sym (reads-append xs ys r) ∙ e)
-  where
-    by_part : (o : Option Reading) → reads xs r ≡ o → option_and_then (reads ys) o ≡ Some s → (m : Reading) × (reads xs r ≡ Some m) × (reads ys m ≡ Some s)
-    by_part None is g = no_some s g
-    by_part (Some m) is g = (m, is, g)
-
--- a part of what is read is read
-pub reads_part : (text : List ℕ) (q n : ℕ) (r : Reading) → q ≤ n → reads (take n text) start ≡ Some r → (s : Reading) × (reads (take q text) start ≡ Some s)
-reads_part text q n r le e =
-    let split : take q text ++ drop q (take n text) ≡ take n text = ap (λ (xs : List ℕ). xs ++ drop q (take n text)) (sym (take-take q n text le)) ∙ take-append-drop q (take n text) in
-    let p = part_reads (take q text) (drop q (take n text)) start r (ap (λ (xs : List ℕ). reads xs start) split ∙ e) in
-    (p.0, p.1)
-
-reads_one : (c : ℕ) (r s : Reading) → reads (c ∷ []) r ≡ Some s → step c r ≡ Some s
-reads_one c r s e = by_step (step c r) refl e
-  where
-    by_step : (o : Option Reading) → step c r ≡ o → option_and_then (reads []) o ≡ Some s → step c r ≡ Some s
-    by_step None is g = no_some s g
-    by_step (Some m) is g = is ∙ g
-
--- one character more
-pub reads_step : (text : List ℕ) (n : ℕ) (r s : Reading) → n < length text → reads (take n text) start ≡ Some r → reads (take (n + 1) text) start ≡ Some s → step (get_or text n 0) r ≡ Some s
-reads_step text n r s lt e g =
-    let p = part_reads (take n text) (get_or text n 0 ∷ []) start s (ap (λ (xs : List ℕ). reads xs start) (sym (take_more text n 0 lt)) ∙ g) in
-    let same : p.0 ≡ r = same_Some p.0 r (sym p.1 ∙ e) in
-    subst (λ (y : Reading). step (get_or text n 0) y ≡ Some s) same (reads_one (get_or text n 0) p.0 s p.2)
 
 -- where the next character, or the text's end, leads to nothing
 pub syntax_stops : (text : List ℕ) (n : ℕ) (r : Reading) → n < length text → reads (take n text) start ≡ Some r → step (get_or text n 0) r ≡ None → IsSyntaxAt text n

@@ -20,6 +20,11 @@ use Rattle.es_pattern.proofs.Passings.{tree_at_is, with_more}
 use Rattle.es_pattern.specs.Compiled.{stack_of, top_code, code_below, with_code, AllWalk, Compiled, Tabulates}
 use Rattle.es_pattern.proofs.Tests.{lt_or_same}
 
+-- an element behind those in front of it
+slice_get_end : {X : Type 0} (front : List X) (x : X) (rest : List X) → slice_get (front ++ x ∷ rest) (length front) ≡ Some x
+slice_get_end [] x rest = refl
+slice_get_end (y ∷ front) x rest = slice_get_end front x rest
+
 stack_push : (programs : List (Vec Step)) (p : Vec Step) → stack_of (programs ++ p ∷ []) ≡ p.items ∷ stack_of programs
 stack_push programs p = ap reverse (map-append (λ (q : Vec Step). q.items) programs (p ∷ [])) ∙ reverse-append (map (λ (q : Vec Step). q.items) programs) (p.items ∷ [])
 
@@ -37,17 +42,13 @@ module _ (passes : ℕ → ℕ → ℕ → Type 0) (program : List Step) (R : �
   stands_beyond : (front rest : List Step) → Stands (front ++ rest) (length front) rest
   stands_beyond front [] = omega (arith, ap length (append-nil front))
   stands_beyond front (s ∷ rest) = (
-    slice_get_at front s rest,
+    slice_get_end front s rest,
     subst (λ (p : List Step). Stands p (suc (length front)) rest) (append_assoc front (s ∷ []) rest)
         (subst (λ (k : ℕ). Stands ((front ++ s ∷ []) ++ rest) k rest) (length_one_more front s) (stands_beyond (front ++ s ∷ []) rest)),
   )
     where
       length_one_more : (front : List Step) (s : Step) → length (front ++ s ∷ []) ≡ suc (length front)
       length_one_more front s = omega (arith, length-append front (s ∷ []))
-
-      slice_get_at : (front : List Step) (s : Step) (rest : List Step) → slice_get (front ++ s ∷ rest) (length front) ≡ Some s
-      slice_get_at [] s rest = refl
-      slice_get_at (t ∷ front) s rest = slice_get_at front s rest
 
   stands_whole : Stands program 0 program
   stands_whole = stands_beyond [] program
@@ -170,10 +171,6 @@ slice_get-append [] ys k b h = cc
 slice_get-append (x ∷ xs) ys zero b h = h
 slice_get-append (x ∷ xs) ys (suc k) b h = slice_get-append xs ys k b h
 
-slice_get_end : (xs : List Bool) (b : Bool) → slice_get (xs ++ b ∷ []) (length xs) ≡ Some b
-slice_get_end [] b = refl
-slice_get_end (x ∷ xs) b = slice_get_end xs b
-
 module _ (passes : ℕ → ℕ → ℕ → Type 0) (program : List Step) (negated : Bool) where
   pub tabulating_more : (count : ℕ) (table : List Bool) (found : Bool) → Tabulating passes program negated count table → (IsTrue found ↔ Reaches passes program count count) → Tabulating passes program negated (count + 1) (table ++ differs negated found ∷ [])
   tabulating_more count table found t h = record {
@@ -183,7 +180,7 @@ module _ (passes : ℕ → ℕ → ℕ → Type 0) (program : List Step) (negate
     where
       by_order : (k : ℕ) → (k < count) ⊎ (k ≡ count) → (f : Bool) × (slice_get (table ++ differs negated found ∷ []) k ≡ Some (differs negated f)) × (IsTrue f ↔ Reaches passes program k k)
       by_order k (inl lt) = let old = t.told k lt in (old.0, slice_get-append table (differs negated found ∷ []) k (differs negated old.0) old.1, old.2)
-      by_order k (inr e) = (found, subst (λ (x : ℕ). slice_get (table ++ differs negated found ∷ []) x ≡ Some (differs negated found)) (t.counted ∙ sym e) (slice_get_end table (differs negated found)), subst (λ (x : ℕ). IsTrue found ↔ Reaches passes program x x) (sym e) h)
+      by_order k (inr e) = (found, subst (λ (x : ℕ). slice_get (table ++ differs negated found ∷ []) x ≡ Some (differs negated found)) (t.counted ∙ sym e) (slice_get_end table (differs negated found) []), subst (λ (x : ℕ). IsTrue found ↔ Reaches passes program x x) (sym e) h)
 
 -- a lookahead's table
 pub tells_from : (pieces : List Piece) (text : List ℕ) (count : ℕ) (programs : List (List Step)) (tables : List (Vec Bool)) (negated : Bool) (table : List Bool) → Compiled pieces text count programs tables → slice_get pieces count ≡ Some (Lookahead negated)

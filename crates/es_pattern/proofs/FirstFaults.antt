@@ -1,32 +1,31 @@
 -- What the machine stops at is the first fault of the text, and where it stops at none there is none.
-use Rattle.std.proofs.Common.{◌≡◌, ℕ, zero, suc, ◌+◌, ◌-◌, ◌*◌, ◌<◌, ◌≤◌, Bool, true, false, cond, List, [], ◌∷◌, ◌++◌, inl, inr, length, get_or, take, drop, Option, Some, None, refl, sym, ap, subst, ◌∙◌, arith}
-use Rattle.std.specs.Prelude.{◌==◌, ◌&&◌, ◌||◌, ◌⊎◌, nat_lt, max, option_and_then}
+use Rattle.std.proofs.Common.{◌≡◌, ℕ, suc, ◌+◌, ◌-◌, ◌*◌, ◌<◌, ◌≤◌, Bool, true, false, List, [], ◌∷◌, ◌++◌, inl, inr, length, get_or, take, drop, Option, Some, None, refl, sym, ap, subst, ◌∙◌, arith}
+use Rattle.std.specs.Prelude.{◌==◌, ◌&&◌, ◌||◌, ◌⊎◌, nat_lt, option_and_then}
 use Rattle.std.proofs.Math.Seq.{get_or-append_seam}
-use Rattle.std.proofs.lemmas.List.{get_or-drop, get_or_append_left, length-append, length-drop, take_all, take_at, take-append-drop, drop_more}
+use Rattle.std.proofs.lemmas.List.{get_or-drop, get_or_append_left, length-append, length-drop, take_all, take-append-drop, drop_more}
 use Rattle.std.proofs.lemmas.Option.{same_Some}
 use Rattle.std.proofs.lemmas.Bool.{cases_lt, false≢true, eqb-true, and_parts, or_cases, or_left, ltb-true}
 use Rattle.std.proofs.lemmas.Bool.Decides.{nat_tests}
-use Rattle.es_pattern.specs.Tree.{Tree, repetition, sequence}
+use Rattle.es_pattern.specs.Tree.{Tree}
 use Rattle.es_pattern.specs.Pieces.{top, below}
 use Rattle.es_pattern.specs.Escapes.{is_digit}
-use Rattle.es_pattern.specs.Grammar.{Bounds, IsPattern}
+use Rattle.es_pattern.specs.Grammar.{IsPattern}
 use Rattle.es_pattern.specs.Limits.{is_above_limit, count_of, product_of}
 use Rattle.es_pattern.specs.Forms.{begins_unsupported_escape, begins_named_group, begins_group}
-use Rattle.es_pattern.specs.Refusals.{may_escape, may_open, pending, is_unsupported, is_too_deep}
-use Rattle.es_pattern.specs.declared.error.PatternError.{PatternError}
-use Rattle.es_pattern.specs.declared.error.PatternError.TheVariants.{Syntax, Unsupported, CountTooLarge, NoMemory}
+use Rattle.es_pattern.specs.Refusals.{may_escape, may_open, is_unsupported, is_too_deep}
+use Rattle.es_pattern.specs.declared.error.PatternError.TheVariants.{Syntax, Unsupported, CountTooLarge}
 use Rattle.es_pattern.specs.declared.mode.Mode.{Mode}
 use Rattle.es_pattern.specs.declared.mode.Mode.TheVariants.{Braces}
-use Rattle.es_pattern.specs.Reading.{Reading, step, step_in, plain, flushed, in_braces, in_braces_end, marked, quantified, charged, bounds_of, is_inner, overcounts, overcounts_in, overcounts_at, reads, start, finished, accepted}
+use Rattle.es_pattern.specs.Reading.{Reading, step, step_in, in_braces, in_braces_end, quantified, charged, bounds_of, is_inner, overcounts, overcounts_in, overcounts_at, reads, start, finished}
 use Rattle.es_pattern.specs.Parsing.{PassesBefore}
-use Rattle.es_pattern.specs.Faults.{BeginsPattern, IsUnsupportedAt, IsTooDeepAt, IsQuantifierAt, IsCountAt, IsProductAt, IsTooLargeAt, IsSyntaxAt, IsClearBefore, IsFirstFault, IsClear, byte_place}
-use Rattle.es_pattern.proofs.Parsings.{reads_more}
+use Rattle.es_pattern.specs.Faults.{BeginsPattern, IsUnsupportedAt, IsQuantifierAt, IsTooLargeAt, IsSyntaxAt, IsClearBefore, IsFirstFault, IsClear, byte_place}
+use Rattle.es_pattern.proofs.Parsings.{reads_more, reads_part, reads_step, passes_less}
 use Rattle.es_pattern.proofs.BracesRead.{bounds_complete, goes_on}
-use Rattle.es_pattern.proofs.Sound.{Completes, InTerm, if_else, inner_is, accepted_is_pattern}
-use Rattle.es_pattern.proofs.Sane.{IsMeasured, MeasuredBase, after_atom_in}
+use Rattle.es_pattern.proofs.Sound.{Completes, InTerm, inner_is, accepted_is_pattern}
+use Rattle.es_pattern.proofs.Sane.{MeasuredBase, after_atom_in}
 use Rattle.es_pattern.proofs.Viable.{viable}
 use Rattle.es_pattern.proofs.Above.{term_above}
-use Rattle.es_pattern.proofs.Beginnings.{completes_before, completes_pattern, pattern_reads, begins_reads, reads_begins, reads_part, reads_step, syntax_stops, syntax_ends, no_syntax_before}
+use Rattle.es_pattern.proofs.Beginnings.{completes_before, completes_pattern, pattern_reads, begins_reads, reads_begins, syntax_stops, syntax_ends, no_syntax_before}
 use Rattle.es_pattern.proofs.Kept.{sane_reads, measured_reads}
 use Rattle.es_pattern.proofs.Placing.{unsupported_placed, deep_placed, quantifier_placed}
 use Rattle.es_pattern.proofs.Placed.{unsupported_reads, deep_reads, quantifier_reads, forms_within, deep_within, quantifier_within, inner_step}
@@ -150,14 +149,11 @@ module _ (text : List ℕ) (n : ℕ) (r : Reading) (within : n ≤ length text) 
           let all : bounds_of s.braces ≡ Some (least, most) = ap bounds_of b ∙ bounds_complete bounds least most h.are_bounds in
           false≢true (sym ((passes.each (q + (length bounds + 1)) lt s is).2) ∙ overcounts_above s after_atom (get_or text (q + (length bounds + 1)) 0) least most m c all above)
 
-  passes_less : (p : ℕ) → p ≤ n → PassesBefore text p
-  passes_less p le = record { each = λ q lt read e. passes.each q (omega (arith, lt, le)) read e }
-
   ended_product : (p : ℕ) → p ≤ n → BeginsPattern (take p text) → ((rest : List ℕ) (tree : Tree) → IsPattern (take p text ++ rest) tree → 100000 < product_of tree) → ⊥
   ended_product p le begins large =
       let s = begins_reads (take p text) begins in
       let v = viable s.0 (sane_reads (take p text) s.0 s.1) in
-      let small = v.3 (measured_reads text p s.0 (omega (arith, le, within)) (passes_less p le) s.1) in
+      let small = v.3 (measured_reads text p s.0 (omega (arith, le, within)) (passes_less text n p passes le) s.1) in
       let over = large v.0 v.1 (completes_pattern (take p text ++ v.0) v.1 (completes_before (take p text) start s.0 v.0 v.1 s.1 v.2)) in
       omega (arith, small, over)
 

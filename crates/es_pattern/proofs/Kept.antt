@@ -1,7 +1,6 @@
 -- What holds of every state is kept by each character.
 use Rattle.std.proofs.Common.{◌≡◌, ℕ, zero, suc, ◌+◌, ◌-◌, ◌*◌, ◌<◌, ◌≤◌, Bool, true, false, cond, List, [], ◌∷◌, ◌++◌, length, get_or, take, Option, Some, None, refl, sym, ap, subst, ◌∙◌, arith}
 use Rattle.std.specs.Prelude.{◌==◌, ◌&&◌, ◌||◌, max, nat_le, nat_lt, option_and_then}
-use Rattle.std.proofs.lemmas.List.{take_more}
 use Rattle.std.proofs.lemmas.Option.{same_Some}
 use Rattle.std.proofs.lemmas.Bool.{false≢true, eqb-true, ltb-false, leb-true}
 use Rattle.std.proofs.lemmas.Bool.Decides.{nat_tests}
@@ -19,7 +18,7 @@ use Rattle.es_pattern.specs.Reading.{Reading, asserted, joined, leaf, chosen, wi
 use Rattle.es_pattern.specs.Parsing.{PassesBefore}
 use Rattle.es_pattern.proofs.BracesRead.{inner-append}
 use Rattle.es_pattern.proofs.Sound.{if_else, inner_is, scalar_is, hex_guard}
-use Rattle.es_pattern.proofs.Parsings.{reads-append}
+use Rattle.es_pattern.proofs.Parsings.{reads_last, passes_less}
 use Rattle.es_pattern.proofs.Sane.{CanEnd, greatest_of_three, IsPartial, IsSane, IsSaneIn, Outer, MeasuredBase, after_atom_in, IsMeasured}
 use Rattle.es_pattern.proofs.Tests.{no_some}
 use Rattle.es_pattern.proofs.HexDigits.{hex_digit}
@@ -539,24 +538,8 @@ measured_next c r s h within e = step_measured r.mode c r s refl h within e
 -- all that a text leads to, where no quantifier counts too much
 pub measured_reads : (text : List ℕ) (n : ℕ) (r : Reading) → n ≤ length text → PassesBefore text n → reads (take n text) start ≡ Some r → IsMeasured r
 measured_reads text zero r le passes e = measured_at start r e (refl, omega arith, tt)
-measured_reads text (suc n) r le passes e = by_last (reads (take n text) start) refl (λ q is. measured_reads text n q (omega (arith, le)) earlier is) next
-  where
-    next : option_and_then (reads (get_or text n 0 ∷ [])) (reads (take n text) start) ≡ Some r
-    next =
-        sym (reads-append (take n text) (get_or text n 0 ∷ []) start) ∙ ap (λ (xs : List ℕ). reads xs start) (sym (take_more text n 0 (omega (arith, le)))) ∙ more
-      where
-        more : reads (take (n + 1) text) start ≡ Some r
-        more = let one : suc n ≡ n + 1 = omega arith in subst (λ (k : ℕ). reads (take k text) start ≡ Some r) one e
-
-    earlier : PassesBefore text n
-    earlier = record { each = λ q lt. passes.each q (omega (arith, lt)) }
-
-    by_last : (o : Option Reading) → reads (take n text) start ≡ o → ((q : Reading) → reads (take n text) start ≡ Some q → IsMeasured q) → option_and_then (reads (get_or text n 0 ∷ [])) o ≡ Some r → IsMeasured r
-    by_last None is before g = no_some r g
-    by_last (Some q) is before g =
-        let kept = passes.each n (omega arith) q is in
-        by_step (step (get_or text n 0) q) refl (λ (s : Reading). measured_next (get_or text n 0) q s (before q is) kept.2) g
-      where
-        by_step : (o : Option Reading) → step (get_or text n 0) q ≡ o → ((s : Reading) → step (get_or text n 0) q ≡ Some s → IsMeasured s) → option_and_then (reads []) o ≡ Some r → IsMeasured r
-        by_step None same again x = no_some r x
-        by_step (Some s) same again x = measured_at s r x (again s same)
+measured_reads text (suc n) r le passes e =
+    let one : suc n ≡ n + 1 = omega arith in
+    let s = reads_last text n r (omega (arith, le)) (subst (λ (k : ℕ). reads (take k text) start ≡ Some r) one e) in
+    let before = measured_reads text n s.0 (omega (arith, le)) (passes_less text (suc n) n passes (omega arith)) s.1 in
+    measured_next (get_or text n 0) s.0 r before (passes.each n (omega arith) s.0 s.1).2 s.2

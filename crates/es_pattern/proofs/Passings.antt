@@ -3,7 +3,6 @@ use Rattle.std.proofs.Common.{inl, inr, get_or, ◌≡◌, ℕ, zero, suc, ◌+�
 use Rattle.std.specs.Prelude.{slice_get, slice_index, unwrap_or, MatchBool, ◌==◌, ◌&&◌, nat_lt, ◌⊎◌}
 use Rattle.std.specs.Global.{Vec}
 use Rattle.std.proofs.lemmas.Option.{slice_get_cases, slice_get_read, same_Some}
-use Rattle.std.proofs.lemmas.Bool.Decides.{nat_tests}
 use Rattle.std.proofs.lemmas.Bool.{eqb-true, eqb-false, and_parts, ltb-true, lt-ltb, and_from, both_ways}
 use mathlib.Core.Bool.{not, beq}
 use Rattle.es_pattern.specs.Tree.{Tree, one_of, text_start, text_end, word_boundary, lookahead}

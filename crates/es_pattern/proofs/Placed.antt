@@ -4,7 +4,6 @@ use Rattle.std.specs.Prelude.{◌==◌, ◌&&◌, ◌||◌, ◌⊎◌, cond, nat
 use Rattle.std.proofs.lemmas.List.{append_assoc, append-nil, take-append-drop, take_at, length-append, length-drop, length-take-le}
 use Rattle.std.proofs.lemmas.Option.{same_Some, option_and_then_some}
 use Rattle.std.proofs.lemmas.Bool.{false≢true, le-leb}
-use Rattle.std.proofs.lemmas.Bool.Decides.{nat_tests}
 use Rattle.es_pattern.specs.Escapes.{hex_value}
 use Rattle.es_pattern.specs.Grammar.{Hex, Bounds}
 use Rattle.es_pattern.specs.Places.{Stands, Within, groups, class_in_groups, is_structural, BeginsQuestion, Escaped, other_escape, two_digit_escape, four_digit_escape}

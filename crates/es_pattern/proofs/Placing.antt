@@ -1,11 +1,10 @@
 -- What the machine has read stands at a place.
 use Rattle.std.proofs.Common.{◌≡◌, ℕ, zero, suc, ◌+◌, ◌-◌, ◌*◌, ◌<◌, ◌≤◌, Bool, true, false, List, [], ◌∷◌, ◌++◌, inl, inr, length, get_or, take, drop, Option, Some, refl, sym, ap, subst, ◌∙◌, arith, lit<}
-use Rattle.std.specs.Prelude.{◌==◌, ◌&&◌, ◌||◌, ◌⊎◌, nat_le, encode_utf8_all, encode_utf8}
+use Rattle.std.specs.Prelude.{◌&&◌, ◌||◌, ◌⊎◌, nat_le, encode_utf8_all, encode_utf8}
 use Rattle.std.proofs.lemmas.Str.{encodes-append, length-encode, len_utf8_ascii}
 use Rattle.std.proofs.lemmas.List.{append_assoc, take-append-drop, take_at, drop_at, drop_more, length-append, length-drop}
 use Rattle.std.proofs.lemmas.Option.{same_Some, option_and_then_some}
 use Rattle.std.proofs.lemmas.Bool.{false≢true, leb-true, and_parts}
-use Rattle.std.proofs.lemmas.Bool.Decides.{nat_tests}
 use Rattle.std.proofs.Math.Bool.{or-false}
 use Rattle.es_pattern.specs.Escapes.{is_digit}
 use Rattle.es_pattern.specs.Grammar.{Hex, BeginsCaret, Bounds}

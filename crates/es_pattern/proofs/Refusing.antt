@@ -1,12 +1,11 @@
 -- What the machine answers at a character, as the text's faults say it.
-use Rattle.std.proofs.Common.{◌≡◌, ℕ, ◌+◌, ◌-◌, ◌<◌, ◌≤◌, true, false, List, inl, inr, length, get_or, take, drop, Some, None, Option, refl, sym, ap, subst, ◌∙◌, arith}
+use Rattle.std.proofs.Common.{◌≡◌, ℕ, ◌+◌, ◌-◌, ◌<◌, ◌≤◌, true, false, List, inl, inr, length, get_or, take, drop, Some, None, sym, ap, subst, ◌∙◌, arith}
 use Rattle.std.specs.Prelude.{◌⊎◌, Ok, Err, slice_index}
 use Rattle.std.proofs.lemmas.List.{take_rest, get_or_read}
 use Rattle.std.proofs.lemmas.Option.{same_Some}
 use Rattle.es_pattern.specs.Tree.{Tree}
 use Rattle.es_pattern.specs.declared.error.PatternError.{PatternError}
 use Rattle.es_pattern.specs.declared.error.PatternError.TheVariants.{Syntax, Unsupported, CountTooLarge, NoMemory}
-use Rattle.es_pattern.specs.declared.mode.Mode.{Mode}
 use Rattle.es_pattern.specs.Refusals.{is_unsupported, is_too_deep}
 use Rattle.es_pattern.specs.Reading.{Reading, step, reads, start, finished, overcounts_at}
 use Rattle.es_pattern.specs.Parsing.{PassesBefore, Refuses}

@@ -1,9 +1,8 @@
 -- Runs of a program over a text.
-use Rattle.std.proofs.Common.{◌≡◌, ℕ, zero, suc, ◌+◌, ◌-◌, ◌<◌, ◌≤◌, Bool, true, false, cond, List, [], ◌∷◌, ◌++◌, ◌⊎◌, inl, inr, length, get_or, set, take, replicate, Option, Some, None, refl, sym, ap, subst, ◌∙◌, arith, length-append}
+use Rattle.std.proofs.Common.{◌≡◌, ℕ, zero, suc, ◌+◌, ◌-◌, ◌<◌, ◌≤◌, Bool, true, false, cond, List, [], ◌∷◌, ◌++◌, ◌⊎◌, inl, inr, length, get_or, set, take, Option, Some, None, refl, sym, ap, subst, ◌∙◌, arith, length-append}
 use Rattle.std.specs.Prelude.{slice_get, OnOk, Result, Ok, Err, Contains, ◌==◌, nat_le}
 use Rattle.std.specs.List.{sum_by}
-use Rattle.std.proofs.lemmas.List.{length-set, length-replicate}
-use Rattle.std.proofs.lemmas.Bool.{cases_eq}
+use Rattle.std.proofs.lemmas.List.{length-set}
 use Rattle.std.proofs.lemmas.Bool.Decides.{nat_tests}
 use Rattle.std.proofs.lemmas.Option.{slice_get_within, slice_get_read, same_Some}
 use Rattle.std.proofs.lemmas.List.Elements.{Contains-append_left, Contains-append_right, Contains-append_cases, Contains-push, Contains-push_cases}
@@ -201,11 +200,6 @@ pub record Settling (passes : ℕ → ℕ → ℕ → Type 0) (program : List St
   -- what a step that was taken goes to waits, or was taken
   pub closed : (at q j : ℕ) → IsSeen seen at → Goes passes program at place q j → q ≤ length program → ((j ≡ place) × (Contains waiting q ⊎ IsSeen seen q)) ⊎ ((j ≡ place + 1) × Contains next q)
   pub kept : (q : ℕ) → Contains first q → q ≤ length program → Contains waiting q ⊎ IsSeen seen q
-
-none_seen : (n q : ℕ) → IsSeen (replicate n false) q → ⊥
-none_seen zero q h = cc
-none_seen (suc n) zero h = cc
-none_seen (suc n) (suc q) h = none_seen n q h
 
 seen_there : (seen : List Bool) (at : ℕ) → at < length seen → IsSeen (set seen at true) at
 seen_there [] at h = absurd (omega (arith, h))

@@ -1,8 +1,8 @@
 -- Within hexadecimal digits and classes, a text that completes what was read is taken: its first character is, and the rest completes the new state.
-use Rattle.std.proofs.Common.{◌≡◌, ℕ, zero, suc, ◌+◌, ◌-◌, ◌*◌, ◌<◌, ◌≤◌, Bool, true, false, cond, List, [], ◌∷◌, ◌++◌, inl, inr, Option, Some, None, refl, sym, ap, subst, ◌∙◌, arith}
+use Rattle.std.proofs.Common.{◌≡◌, ℕ, zero, suc, ◌+◌, ◌-◌, ◌*◌, ◌<◌, ◌≤◌, Bool, true, false, cond, List, [], ◌∷◌, ◌++◌, inl, inr, Option, Some, None, refl, sym, subst, ◌∙◌, arith}
 use Rattle.std.specs.Prelude.{◌==◌, ◌||◌, nat_le, nat_lt}
 use Rattle.std.proofs.lemmas.Option.{same_Some}
-use Rattle.std.proofs.lemmas.Bool.{false≢true, eqb-true, eq-eqb, ne_eqb, le-leb, false_from_ne_true}
+use Rattle.std.proofs.lemmas.Bool.{false≢true, eqb-true, eq-eqb, ne_eqb, le-leb, false_from_ne_true, or_parts}
 use Rattle.std.proofs.lemmas.Bool.Decides.{nat_tests}
 use Rattle.es_pattern.specs.Tree.{Tree, CharRange}
 use Rattle.es_pattern.specs.Escapes.{range, is_digit, is_punctuation, set_of, escaped, hex_value, is_surrogate}
@@ -13,7 +13,7 @@ use Rattle.es_pattern.specs.declared.mode.Mode.TheVariants as modes
 use Rattle.es_pattern.specs.Reading.{Reading, at, with_atom, greatest_from, hex_to, hex_by, ranged, class_end, item, next_item, after_char, class_char, after_dash, class_char_if, can_end, class_zero, with_ranges, class_set, class_hex_to, class_hex_by, step_in}
 use Rattle.es_pattern.proofs.Sane.{IsPartial}
 use Rattle.es_pattern.proofs.Sound.{After, after_one, after_range, after_dash_end, EscapeItem, escape_set, escape_char, Ended, AfterAtom, AfterClass, InClass, AfterChar, InEscape, CompletesIn, Completes, Taken, AfterEnd}
-use Rattle.es_pattern.proofs.HexDigits.{hex_digit, two_digits_more, four_digits_more, no_surrogate_below, greatest_last, greatest_with_one, greatest_with_two, greatest_with_three, two_small}
+use Rattle.es_pattern.proofs.HexDigits.{hex_digit, two_digits_more, four_digits_more, greatest_last, greatest_with_one, greatest_with_two, greatest_with_three, two_small}
 use Rattle.es_pattern.proofs.TakingTerms.{no_escape}
 
 -- a test that holds, and one that doesn't
@@ -27,13 +27,10 @@ taken_else false x y w t e h = h
 
 -- the test of a character that stands for itself in a class
 no_syntax : (c : ℕ) → (c == 93 || c == 92 || c == 45) ≡ false → (c == 93 ≡ false) × (c == 92 ≡ false) × (c == 45 ≡ false)
-no_syntax c h = by_tests (c == 93) (c == 92) (c == 45) h
-  where
-    by_tests : (a b d : Bool) → (a || b || d) ≡ false → (a ≡ false) × (b ≡ false) × (d ≡ false)
-    by_tests false false false h = (refl, refl, refl)
-    by_tests true b d h = absurd (false≢true (sym h))
-    by_tests false true d h = absurd (false≢true (sym h))
-    by_tests false false true h = absurd (false≢true (sym h))
+no_syntax c h =
+    let last = or_parts (c == 93 || c == 92) (c == 45) h in
+    let first = or_parts (c == 93) (c == 92) last.0 in
+    (first.0, first.1, last.1)
 
 -- a character of a class that begins with this one: an escape, or this one itself
 class_char_cases : (d k : ℕ) (text w mid : List ℕ) (P : Type 0) → ClassChar d text mid → text ≡ k ∷ w

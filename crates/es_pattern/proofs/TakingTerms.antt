@@ -1,14 +1,13 @@
 -- What completes a reading outside classes, with a character in front, is taken: the machine takes that character, and the rest completes what it makes of it.
-use Rattle.std.proofs.Common.{◌≡◌, ℕ, ◌-◌, ◌*◌, ◌<◌, ◌≤◌, Bool, true, false, cond, List, [], ◌∷◌, ◌++◌, inl, inr, Option, Some, None, refl, sym, ap, subst, ◌∙◌, arith}
-use Rattle.std.specs.Prelude.{◌==◌, ◌&&◌, ◌⊎◌, max, nat_le}
+use Rattle.std.proofs.Common.{◌≡◌, ℕ, ◌*◌, Bool, true, false, cond, List, [], ◌∷◌, ◌++◌, inl, inr, Option, Some, None, refl, sym, ap, subst, ◌∙◌}
+use Rattle.std.specs.Prelude.{◌==◌, ◌⊎◌, max}
 use Rattle.std.proofs.lemmas.List.{append_assoc}
-use Rattle.std.proofs.lemmas.Option.{same_Some, none-some}
+use Rattle.std.proofs.lemmas.Option.{none-some}
 use Rattle.std.proofs.lemmas.Bool.{false≢true, eqb-true, eqb-false, ne_eqb}
-use Rattle.std.proofs.lemmas.Bool.Decides.{nat_tests}
 use Rattle.es_pattern.specs.Tree.{Tree, CharRange, nothing, one_of, text_start, text_end, word_boundary, sequence, choice, lookahead}
 use Rattle.es_pattern.specs.Pieces.{top, below}
-use Rattle.es_pattern.specs.Escapes.{is_digit, set_of, escaped, hex_value, is_surrogate}
-use Rattle.es_pattern.specs.Grammar.{never, char, any, BeginsBraces, alternatives, term, atom, Reads, is_plain, Hex, CharEscape}
+use Rattle.es_pattern.specs.Escapes.{is_digit, set_of, escaped}
+use Rattle.es_pattern.specs.Grammar.{never, char, any, BeginsBraces, alternatives, term, atom, Reads, is_plain, CharEscape}
 use Rattle.es_pattern.specs.Grammar.{star_mark, plus_mark, question_mark, braces_mark, named, zero_char, two_digits, four_digits}
 use Rattle.es_pattern.specs.Grammar.{ends, bar, followed, at_start, at_end, at_boundary, at_no_boundary, ahead, not_ahead, once, greedy, lazy, dot, group, bare_group, class, negated_class, set_escape, char_escape, ordinary}
 use Rattle.es_pattern.specs.declared.mode.Open.{Open}
