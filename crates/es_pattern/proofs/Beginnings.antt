@@ -26,7 +26,7 @@ completes_before (c ∷ xs) r s w t e h = by_step (step c r) refl (λ next g. co
     by_step (Some next) is again g = step_completes r.mode c r next (xs ++ w) t refl is (again next g)
 
 -- and the other way
-pub completes_after : (xs : List ℕ) (r : Reading) (w : List ℕ) (t : Tree) → IsSane r → Completes r (xs ++ w) t → Taken (reads xs r) w t
+completes_after : (xs : List ℕ) (r : Reading) (w : List ℕ) (t : Tree) → IsSane r → Completes r (xs ++ w) t → Taken (reads xs r) w t
 completes_after [] r w t sane h = (r, refl, h)
 completes_after (c ∷ xs) r w t sane h =
     let next = taking c r (xs ++ w) t sane h in

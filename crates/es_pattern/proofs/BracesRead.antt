@@ -12,7 +12,7 @@ use Rattle.es_pattern.specs.Grammar.{number, number_from, Bounds, exactly, at_le
 use Rattle.es_pattern.specs.Reading.{bounds_of, bounds_by, second_bounds, pair_bounds, is_inner, may_be_comma}
 use Rattle.es_pattern.proofs.Digits.{digit_only, digit_within}
 
-abbrev pub AllDigits : List ℕ → Type 0
+abbrev AllDigits : List ℕ → Type 0
 AllDigits [] = Unit {0}
 AllDigits (c ∷ cs) = (is_digit c ≡ true) × AllDigits cs
 

@@ -107,7 +107,7 @@ passes-further None a count h = (tt, passes-append a (Back (length a + 1) ∷ []
 passes-further (Some more) a count h = passes-copies more (maybe_steps a) count (tt, h)
 
 -- the programs with a piece more
-pub walks_with : (pieces : List Piece) (text : List ℕ) (count : ℕ) (p : Piece) (cs : List (List Step)) → slice_get pieces count ≡ Some p → AllWalk pieces text count cs (with_pieces (take count pieces) [])
+walks_with : (pieces : List Piece) (text : List ℕ) (count : ℕ) (p : Piece) (cs : List (List Step)) → slice_get pieces count ≡ Some p → AllWalk pieces text count cs (with_pieces (take count pieces) [])
     → AllWalk pieces text (count + 1) (with_code p count cs) (with_pieces (take (count + 1) pieces) [])
 walks_with pieces text count p cs stands a =
     subst (λ (us : List Tree). AllWalk pieces text (count + 1) (with_code p count cs) us) (sym (rw add-one (with_more pieces count p [] stands))) (by_piece p stands)
@@ -238,7 +238,7 @@ compiled_more pieces text count programs tables piece table rest program c stand
         subst (λ (n : ℕ). Tells pieces text n other.items) (sym same) (subst (λ (v : Vec Bool). Tells pieces text count v.items) g.1 (told negated (subst (λ (n : ℕ). slice_get pieces n ≡ Some (Lookahead negated)) same at_piece)))
 
 -- all pieces
-pub found_from : (pieces : List Piece) (text : List ℕ) (programs : List (List Step)) (tables : List (Vec Bool)) (program : List Step) → Compiled pieces text (length pieces) programs tables → program ≡ top_code programs → (found : Bool)
+found_from : (pieces : List Piece) (text : List ℕ) (programs : List (List Step)) (tables : List (Vec Bool)) (program : List Step) → Compiled pieces text (length pieces) programs tables → program ≡ top_code programs → (found : Bool)
     → (IsTrue found ↔ Reaches (PassesPiece pieces text) program 0 (length text)) → IsTrue found ↔ IsFound (tree_of pieces) text
 found_from pieces text programs tables program c e found h = (λ yes_. to (h.0 yes_), λ f. h.1 (from f))
   where

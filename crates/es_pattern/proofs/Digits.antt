@@ -40,7 +40,7 @@ stays_less (c ∷ xs) (d ∷ ys) x y n m l lt hx hy =
     stays_less xs ys (x * 10 + (c - 48)) (y * 10 + (d - 48)) n m (omega (arith, l)) (omega (arith, lt, cb.1, cb.0, db.0)) cx.1 dy.1
 
 -- the first digit that differs decides
-pub first_decides : (xs ys : List ℕ) (i value n m : ℕ) → length xs ≡ length ys → take i xs ≡ take i ys → i < length xs → get_or xs i 0 < get_or ys i 0 → number_from value xs ≡ Some n → number_from value ys ≡ Some m → n < m
+first_decides : (xs ys : List ℕ) (i value n m : ℕ) → length xs ≡ length ys → take i xs ≡ take i ys → i < length xs → get_or xs i 0 < get_or ys i 0 → number_from value xs ≡ Some n → number_from value ys ≡ Some m → n < m
 first_decides [] ys i value n m l same lt less hx hy = absurd (omega (arith, lt))
 first_decides (c ∷ xs) [] i value n m l same lt less hx hy = absurd (omega (arith, l))
 first_decides (c ∷ xs) (d ∷ ys) zero value n m l same lt less hx hy =
@@ -60,7 +60,7 @@ zeros : (k : ℕ) (ds : List ℕ) → number_from 0 (replicate k 48 ++ ds) ≡ n
 zeros zero ds = refl
 zeros (suc k) ds = zeros k ds
 
-pub number_padded : (width : ℕ) (ds : List ℕ) (n : ℕ) → number ds ≡ Some n → number_from 0 (padded width ds) ≡ Some n
+number_padded : (width : ℕ) (ds : List ℕ) (n : ℕ) → number ds ≡ Some n → number_from 0 (padded width ds) ≡ Some n
 number_padded width [] n h = cc
 number_padded width (c ∷ ds) n h = zeros (width - length (c ∷ ds)) (c ∷ ds) ∙ h
 

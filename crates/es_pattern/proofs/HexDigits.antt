@@ -26,7 +26,7 @@ hex_digit c d e = decimal (nat_le 48 c && nat_le c 57) refl e
     decimal false h g = upper (nat_le 65 c && nat_le c 70) refl g
 
 -- how large the number is that one digit more leads to
-pub one_digit : (v : ℕ) (text rest : List ℕ) (ch : ℕ) → Hex 1 v text rest ch → (v * 16 ≤ ch) × (ch ≤ v * 16 + 15)
+one_digit : (v : ℕ) (text rest : List ℕ) (ch : ℕ) → Hex 1 v text rest ch → (v * 16 ≤ ch) × (ch ≤ v * 16 + 15)
 one_digit v text rest ch h = let small = hex_digit h.0 h.1 h.4 in let last = h.5.1 in (omega (arith, last), omega (arith, last, small))
 
 -- two digits more
@@ -35,7 +35,7 @@ two_digits_more v text rest ch h =
     let small = hex_digit h.0 h.1 h.4 in let more = one_digit (v * 16 + h.1) h.2 rest ch h.5 in (omega (arith, more), omega (arith, more, small))
 
 -- three digits more
-pub three_digits_more : (v : ℕ) (text rest : List ℕ) (ch : ℕ) → Hex 3 v text rest ch → (v * 4096 ≤ ch) × (ch ≤ v * 4096 + 4095)
+three_digits_more : (v : ℕ) (text rest : List ℕ) (ch : ℕ) → Hex 3 v text rest ch → (v * 4096 ≤ ch) × (ch ≤ v * 4096 + 4095)
 three_digits_more v text rest ch h =
     let small = hex_digit h.0 h.1 h.4 in let more = two_digits_more (v * 16 + h.1) h.2 rest ch h.5 in (omega (arith, more), omega (arith, more, small))
 
@@ -49,7 +49,7 @@ surrogate_is : (c : ℕ) → 0xd800 ≤ c → c ≤ 0xdfff → is_surrogate c �
 surrogate_is c low high = grind (arith, nat_tests)
 
 -- below the surrogates is none
-pub no_surrogate_below : (c : ℕ) → c < 0xd800 → is_surrogate c ≡ false
+no_surrogate_below : (c : ℕ) → c < 0xd800 → is_surrogate c ≡ false
 no_surrogate_below c h = grind (arith, nat_tests)
 
 -- a number of two digits is no surrogate
@@ -76,7 +76,7 @@ scalar_some : (v : ℕ) → is_surrogate v ≡ false → v < 65536 → scalar v 
 scalar_some v none lt = rw (none, in_limit v lt) refl
 
 -- there is a greatest character that so many digits more lead to, at least as great as the one
-abbrev pub Greatest : ℕ → ℕ → ℕ → Type 0
+abbrev Greatest : ℕ → ℕ → ℕ → Type 0
 Greatest v left ch = (g : ℕ) × (greatest_from v left ≡ Some g) × (ch ≤ g)
 
 -- where no digit is left, it is the number's

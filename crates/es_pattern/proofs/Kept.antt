@@ -259,7 +259,7 @@ pub sane_reads : (text : List ℕ) (r : Reading) → reads text start ≡ Some r
 sane_reads text r e = sane_from text start r tt e
 
 -- products
-pub product_positive : (t : Tree) → 1 ≤ product_of t
+product_positive : (t : Tree) → 1 ≤ product_of t
 product_positive nothing = omega arith
 product_positive (one_of negated ranges) = omega arith
 product_positive text_start = omega arith
@@ -532,7 +532,7 @@ step_measured (modes.ClassZero false) c r s m h within e = if_else (is_digit c) 
 step_measured (modes.ClassEscape first) c r s m h within e = class_escape_measured (set_of c) first c r s h e
 step_measured (modes.ClassHex first value left) c r s m h within e = class_hex_measured (hex_value c) first value left r s h e
 
-pub measured_next : (c : ℕ) (r s : Reading) → IsMeasured r → overcounts_at c r ≡ false → step c r ≡ Some s → IsMeasured s
+measured_next : (c : ℕ) (r s : Reading) → IsMeasured r → overcounts_at c r ≡ false → step c r ≡ Some s → IsMeasured s
 measured_next c r s h within e = step_measured r.mode c r s refl h within e
 
 -- all that a text leads to, where no quantifier counts too much

@@ -359,7 +359,7 @@ question_moves c r s e =
     marks_at n y h = subst (λ (x : ℕ). (x == 58 || x == 61 || x == 33) ≡ true) (sym (eqb-true c n y)) h
 
 -- each character
-pub step_moves_in : (m : Mode) (c : ℕ) (r s : Reading) → r.mode ≡ m → step_in m c r ≡ Some s → Moves (kind_in m r.braces) (length r.groups) c (kind s) (length s.groups)
+step_moves_in : (m : Mode) (c : ℕ) (r s : Reading) → r.mode ≡ m → step_in m c r ≡ Some s → Moves (kind_in m r.braces) (length r.groups) c (kind s) (length s.groups)
 step_moves_in Term c r s m e = plain_moves false false c r s e
 step_moves_in Atom c r s m e = plain_moves true false c r s e
 step_moves_in Quantified c r s m e = plain_moves false true c r s e

@@ -22,7 +22,7 @@ pub reads_more : (cs : List ℕ) (n : ℕ) (r s new : Reading) → n < length cs
 reads_more cs n r s new lt so_far next =
     ap (λ (xs : List ℕ). reads xs r) (take_more cs n 0 lt) ∙ reads-append (take n cs) (get_or cs n 0 ∷ []) r ∙ ap (option_and_then (reads (get_or cs n 0 ∷ []))) so_far ∙ ap (option_and_then (reads [])) next
 
-pub byte_place_more : (cs : List ℕ) (n : ℕ) → n < length cs → byte_place cs (n + 1) ≡ byte_place cs n + len_utf8 (get_or cs n 0)
+byte_place_more : (cs : List ℕ) (n : ℕ) → n < length cs → byte_place cs (n + 1) ≡ byte_place cs n + len_utf8 (get_or cs n 0)
 byte_place_more cs n lt =
     let e : byte_place cs (n + 1) ≡ length (encode_utf8_all (take n cs) ++ encode_utf8_all (get_or cs n 0 ∷ [])) = ap (λ (xs : List ℕ). length (encode_utf8_all xs)) (take_more cs n 0 lt) ∙ ap length (encodes-append (take n cs) (get_or cs n 0 ∷ [])) in
     let one : length (encode_utf8_all (get_or cs n 0 ∷ [])) ≡ len_utf8 (get_or cs n 0) = ap length (append-nil (encode_utf8 (get_or cs n 0))) ∙ length-encode (get_or cs n 0) in

@@ -69,7 +69,7 @@ not_differs false false h e = cc
 abbrev pub Answers : List Piece → List ℕ → ℕ → ℕ → Bool → Type 0
 Answers pieces text number i told = MatchBool told (Spans (tree_at pieces number) text i i) (Spans (tree_at pieces number) text i i → ⊥)
 
-pub passes_right : (pieces : List Piece) (text : List ℕ) (number i : ℕ) (p : Piece) (told : Bool) → slice_get pieces number ≡ Some p → ((negated : Bool) → p ≡ Lookahead negated → Answers pieces text number i told)
+passes_right : (pieces : List Piece) (text : List ℕ) (number i : ℕ) (p : Piece) (told : Bool) → slice_get pieces number ≡ Some p → ((negated : Bool) → p ≡ Lookahead negated → Answers pieces text number i told)
     → PassesTo pieces text number i (passed_by p told text i)
 passes_right pieces text number i Nothing told h a = no_single pieces text number i Nothing h (λ s. s)
 passes_right pieces text number i Sequence told h a = no_single pieces text number i Sequence h (λ s. s)

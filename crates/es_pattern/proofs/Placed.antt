@@ -23,7 +23,7 @@ use Rattle.es_pattern.proofs.Moves.{OutsideMoves, by_symbol, by_brace, by_paren,
 use Rattle.es_pattern.proofs.Placing.{inner_symbol}
 
 -- the machine, within d groups, is at a kind of place that the tokens before the rest lead to
-abbrev pub Agrees : Within → Kind → ℕ → List ℕ → Type 0
+abbrev Agrees : Within → Kind → ℕ → List ℕ → Type 0
 Agrees (groups depth) outside d rest = d ≡ depth
 Agrees (groups depth) (in_bounds bs) d rest = d ≡ depth
 Agrees (groups depth) in_paren d rest = (suc d ≡ depth) × (BeginsQuestion rest → ⊥)
@@ -284,7 +284,7 @@ stands_told text place rest (past_class {depth = depth} h) =
     (λ k d new e x m. let y = at_end_bracket new e depth (inside_moves k d 93 new e depth rest x m) in agrees_as (groups depth) new outside e depth rest y.0 y.1 refl)
 
 -- the machine, where it comes up to a place, is at such a kind of place
-pub agrees_at : (text : List ℕ) (q : ℕ) (place : Within) (r : Reading) → q ≤ length text → Stands text place (drop q text) → reads (take q text) start ≡ Some r → Agrees place (kind r) (length r.groups) (drop q text)
+agrees_at : (text : List ℕ) (q : ℕ) (place : Within) (r : Reading) → q ≤ length text → Stands text place (drop q text) → reads (take q text) start ≡ Some r → Agrees place (kind r) (length r.groups) (drop q text)
 agrees_at text q place r le h e = by_front (stands_told text place (drop q text) h)
   where
     by_front : Told text (drop q text) (λ k d. Agrees place k d (drop q text)) → Agrees place (kind r) (length r.groups) (drop q text)

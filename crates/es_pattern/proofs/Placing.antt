@@ -28,7 +28,7 @@ within false d = groups d
 within true d = class_in_groups d
 
 -- what a kind of place says of the text and what is left of it
-abbrev pub Placed : Kind → ℕ → List ℕ → List ℕ → Type 0
+abbrev Placed : Kind → ℕ → List ℕ → List ℕ → Type 0
 Placed outside d text rest = Stands text (groups d) rest
 Placed (in_bounds bs) d text rest = AllInner bs × Stands text (groups d) (123 ∷ (bs ++ rest))
 Placed in_paren d text rest = Stands text (groups d) (40 ∷ rest)
@@ -128,7 +128,7 @@ placed_after [] rest text s r e h = subst (λ (x : Reading). Placed (kind x) (le
 placed_after (c ∷ front) rest text s r e h = option_and_then_some (reads front) (step c s) r e (λ next is again. placed_after front rest text next r again (placed_next (kind s) (length s.groups) c (kind next) (length next.groups) text (front ++ rest) (step_moves c s next is) h))
 
 -- what was read of the text stands at its place
-pub placed_at : (text : List ℕ) (n : ℕ) (r : Reading) → reads (take n text) start ≡ Some r → Placed (kind r) (length r.groups) text (drop n text)
+placed_at : (text : List ℕ) (n : ℕ) (r : Reading) → reads (take n text) start ≡ Some r → Placed (kind r) (length r.groups) text (drop n text)
 placed_at text n r e = placed_after (take n text) (drop n text) text start r e (subst (λ (xs : List ℕ). Stands text (groups 0) xs) (sym (take-append-drop n text)) at_front)
 
 -- `?` begins no form that isn't supported
@@ -195,7 +195,7 @@ deep_placed text n r le e h =
     (subst (λ (p : ℕ). may_open_at (kind r) && begins_group rest && nat_le 200 (length r.groups + p) ≡ true) same.2 (subst (λ (b : Bool). b && begins_group rest && nat_le 200 (length r.groups + pending r.mode) ≡ true) same.0 h))
 
 -- what is left of a text at a place is its end
-abbrev pub EndsWith : List ℕ → List ℕ → Type 0
+abbrev EndsWith : List ℕ → List ℕ → Type 0
 EndsWith text rest = (front : List ℕ) × (text ≡ front ++ rest)
 
 -- the end after its first character, and the end of an end
@@ -215,7 +215,7 @@ escaped_ends more rest (two_digit_escape {text = text} {c = c} h) = let g = hex_
 escaped_ends more rest (four_digit_escape {text = text} {c = c} h) = let g = hex_ends 4 0 text rest c h in (117 ∷ g.0, ap (λ (xs : List ℕ). 117 ∷ xs) g.1)
 
 -- what is left at a place is the end of the text
-pub stands_ends : (text : List ℕ) (place : Within) (rest : List ℕ) → Stands text place rest → EndsWith text rest
+stands_ends : (text : List ℕ) (place : Within) (rest : List ℕ) → Stands text place rest → EndsWith text rest
 stands_ends text place rest at_front = ([], refl)
 stands_ends text place rest (past_symbol {depth = d} {c = c} h apart) = further text c rest (stands_ends text (groups d) (c ∷ rest) h)
 stands_ends text place rest (past_escape {depth = d} {more = more} h x) = beyond text more rest (further text 92 more (stands_ends text (groups d) (92 ∷ more) h)) (escaped_ends more rest x)

@@ -187,7 +187,7 @@ advances_if (Ok x) passes program size at place waiting next xs ys waiting' next
     subst (λ (v : List ℕ). Advances passes program size at place waiting next v next') (sym h.0) (subst (λ (v : List ℕ). Advances passes program size at place waiting next xs v) (sym h.1) a)
 advances_if (Err e) passes program size at place waiting next xs ys waiting' next' h a = h
 
-abbrev pub IsSeen : List Bool → ℕ → Type 0
+abbrev IsSeen : List Bool → ℕ → Type 0
 IsSeen seen q = slice_get seen q ≡ Some true
 
 -- what the loop over the steps that wait at a place keeps

@@ -32,7 +32,7 @@ pub data Suffix : Tree → Tree → List ℕ → List ℕ → Type 0 where
   greedy_suffix : {a : Tree} {least : ℕ} {most : Option ℕ} {text rest : List ℕ} → Mark least most text rest → Suffix a (repetition least most a) text rest
   lazy_suffix : {a : Tree} {least : ℕ} {most : Option ℕ} {text rest : List ℕ} → Mark least most text (63 ∷ rest) → Suffix a (repetition least most a) text rest
 
-pub suffix_term : {a t : Tree} {text mid rest : List ℕ} → Reads (atom a) text mid → Suffix a t mid rest → Reads (term t) text rest
+suffix_term : {a t : Tree} {text mid rest : List ℕ} → Reads (atom a) text mid → Suffix a t mid rest → Reads (term t) text rest
 suffix_term r no_suffix = once r
 suffix_term r (greedy_suffix m) = greedy r m
 suffix_term r (lazy_suffix m) = lazy r m
@@ -58,7 +58,7 @@ pub data After : ℕ → List CharRange → List ℕ → List ℕ → List CharR
   after_range : {c d : ℕ} {ranges all : List CharRange} {mid after rest : List ℕ} → ClassChar d mid after → c ≤ d → Items false (ranges ++ range c d ∷ []) after rest all → After c ranges (45 ∷ mid) rest all
   after_dash_end : {c : ℕ} {ranges : List CharRange} {rest : List ℕ} → c ≤ 45 → After c ranges (45 ∷ 45 ∷ 93 ∷ rest) rest (ranges ++ range c 45 ∷ [])
 
-pub first_after : {f : Bool} {c : ℕ} {ranges all : List CharRange} {text mid rest : List ℕ} → FirstChar f c text mid → After c ranges mid rest all → Items f ranges text rest all
+first_after : {f : Bool} {c : ℕ} {ranges all : List CharRange} {text mid rest : List ℕ} → FirstChar f c text mid → After c ranges mid rest all → Items f ranges text rest all
 first_after r (after_one i) = one_char r i
 first_after r (after_range d le i) = from_to r d le i
 first_after r (after_dash_end le) = to_dash r le
@@ -67,7 +67,7 @@ pub data EscapeItem : List CharRange → List ℕ → List ℕ → List CharRang
   escape_set : {letter : ℕ} {ranges more all : List CharRange} {text rest : List ℕ} → set_of letter ≡ Some more → Items false (ranges ++ more) text rest all → EscapeItem ranges (letter ∷ text) rest all
   escape_char : {c : ℕ} {ranges all : List CharRange} {text mid rest : List ℕ} → ClassChar c (92 ∷ text) mid → After c ranges mid rest all → EscapeItem ranges text rest all
 
-pub escape_item : {f : Bool} {ranges all : List CharRange} {text rest : List ℕ} → EscapeItem ranges text rest all → Items f ranges (92 ∷ text) rest all
+escape_item : {f : Bool} {ranges all : List CharRange} {text rest : List ℕ} → EscapeItem ranges text rest all → Items f ranges (92 ∷ text) rest all
 escape_item (escape_set e i) = one_set e i
 escape_item (escape_char r a) = first_after (other_char r) a
 
@@ -161,7 +161,7 @@ module _ (ts : List Tree) (gs : List Open) (t : Tree) where
       term_next (lookahead negated i.1) text c.0 (build i.1 c.0 body) c.2
 
 -- the end of a group
-pub closed_next : (gs : List Open) (r s : Reading) (w : List ℕ) (t : Tree) → r.groups ≡ gs → closed_by gs r ≡ Some s → Completes s w t → InTerm r.trees gs (41 ∷ w) t
+closed_next : (gs : List Open) (r s : Reading) (w : List ℕ) (t : Tree) → r.groups ≡ gs → closed_by gs r ≡ Some s → Completes s w t → InTerm r.trees gs (41 ∷ w) t
 closed_next [] r s w t g e h = no_some s e
 closed_next (Group ∷ gs) r s w t g e h =
     let i = completes_at (at Atom (chosen (record r { groups = gs; products = products_below r.products; product = top_product r.products; atom_product = r.product }))) s w t e h in
@@ -172,14 +172,14 @@ closed_next (Ahead negated ∷ gs) r s w t g e h =
     let i = completes_at x s w t e h in
     (41 ∷ w, choice (top (below r.trees)) (top r.trees), ends, (w, refl, i))
 
-pub all_false : (c : ℕ) → c == 94 ≡ false → c == 36 ≡ false → c == 92 ≡ false → c == 46 ≡ false → c == 42 ≡ false → c == 43 ≡ false → c == 63 ≡ false → c == 40 ≡ false → c == 41 ≡ false → c == 91 ≡ false → c == 124 ≡ false → is_plain c ≡ true
+all_false : (c : ℕ) → c == 94 ≡ false → c == 36 ≡ false → c == 92 ≡ false → c == 46 ≡ false → c == 42 ≡ false → c == 43 ≡ false → c == 63 ≡ false → c == 40 ≡ false → c == 41 ≡ false → c == 91 ≡ false → c == 124 ≡ false → is_plain c ≡ true
 all_false c a b d e f g h i j k l = rw (a, b, d, e, f, g, h, i, j, k, l)
 
 pub no_braces : (c : ℕ) (w : List ℕ) → (c ≡ 123 → ⊥) → BeginsBraces (c ∷ w) → ⊥
 no_braces c w apart h = apart (cc (h.5))
 
 -- a character where a term may begin, that is no quantifier and no `{`
-pub term_step : (c : ℕ) (r s : Reading) (w : List ℕ) (t : Tree) → c == 42 ≡ false → c == 43 ≡ false → c == 63 ≡ false → c == 123 ≡ false → term_begun c r ≡ Some s → Completes s w t → InTerm r.trees r.groups (c ∷ w) t
+term_step : (c : ℕ) (r s : Reading) (w : List ℕ) (t : Tree) → c == 42 ≡ false → c == 43 ≡ false → c == 63 ≡ false → c == 123 ≡ false → term_begun c r ≡ Some s → Completes s w t → InTerm r.trees r.groups (c ∷ w) t
 term_step c r s w t n42 n43 n63 n123 e h =
     let P : Type 0 = InTerm r.trees r.groups (c ∷ w) t in
     let ts = r.trees in
@@ -199,7 +199,7 @@ term_step c r s w t n42 n43 n63 n123 e h =
     class_opened ts gs w (inr h) = let i = h.2 in subst (λ (v : List ℕ). InTerm ts gs (91 ∷ v) t) (sym h.1) (atom_next ts gs t (one_of true i.0) (91 ∷ 94 ∷ h.0) i.1 (negated_class i.2) i.3)
 
 -- a quantifier after an atom
-pub mark_step : (r s : Reading) (product least : ℕ) (most : Option ℕ) (w text : List ℕ) (t : Tree) → ((rest : List ℕ) → rest ≡ w → Mark least most text rest) → quantified least most (charged product r) ≡ s → Completes s w t → AfterAtom (top r.trees) (below r.trees) r.groups text t
+mark_step : (r s : Reading) (product least : ℕ) (most : Option ℕ) (w text : List ℕ) (t : Tree) → ((rest : List ℕ) → rest ≡ w → Mark least most text rest) → quantified least most (charged product r) ≡ s → Completes s w t → AfterAtom (top r.trees) (below r.trees) r.groups text t
 mark_step r s product least most w text t mark e h = by_lazy (subst (λ (y : Reading). Completes y w t) (sym e) h)
   where
     ts : List Tree
@@ -210,7 +210,7 @@ mark_step r s product least most w text t mark e h = by_lazy (subst (λ (y : Rea
     by_lazy (inr l) = (repetition least most (top r.trees), l.0, lazy_suffix (mark (63 ∷ l.0) (sym l.1)), l.2)
 
 -- where a term may begin, or a quantifier after an atom
-pub plain_step : (after_atom may_be_lazy : Bool) (c : ℕ) (r s : Reading) (w : List ℕ) (t : Tree) → plain after_atom may_be_lazy c r ≡ Some s → Completes s w t → Base after_atom r (c ∷ w) t ⊎ ((may_be_lazy ≡ true) × (c ≡ 63) × InTerm r.trees r.groups w t)
+plain_step : (after_atom may_be_lazy : Bool) (c : ℕ) (r s : Reading) (w : List ℕ) (t : Tree) → plain after_atom may_be_lazy c r ≡ Some s → Completes s w t → Base after_atom r (c ∷ w) t ⊎ ((may_be_lazy ≡ true) × (c ≡ 63) × InTerm r.trees r.groups w t)
 plain_step after_atom may_be_lazy c r s w t e h =
     let P : Type 0 = Base after_atom r (c ∷ w) t ⊎ ((may_be_lazy ≡ true) × (c ≡ 63) × InTerm r.trees r.groups w t) in
     if_else (c == 42) _ _ s P e (λ y x. inl (marked_step after_atom 0 None 42 y (λ rest same. subst (λ (v : List ℕ). Mark 0 None (42 ∷ w) v) (sym same) star_mark) x)) (λ n42 e2.
@@ -244,7 +244,7 @@ plain_step after_atom may_be_lazy c r s w t e h =
     settled_step false n42 n43 n63 n123 x = term_step c r s w t n42 n43 n63 n123 x h
 
 -- the same without what makes a quantifier lazy
-pub base_step : (after_atom : Bool) (c : ℕ) (r s : Reading) (w : List ℕ) (t : Tree) → plain after_atom false c r ≡ Some s → Completes s w t → Base after_atom r (c ∷ w) t
+base_step : (after_atom : Bool) (c : ℕ) (r s : Reading) (w : List ℕ) (t : Tree) → plain after_atom false c r ≡ Some s → Completes s w t → Base after_atom r (c ∷ w) t
 base_step after_atom c r s w t e h = by_cases (plain_step after_atom false c r s w t e h)
   where
     by_cases : Base after_atom r (c ∷ w) t ⊎ ((false ≡ true) × (c ≡ 63) × InTerm r.trees r.groups w t) → Base after_atom r (c ∷ w) t
@@ -258,11 +258,11 @@ digit_plain c h =
     all_false c (below_apart c 94 (omega (arith, bounds.1))) (above_apart c 36 (omega (arith, bounds.0))) (below_apart c 92 (omega (arith, bounds.1))) (above_apart c 46 (omega (arith, bounds.0))) (above_apart c 42 (omega (arith, bounds.0))) (above_apart c 43 (omega (arith, bounds.0)))
     (below_apart c 63 (omega (arith, bounds.1))) (above_apart c 40 (omega (arith, bounds.0))) (above_apart c 41 (omega (arith, bounds.0))) (below_apart c 91 (omega (arith, bounds.1))) (below_apart c 124 (omega (arith, bounds.1)))
 
-pub inner_atom : (c : ℕ) (rest : List ℕ) → (is_digit c ≡ true) ⊎ (c ≡ 44) → Reads (atom (char c)) (c ∷ rest) rest
+inner_atom : (c : ℕ) (rest : List ℕ) → (is_digit c ≡ true) ⊎ (c ≡ 44) → Reads (atom (char c)) (c ∷ rest) rest
 inner_atom c rest (inl h) = ordinary (digit_plain c h) (no_braces c rest (λ e. omega (arith, digit_within c h, e)))
 inner_atom c rest (inr h) = subst (λ (d : ℕ). Reads (atom (char d)) (d ∷ rest) rest) (sym h) (ordinary refl (no_braces 44 rest (λ e. absurd (omega (arith, e)))))
 
-pub flushed_chars_next : (cs : List ℕ) (r : Reading) (rest : List ℕ) (t : Tree) → AllInner cs → AfterAtom (top (flushed_chars cs r).trees) (below (flushed_chars cs r).trees) (flushed_chars cs r).groups rest t
+flushed_chars_next : (cs : List ℕ) (r : Reading) (rest : List ℕ) (t : Tree) → AllInner cs → AfterAtom (top (flushed_chars cs r).trees) (below (flushed_chars cs r).trees) (flushed_chars cs r).groups rest t
     → AfterAtom (top r.trees) (below r.trees) r.groups (cs ++ rest) t
 flushed_chars_next [] r rest t h a = a
 flushed_chars_next (c ∷ cs) r rest t h a =
@@ -290,7 +290,7 @@ inner_is bs c h = by_digit (is_digit c) refl h
     by_digit true e g = inl e
     by_digit false e g = by_comma (c == 44) refl g
 
-pub braces_step : (after_atom : Bool) (c : ℕ) (r s : Reading) (w : List ℕ) (t : Tree) → r.mode ≡ Braces after_atom → in_braces after_atom c r ≡ Some s → Completes s w t → AllInner r.braces → Base after_atom r (123 ∷ (r.braces ++ c ∷ w)) t
+braces_step : (after_atom : Bool) (c : ℕ) (r s : Reading) (w : List ℕ) (t : Tree) → r.mode ≡ Braces after_atom → in_braces after_atom c r ≡ Some s → Completes s w t → AllInner r.braces → Base after_atom r (123 ∷ (r.braces ++ c ∷ w)) t
 braces_step after_atom c r s w t m e h inner =
     let P : Type 0 = Base after_atom r (123 ∷ (r.braces ++ c ∷ w)) t in
     if_else (is_inner r.braces c) _ _ s P e (λ y x. goes_on y x) (λ out e2.
@@ -344,10 +344,10 @@ hex_guard value zero x y s P e then_ = absurd (never_both (nat_lt 0xfff value) e
 hex_guard value (suc l) x y s P e then_ = if_else (nat_lt 0xfff value || (suc l == 0)) None y s P e (λ b g. no_some s g) (λ b g. then_ l refl g)
 
 -- a digit more, in front of those that lead to the character
-pub hex_more : (value l c d ch : ℕ) (w mid : List ℕ) → hex_value c ≡ Some d → Hex l (value * 16 + d) w mid ch → Hex (suc l) value (c ∷ w) mid ch
+hex_more : (value l c d ch : ℕ) (w mid : List ℕ) → hex_value c ≡ Some d → Hex l (value * 16 + d) w mid ch → Hex (suc l) value (c ∷ w) mid ch
 hex_more value l c d ch w mid e h = (c, d, w, refl, e, h)
 
-pub hex_step : (value left c : ℕ) (r s : Reading) (w : List ℕ) (t : Tree) → hex_by (hex_value c) value left r ≡ Some s → Completes s w t → CompletesIn (modes.Hex value left) r (c ∷ w) t
+hex_step : (value left c : ℕ) (r s : Reading) (w : List ℕ) (t : Tree) → hex_by (hex_value c) value left r ≡ Some s → Completes s w t → CompletesIn (modes.Hex value left) r (c ∷ w) t
 hex_step value left c r s w t e h = by_digit (hex_value c) refl e
   where
     P : Type 0
@@ -374,7 +374,7 @@ hex_step value left c r s w t e h = by_digit (hex_value c) refl e
         (λ l is y. let same : left - 1 ≡ l = omega (arith, is) in by_left d l here is (greatest_from (value * 16 + d) l) refl
         (subst (λ (k : ℕ). hex_to (greatest_from (value * 16 + d) k) (value * 16 + d) k r ≡ Some s) same y))
 
-pub escape_step : (c : ℕ) (r s : Reading) (w : List ℕ) (t : Tree) → with_set (set_of c) c r ≡ Some s → Completes s w t → InTerm r.trees r.groups (92 ∷ c ∷ w) t
+escape_step : (c : ℕ) (r s : Reading) (w : List ℕ) (t : Tree) → with_set (set_of c) c r ≡ Some s → Completes s w t → InTerm r.trees r.groups (92 ∷ c ∷ w) t
 escape_step c r s w t e h = by_set (set_of c) refl e
   where
     ts : List Tree
@@ -404,7 +404,7 @@ escape_step c r s w t e h = by_set (set_of c) refl e
         by_char (escaped c) refl x6)))))
 
 -- classes
-pub item_step : (is_first : Bool) (c : ℕ) (r s : Reading) (w : List ℕ) (t : Tree) → (c == 45 ≡ true → is_first ≡ true) → item c r ≡ Some s → Completes s w t → InClass is_first r (c ∷ w) t
+item_step : (is_first : Bool) (c : ℕ) (r s : Reading) (w : List ℕ) (t : Tree) → (c == 45 ≡ true → is_first ≡ true) → item c r ≡ Some s → Completes s w t → InClass is_first r (c ∷ w) t
 item_step is_first c r s w t dash e h =
     let P : Type 0 = InClass is_first r (c ∷ w) t in
     if_else (c == 93) _ _ s P e (λ y x. at_char 93 y (r.ranges, w, no_item, completes_at (class_end r) s w t x h)) (λ n93 e2.
@@ -418,7 +418,7 @@ item_step is_first c r s w t dash e h =
     first true y n93 n92 = subst (λ (f : Bool). FirstChar f c (c ∷ w) w) (sym (dash y)) (subst (λ (d : ℕ). FirstChar true d (d ∷ w) w) (sym (eqb-true c 45 y)) first_dash)
     first false y n93 n92 = other_char (itself (rw (n93, n92, y)))
 
-pub next_item_step : (c : ℕ) (r s : Reading) (w : List ℕ) (t : Tree) → next_item c r ≡ Some s → Completes s w t → InClass false r (c ∷ w) t
+next_item_step : (c : ℕ) (r s : Reading) (w : List ℕ) (t : Tree) → next_item c r ≡ Some s → Completes s w t → InClass false r (c ∷ w) t
 next_item_step c r s w t e h =
     let P : Type 0 = InClass false r (c ∷ w) t in
     if_else (c == 45) _ _ s P e
@@ -428,7 +428,7 @@ next_item_step c r s w t e h =
     (subst (λ (v : List ℕ). InClass false r (45 ∷ v) t) (sym i.1) (r.ranges ++ range 45 45 ∷ [], i.0, last_dash, i.2)))
     (λ n45 x. item_step false c r s w t (λ y. absurd (false≢true (sym n45 ∙ y))) x h)
 
-pub after_char_step : (first c : ℕ) (r s : Reading) (w : List ℕ) (t : Tree) → after_char first c r ≡ Some s → Completes s w t → AfterChar first r (c ∷ w) t
+after_char_step : (first c : ℕ) (r s : Reading) (w : List ℕ) (t : Tree) → after_char first c r ≡ Some s → Completes s w t → AfterChar first r (c ∷ w) t
 after_char_step first c r s w t e h =
     let P : Type 0 = AfterChar first r (c ∷ w) t in
     if_else (c == 45) _ _ s P e
@@ -436,14 +436,14 @@ after_char_step first c r s w t e h =
     (λ n45 x. let i = item_step false c (ranged first first r) s w t (λ y. absurd (false≢true (sym n45 ∙ y))) x h in (i.0, i.1, after_one i.2, i.3))
 
 -- a character that ends a range, or begins an item
-pub class_char_step : (first : Option ℕ) (d : ℕ) (r s : Reading) (w : List ℕ) (t : Tree) → class_char first d r ≡ Some s → Completes s w t → AfterEnd first d r w t
+class_char_step : (first : Option ℕ) (d : ℕ) (r s : Reading) (w : List ℕ) (t : Tree) → class_char first d r ≡ Some s → Completes s w t → AfterEnd first d r w t
 class_char_step None d r s w t e h = let i = completes_at (at (modes.ClassChar d) r) s w t e h in (i.0, i.1, i.2, i.3)
 class_char_step (Some c) d r s w t e h =
     if_else (nat_le c d) _ _ s (AfterEnd (Some c) d r w t) e
     (λ y x. let i = completes_at (at ClassNext (ranged c d r)) s w t x h in (i.0, i.1, (leb-true c d y, i.2), i.3))
     (λ n x. no_some s x)
 
-pub after_dash_step : (first c : ℕ) (r s : Reading) (w : List ℕ) (t : Tree) → after_dash first c r ≡ Some s → Completes s w t → AfterChar first r (45 ∷ c ∷ w) t
+after_dash_step : (first c : ℕ) (r s : Reading) (w : List ℕ) (t : Tree) → after_dash first c r ≡ Some s → Completes s w t → AfterChar first r (45 ∷ c ∷ w) t
 after_dash_step first c r s w t e h =
     let P : Type 0 = AfterChar first r (45 ∷ c ∷ w) t in
     if_else (c == 93) _ _ s P e
@@ -468,11 +468,11 @@ after_dash_step first c r s w t e h =
         (λ z g. no_some s g)
 
 -- an escape in a class, of a character that was read
-pub escape_ended : (first : Option ℕ) (d : ℕ) (r : Reading) (text after : List ℕ) (t : Tree) → ClassChar d (92 ∷ text) after → AfterEnd first d r after t → InEscape first r text t
+escape_ended : (first : Option ℕ) (d : ℕ) (r : Reading) (text after : List ℕ) (t : Tree) → ClassChar d (92 ∷ text) after → AfterEnd first d r after t → InEscape first r text t
 escape_ended None d r text after t read i = (i.0, i.1, escape_char read i.2, i.3)
 escape_ended (Some c) d r text after t read i = (i.0, i.1, d, after, read, i.2.0, i.2.1, i.3)
 
-pub class_escape_step : (first : Option ℕ) (c : ℕ) (r s : Reading) (w : List ℕ) (t : Tree) → class_set (set_of c) first c r ≡ Some s → Completes s w t → InEscape first r (c ∷ w) t
+class_escape_step : (first : Option ℕ) (c : ℕ) (r s : Reading) (w : List ℕ) (t : Tree) → class_set (set_of c) first c r ≡ Some s → Completes s w t → InEscape first r (c ∷ w) t
 class_escape_step first c r s w t e h = by_set (set_of c) first refl e
   where
     at_char : (f : Option ℕ) (k : ℕ) → c == k ≡ true → InEscape f r (k ∷ w) t → InEscape f r (c ∷ w) t
@@ -506,7 +506,7 @@ class_escape_step first c r s w t e h = by_set (set_of c) first refl e
     by_set (Some ranges) (Some k) here x = no_some s x
     by_set None f here x = rest_step f x
 
-pub class_hex_step : (first : Option ℕ) (value left c : ℕ) (r s : Reading) (w : List ℕ) (t : Tree) → class_hex_by (hex_value c) first value left r ≡ Some s → Completes s w t → CompletesIn (modes.ClassHex first value left) r (c ∷ w) t
+class_hex_step : (first : Option ℕ) (value left c : ℕ) (r s : Reading) (w : List ℕ) (t : Tree) → class_hex_by (hex_value c) first value left r ≡ Some s → Completes s w t → CompletesIn (modes.ClassHex first value left) r (c ∷ w) t
 class_hex_step first value left c r s w t e h = by_digit (hex_value c) refl e
   where
     P : Type 0
@@ -572,11 +572,11 @@ step_completes (modes.ClassEscape first) c r s w t m e h = class_escape_step fir
 step_completes (modes.ClassHex first value left) c r s w t m e h = class_hex_step first value left c r s w t e h
 
 -- the end of the text
-pub ended_completes : (gs : List Open) (r : Reading) (t : Tree) → r.groups ≡ gs → ended gs r ≡ Some t → InTerm r.trees gs [] t
+ended_completes : (gs : List Open) (r : Reading) (t : Tree) → r.groups ≡ gs → ended gs r ≡ Some t → InTerm r.trees gs [] t
 ended_completes [] r t g e = ([], top (chosen r).trees, ends, (refl, same_Some (top (chosen r).trees) t e))
 ended_completes (k ∷ gs) r t g e = no_some t e
 
-pub end_completes : (m : Mode) (r : Reading) (t : Tree) → r.mode ≡ m → finished_in m r ≡ Some t → CompletesIn m r [] t
+end_completes : (m : Mode) (r : Reading) (t : Tree) → r.mode ≡ m → finished_in m r ≡ Some t → CompletesIn m r [] t
 end_completes Term r t m e = ended_completes r.groups r t refl e
 end_completes Atom r t m e = unsuffixed (below r.trees) r.groups t (top r.trees) [] (ended_completes r.groups (with_term r) t refl e)
 end_completes Quantified r t m e = inl (ended_completes r.groups r t refl e)
@@ -600,7 +600,7 @@ end_completes (modes.ClassEscape first) r t m e = no_some t e
 end_completes (modes.ClassHex first value left) r t m e = no_some t e
 
 -- what is read to its end completes what was read before
-pub completed : (text : List ℕ) (r : Reading) (t : Tree) → option_and_then finished (reads text r) ≡ Some t → Completes r text t
+completed : (text : List ℕ) (r : Reading) (t : Tree) → option_and_then finished (reads text r) ≡ Some t → Completes r text t
 completed [] r t e = end_completes r.mode r t refl e
 completed (c ∷ text) r t e = by_step (step c r) refl (completed text) e
   where

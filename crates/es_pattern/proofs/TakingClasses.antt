@@ -17,11 +17,11 @@ use Rattle.es_pattern.proofs.HexDigits.{hex_digit, two_digits_more, four_digits_
 use Rattle.es_pattern.proofs.TakingTerms.{no_escape}
 
 -- a test that holds, and one that doesn't
-pub taken_then : (b : Bool) (x y : Option Reading) (w : List ℕ) (t : Tree) → b ≡ true → Taken x w t → Taken (cond b x y) w t
+taken_then : (b : Bool) (x y : Option Reading) (w : List ℕ) (t : Tree) → b ≡ true → Taken x w t → Taken (cond b x y) w t
 taken_then true x y w t e h = h
 taken_then false x y w t e h = absurd (false≢true e)
 
-pub taken_else : (b : Bool) (x y : Option Reading) (w : List ℕ) (t : Tree) → b ≡ false → Taken y w t → Taken (cond b x y) w t
+taken_else : (b : Bool) (x y : Option Reading) (w : List ℕ) (t : Tree) → b ≡ false → Taken y w t → Taken (cond b x y) w t
 taken_else true x y w t e h = absurd (false≢true (sym e))
 taken_else false x y w t e h = h
 
@@ -286,7 +286,7 @@ taking_escape None c r w t i = by_item (c ∷ w) i.2 refl
     by_item text (escape_char {c = d} {mid = mid} read after) e = taking_escaped None r c w t d (92 ∷ text) mid read (cc) (i.0, i.1, after, i.3)
 
 -- a hexadecimal digit, of a number that can still become a character: what it makes of the number, and the greatest character that is left
-abbrev pub DigitTaken : ℕ → ℕ → ℕ → ℕ → List ℕ → List ℕ → Type 0
+abbrev DigitTaken : ℕ → ℕ → ℕ → ℕ → List ℕ → List ℕ → Type 0
 DigitTaken value left c ch w mid =
     (d : ℕ) × (g : ℕ) × (hex_value c ≡ Some d) × Hex left (value * 16 + d) w mid ch × (greatest_from (value * 16 + d) left ≡ Some g) × (ch ≤ g) × (left ≡ 0 → g ≡ ch) × (nat_lt 0xfff value ≡ false)
 

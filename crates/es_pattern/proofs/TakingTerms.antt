@@ -23,30 +23,30 @@ use Rattle.es_pattern.proofs.HexDigits.{two_small}
 use Rattle.es_pattern.proofs.Tests.{apart_by}
 
 -- the character marks no quantifier
-abbrev pub NoMark : ℕ → Type 0
+abbrev NoMark : ℕ → Type 0
 NoMark c = (c == 42 ≡ false) × (c == 43 ≡ false) × (c == 63 ≡ false)
 
 -- a term begins with the character, or the group or the alternative ends with it
-abbrev pub BeginsTerm : Reading → ℕ → List ℕ → Tree → Type 0
+abbrev BeginsTerm : Reading → ℕ → List ℕ → Tree → Type 0
 BeginsTerm r c w t = NoMark c × (BeginsBraces (c ∷ w) → ⊥) × Taken (term_begun c r) w t
 
 -- a term, and what follows it
-abbrev pub FirstTerm : List Tree → List Open → List ℕ → Tree → Type 0
+abbrev FirstTerm : List Tree → List Open → List ℕ → Tree → Type 0
 FirstTerm ts gs text t = (u : Tree) × (mid : List ℕ) × Reads (term u) text mid × InTerm (sequence (top ts) u ∷ below ts) gs mid t
 
 -- a character that is no `{` begins no braces
-pub begins_term : (c : ℕ) (r : Reading) (w : List ℕ) (t : Tree) → NoMark c → c == 123 ≡ false → Taken (term_begun c r) w t → BeginsTerm r c w t
+begins_term : (c : ℕ) (r : Reading) (w : List ℕ) (t : Tree) → NoMark c → c == 123 ≡ false → Taken (term_begun c r) w t → BeginsTerm r c w t
 begins_term c r w t n n123 h = (n, no_braces c w (eqb-false c 123 n123), h)
 
 -- a character that is no part of the syntax stands for itself
-pub plain_begun : (r : Reading) (c : ℕ) → is_plain c ≡ true → term_begun c r ≡ Some (with_atom (char c) r)
+plain_begun : (r : Reading) (c : ℕ) → is_plain c ≡ true → term_begun c r ≡ Some (with_atom (char c) r)
 plain_begun r c h = rw (apart 94 refl, apart 36 refl, apart 124 refl, apart 41 refl, apart 40 refl, apart 91 refl, apart 92 refl, apart 46 refl)
   where
     apart : (k : ℕ) → is_plain k ≡ false → c == k ≡ false
     apart k e = apart_by is_plain c k h e
 
 -- an atom that begins with the character
-pub atom_begins : (r : Reading) (c : ℕ) (w : List ℕ) (t a : Tree) (mid : List ℕ) → Reads (atom a) (c ∷ w) mid → AfterAtom a r.trees r.groups mid t → BeginsTerm r c w t
+atom_begins : (r : Reading) (c : ℕ) (w : List ℕ) (t a : Tree) (mid : List ℕ) → Reads (atom a) (c ∷ w) mid → AfterAtom a r.trees r.groups mid t → BeginsTerm r c w t
 atom_begins r c w t a mid dot i = begins_term 46 r w t (refl, refl, refl) refl (with_atom any r, refl, i)
 atom_begins r c w t a mid (group b) i = begins_term 40 r w t (refl, refl, refl) refl (at Paren r, refl, atom_next r.trees r.groups t a (40 ∷ w) mid (group b) i)
 atom_begins r c w t a mid (bare_group b) i = begins_term 40 r w t (refl, refl, refl) refl (at Paren r, refl, atom_next r.trees r.groups t a (40 ∷ w) mid (bare_group b) i)
@@ -60,7 +60,7 @@ atom_begins r c w t a mid (ordinary h n) i = ((apart 42 refl, apart 43 refl, apa
     apart k e = apart_by is_plain c k h e
 
 -- a term that begins with the character
-pub term_begins : (r : Reading) (c : ℕ) (w : List ℕ) (t u : Tree) (mid : List ℕ) → Reads (term u) (c ∷ w) mid → InTerm (sequence (top r.trees) u ∷ below r.trees) r.groups mid t → BeginsTerm r c w t
+term_begins : (r : Reading) (c : ℕ) (w : List ℕ) (t u : Tree) (mid : List ℕ) → Reads (term u) (c ∷ w) mid → InTerm (sequence (top r.trees) u ∷ below r.trees) r.groups mid t → BeginsTerm r c w t
 term_begins r c w t u mid at_start i = begins_term 94 r w t (refl, refl, refl) refl (asserted text_start r, refl, i)
 term_begins r c w t u mid at_end i = begins_term 36 r w t (refl, refl, refl) refl (asserted text_end r, refl, i)
 term_begins r c w t u mid at_boundary i = begins_term 92 r w t (refl, refl, refl) refl (at Escape r, refl, term_next r.trees r.groups t u (92 ∷ w) mid at_boundary i)
@@ -72,13 +72,13 @@ term_begins r c w t u mid (greedy {t = b} {mid = after} a m) i = atom_begins r c
 term_begins r c w t u mid (lazy {t = b} {mid = after} a m) i = atom_begins r c w t b after a (u, mid, lazy_suffix m, i)
 
 -- only `)` ends a group
-pub closes_at : (gs : List Open) (ts : List Tree) (c : ℕ) (w : List ℕ) (g t : Tree) → Closes gs ts (c ∷ w) g t → c ≡ 41
+closes_at : (gs : List Open) (ts : List Tree) (c : ℕ) (w : List ℕ) (g t : Tree) → Closes gs ts (c ∷ w) g t → c ≡ 41
 closes_at [] ts c w g t h = cc (h.0)
 closes_at (Group ∷ gs) ts c w g t h = cc (h.1)
 closes_at (Ahead negated ∷ gs) ts c w g t h = cc (h.1)
 
 -- a group is closed
-pub closed_begins : (gs : List Open) (r : Reading) (w : List ℕ) (t : Tree) → Closes gs (below (below r.trees)) (41 ∷ w) (choice (top (below r.trees)) (top r.trees)) t → Taken (closed_by gs r) w t
+closed_begins : (gs : List Open) (r : Reading) (w : List ℕ) (t : Tree) → Closes gs (below (below r.trees)) (41 ∷ w) (choice (top (below r.trees)) (top r.trees)) t → Taken (closed_by gs r) w t
 closed_begins [] r w t h = absurd (cc (h.0))
 closed_begins (Group ∷ gs) r w t h =
     let tails : h.0 ≡ w = cc (h.1) in
@@ -91,7 +91,7 @@ closed_begins (Ahead negated ∷ gs) r w t h =
     (s, refl, subst (λ (v : List ℕ). Completes s v t) tails h.2)
 
 -- what stands in front: the end of the alternatives, a bar, or a term
-pub front : (ts : List Tree) (gs : List Open) (t : Tree) (c : ℕ) (w : List ℕ) (h : Tree) (out : List ℕ) → Reads (alternatives (top (below ts)) (top ts) h) (c ∷ w) out → Closes gs (below (below ts)) out h t
+front : (ts : List Tree) (gs : List Open) (t : Tree) (c : ℕ) (w : List ℕ) (h : Tree) (out : List ℕ) → Reads (alternatives (top (below ts)) (top ts) h) (c ∷ w) out → Closes gs (below (below ts)) out h t
     → Closes gs (below (below ts)) (c ∷ w) (choice (top (below ts)) (top ts)) t ⊎ (((c ≡ 124) × InTerm (nothing ∷ choice (top (below ts)) (top ts) ∷ below (below ts)) gs w t) ⊎ FirstTerm ts gs (c ∷ w) t)
 front ts gs t c w h out ends k = inl k
 front ts gs t c w h out (bar b) k = inr (inl (refl, (out, h, b, k)))
@@ -116,7 +116,7 @@ term_taken r c w t i = by_front (front r.trees r.groups t c w i.1 i.0 i.2 i.3)
     by_front (inr (inr k)) = term_begins r c w t k.0 k.1 k.2 k.3
 
 -- the same, with the tests for quantifiers before
-pub plain_taken : (may_be_lazy : Bool) (c : ℕ) (r : Reading) (w : List ℕ) (t : Tree) → InTerm r.trees r.groups (c ∷ w) t → Taken (plain false may_be_lazy c r) w t
+plain_taken : (may_be_lazy : Bool) (c : ℕ) (r : Reading) (w : List ℕ) (t : Tree) → InTerm r.trees r.groups (c ∷ w) t → Taken (plain false may_be_lazy c r) w t
 plain_taken may_be_lazy c r w t i = by_brace (c == 123) refl (term_taken r c w t i)
   where
     by_brace : (b : Bool) → c == 123 ≡ b → BeginsTerm r c w t → Taken (plain false may_be_lazy c r) w t
@@ -124,7 +124,7 @@ plain_taken may_be_lazy c r w t i = by_brace (c == 123) refl (term_taken r c w t
     by_brace false e h = (h.2.0, rw (h.0.0, h.0.1, h.0.2, e) h.2.1, h.2.2)
 
 -- where a term may begin, after an atom
-pub settled_taken : (c : ℕ) (r : Reading) (w : List ℕ) (t : Tree) → InTerm (with_term r).trees r.groups (c ∷ w) t → Taken (plain true false c r) w t
+settled_taken : (c : ℕ) (r : Reading) (w : List ℕ) (t : Tree) → InTerm (with_term r).trees r.groups (c ∷ w) t → Taken (plain true false c r) w t
 settled_taken c r w t i = by_brace (c == 123) refl (term_taken (with_term r) c w t i)
   where
     by_brace : (b : Bool) → c == 123 ≡ b → BeginsTerm (with_term r) c w t → Taken (plain true false c r) w t
@@ -133,7 +133,7 @@ settled_taken c r w t i = by_brace (c == 123) refl (term_taken (with_term r) c w
     by_brace false e h = (h.2.0, rw (h.0.0, h.0.1, h.0.2, e) h.2.1, h.2.2)
 
 -- after an atom, a quantifier, or where a term may begin
-pub suffix_taken : (c : ℕ) (r : Reading) (w : List ℕ) (t u : Tree) (after : List ℕ) → Suffix (top r.trees) u (c ∷ w) after → InTerm (sequence (top (below r.trees)) u ∷ below (below r.trees)) r.groups after t → Taken (plain true false c r) w t
+suffix_taken : (c : ℕ) (r : Reading) (w : List ℕ) (t u : Tree) (after : List ℕ) → Suffix (top r.trees) u (c ∷ w) after → InTerm (sequence (top (below r.trees)) u ∷ below (below r.trees)) r.groups after t → Taken (plain true false c r) w t
 suffix_taken c r w t u after no_suffix i = settled_taken c r w t i
 suffix_taken c r w t u after (greedy_suffix star_mark) i = (quantified 0 None (charged r.atom_product r), refl, inl i)
 suffix_taken c r w t u after (greedy_suffix plus_mark) i = (quantified 1 None (charged r.atom_product r), refl, inl i)
@@ -145,7 +145,7 @@ suffix_taken c r w t u after (lazy_suffix question_mark) i = (quantified 0 (Some
 suffix_taken c r w t u after (lazy_suffix (braces_mark bounds b)) i = (at (Braces true) (record r { braces = [] }), refl, λ inner. (u, after, lazy_suffix (braces_mark bounds b), i))
 
 -- where a term may begin, after an atom or not
-pub base_taken : (after_atom : Bool) (c : ℕ) (r : Reading) (w : List ℕ) (t : Tree) → Base after_atom r (c ∷ w) t → Taken (plain after_atom false c r) w t
+base_taken : (after_atom : Bool) (c : ℕ) (r : Reading) (w : List ℕ) (t : Tree) → Base after_atom r (c ∷ w) t → Taken (plain after_atom false c r) w t
 base_taken true c r w t h = suffix_taken c r w t h.0 h.1 h.2 h.3
 base_taken false c r w t h = plain_taken false c r w t h
 
@@ -187,7 +187,7 @@ pub no_escape : (c k v : ℕ) → escaped c ≡ Some v → escaped k ≡ None �
 no_escape c k v h n = ne_eqb c k (λ e. none-some v (sym n ∙ ap escaped (sym e) ∙ h))
 
 -- an escape of one character
-pub char_escape_taken : (c : ℕ) (r : Reading) (w : List ℕ) (t : Tree) (k : ℕ) (mid : List ℕ) → CharEscape k (c ∷ w) mid → AfterAtom (char k) r.trees r.groups mid t → Taken (with_set (set_of c) c r) w t
+char_escape_taken : (c : ℕ) (r : Reading) (w : List ℕ) (t : Tree) (k : ℕ) (mid : List ℕ) → CharEscape k (c ∷ w) mid → AfterAtom (char k) r.trees r.groups mid t → Taken (with_set (set_of c) c r) w t
 char_escape_taken c r w t k mid (named h) i =
     (with_atom (char k) r, rw (apart 100 refl, apart 68 refl, apart 119 refl, apart 87 refl, apart 115 refl, apart 83 refl, apart 98 refl, apart 66 refl, apart 120 refl, apart 117 refl, apart 48 refl) (ap (λ (o : Option ℕ). with_char o r) h), i)
   where
@@ -198,13 +198,13 @@ char_escape_taken c r w t k mid (two_digits h) i = (at (modes.Hex 0 2) r, refl, 
 char_escape_taken c r w t k mid (four_digits h n) i = (at (modes.Hex 0 4) r, refl, (k, mid, h, n, i))
 
 -- an escape that is an atom
-pub escape_atom_taken : (c : ℕ) (r : Reading) (w : List ℕ) (t a : Tree) (mid : List ℕ) → Reads (atom a) (92 ∷ c ∷ w) mid → AfterAtom a r.trees r.groups mid t → Taken (with_set (set_of c) c r) w t
+escape_atom_taken : (c : ℕ) (r : Reading) (w : List ℕ) (t a : Tree) (mid : List ℕ) → Reads (atom a) (92 ∷ c ∷ w) mid → AfterAtom a r.trees r.groups mid t → Taken (with_set (set_of c) c r) w t
 escape_atom_taken c r w t a mid (set_escape {ranges = ranges} e) i = (with_atom (one_of false ranges) r, ap (λ (o : Option (List CharRange)). with_set o c r) e, i)
 escape_atom_taken c r w t a mid (char_escape {c = k} e) i = char_escape_taken c r w t k mid e i
 escape_atom_taken c r w t a mid (ordinary h n) i = absurd (false≢true h)
 
 -- an escape that is a term
-pub escape_term_taken : (c : ℕ) (r : Reading) (w : List ℕ) (t u : Tree) (mid : List ℕ) → Reads (term u) (92 ∷ c ∷ w) mid → InTerm (sequence (top r.trees) u ∷ below r.trees) r.groups mid t → Taken (with_set (set_of c) c r) w t
+escape_term_taken : (c : ℕ) (r : Reading) (w : List ℕ) (t u : Tree) (mid : List ℕ) → Reads (term u) (92 ∷ c ∷ w) mid → InTerm (sequence (top r.trees) u ∷ below r.trees) r.groups mid t → Taken (with_set (set_of c) c r) w t
 escape_term_taken c r w t u mid at_boundary i = (asserted (word_boundary false) r, refl, i)
 escape_term_taken c r w t u mid at_no_boundary i = (asserted (word_boundary true) r, refl, i)
 escape_term_taken c r w t u mid (once a) i = escape_atom_taken c r w t u mid a (u, mid, no_suffix, i)
@@ -220,18 +220,18 @@ pub group_opened : (r : Reading) (w : List ℕ) (t a : Tree) (mid : List ℕ) �
 group_opened r w t a mid b i = (41 ∷ mid, a, b, (mid, refl, i))
 
 -- a lookahead's alternatives
-pub ahead_opened : (negated : Bool) (r : Reading) (w : List ℕ) (t a : Tree) (mid : List ℕ) → Reads (alternatives never nothing a) w (41 ∷ mid) → InTerm (sequence (top r.trees) (lookahead negated a) ∷ below r.trees) r.groups mid t
+ahead_opened : (negated : Bool) (r : Reading) (w : List ℕ) (t a : Tree) (mid : List ℕ) → Reads (alternatives never nothing a) w (41 ∷ mid) → InTerm (sequence (top r.trees) (lookahead negated a) ∷ below r.trees) r.groups mid t
     → InTerm (opened (Ahead negated) r).trees (opened (Ahead negated) r).groups w t
 ahead_opened negated r w t a mid b i = (41 ∷ mid, a, b, (mid, refl, i))
 
 -- a group that is an atom, and doesn't begin with `(?`
-pub paren_atom : (c : ℕ) (r : Reading) (w : List ℕ) (t a : Tree) (mid : List ℕ) → c == 63 ≡ false → Reads (atom a) (40 ∷ c ∷ w) mid → AfterAtom a r.trees r.groups mid t → InTerm (opened Group r).trees (opened Group r).groups (c ∷ w) t
+paren_atom : (c : ℕ) (r : Reading) (w : List ℕ) (t a : Tree) (mid : List ℕ) → c == 63 ≡ false → Reads (atom a) (40 ∷ c ∷ w) mid → AfterAtom a r.trees r.groups mid t → InTerm (opened Group r).trees (opened Group r).groups (c ∷ w) t
 paren_atom c r w t a mid n (group b) i = group_opened r (c ∷ w) t a mid b i
 paren_atom c r w t a mid n (bare_group b) i = absurd (false≢true (sym n))
 paren_atom c r w t a mid n (ordinary h k) i = absurd (false≢true h)
 
 -- such a group that begins a term
-pub paren_term : (c : ℕ) (r : Reading) (w : List ℕ) (t u : Tree) (mid : List ℕ) → c == 63 ≡ false → Reads (term u) (40 ∷ c ∷ w) mid → InTerm (sequence (top r.trees) u ∷ below r.trees) r.groups mid t → InTerm (opened Group r).trees (opened Group r).groups (c ∷ w) t
+paren_term : (c : ℕ) (r : Reading) (w : List ℕ) (t u : Tree) (mid : List ℕ) → c == 63 ≡ false → Reads (term u) (40 ∷ c ∷ w) mid → InTerm (sequence (top r.trees) u ∷ below r.trees) r.groups mid t → InTerm (opened Group r).trees (opened Group r).groups (c ∷ w) t
 paren_term c r w t u mid n (ahead b) i = absurd (false≢true (sym n))
 paren_term c r w t u mid n (not_ahead b) i = absurd (false≢true (sym n))
 paren_term c r w t u mid n (once a) i = paren_atom c r w t u mid n a (u, mid, no_suffix, i)
@@ -249,13 +249,13 @@ taking_paren c r w t m h = by_question (c == 63) refl
         subst (λ (b : Bool). Taken (cond b (Some (at ParenQuestion r)) (plain false false c (opened Group r))) w t) (sym e) (plain_taken false c (opened Group r) w t (paren_term c r w t f.0 f.1 e f.2 f.3))
 
 -- what begins with `(?` as an atom
-pub question_atom : (c : ℕ) (r : Reading) (w : List ℕ) (t a : Tree) (mid : List ℕ) → Reads (atom a) (40 ∷ 63 ∷ c ∷ w) mid → AfterAtom a r.trees r.groups mid t → Taken (step_in ParenQuestion c r) w t
+question_atom : (c : ℕ) (r : Reading) (w : List ℕ) (t a : Tree) (mid : List ℕ) → Reads (atom a) (40 ∷ 63 ∷ c ∷ w) mid → AfterAtom a r.trees r.groups mid t → Taken (step_in ParenQuestion c r) w t
 question_atom c r w t a mid (group b) i = let k = term_taken (opened Group r) 63 (c ∷ w) t (group_opened r (63 ∷ c ∷ w) t a mid b i) in absurd (false≢true (sym k.0.2))
 question_atom c r w t a mid (bare_group b) i = (opened Group r, refl, group_opened r w t a mid b i)
 question_atom c r w t a mid (ordinary h k) i = absurd (false≢true h)
 
 -- what begins with `(?` as a term
-pub question_term : (c : ℕ) (r : Reading) (w : List ℕ) (t u : Tree) (mid : List ℕ) → Reads (term u) (40 ∷ 63 ∷ c ∷ w) mid → InTerm (sequence (top r.trees) u ∷ below r.trees) r.groups mid t → Taken (step_in ParenQuestion c r) w t
+question_term : (c : ℕ) (r : Reading) (w : List ℕ) (t u : Tree) (mid : List ℕ) → Reads (term u) (40 ∷ 63 ∷ c ∷ w) mid → InTerm (sequence (top r.trees) u ∷ below r.trees) r.groups mid t → Taken (step_in ParenQuestion c r) w t
 question_term c r w t u mid (ahead {t = g} b) i = (opened (Ahead false) r, refl, ahead_opened false r w t g mid b i)
 question_term c r w t u mid (not_ahead {t = g} b) i = (opened (Ahead true) r, refl, ahead_opened true r w t g mid b i)
 question_term c r w t u mid (once a) i = question_atom c r w t u mid a (u, mid, no_suffix, i)
@@ -267,14 +267,14 @@ pub taking_paren_question : (c : ℕ) (r : Reading) (w : List ℕ) (t : Tree) �
 taking_paren_question c r w t m h = let f = first_term r.trees r.groups t 40 (63 ∷ c ∷ w) (eqb-false 40 41 refl) (eqb-false 40 124 refl) h in question_term c r w t f.0 f.1 f.2 f.3
 
 -- two runs of digits and commas that end in `}` are the same
-pub same_braces : (b bs rest w : List ℕ) → AllInner b → AllInner bs → b ++ 125 ∷ rest ≡ bs ++ 125 ∷ w → (b ≡ bs) × (rest ≡ w)
+same_braces : (b bs rest w : List ℕ) → AllInner b → AllInner bs → b ++ 125 ∷ rest ≡ bs ++ 125 ∷ w → (b ≡ bs) × (rest ≡ w)
 same_braces [] [] rest w hb hbs e = (refl, cc)
 same_braces [] (y ∷ bs) rest w hb hbs e = absurd (inner_no_end y hbs.0 cc)
 same_braces (x ∷ b) [] rest w hb hbs e = absurd (inner_no_end x hb.0 cc)
 same_braces (x ∷ b) (y ∷ bs) rest w hb hbs e = let tails = same_braces b bs rest w hb.1 hbs.1 cc in let heads : x ≡ y = cc in (cc (heads, tails.0), tails.1)
 
 -- no quantifier follows the atom
-pub unmarked : (ts : List Tree) (gs : List Open) (t a u : Tree) (c : ℕ) (w after : List ℕ) → NoMark c → (BeginsBraces (c ∷ w) → ⊥) → Suffix a u (c ∷ w) after → InTerm (sequence (top ts) u ∷ below ts) gs after t → InTerm (sequence (top ts) a ∷ below ts) gs (c ∷ w) t
+unmarked : (ts : List Tree) (gs : List Open) (t a u : Tree) (c : ℕ) (w after : List ℕ) → NoMark c → (BeginsBraces (c ∷ w) → ⊥) → Suffix a u (c ∷ w) after → InTerm (sequence (top ts) u ∷ below ts) gs after t → InTerm (sequence (top ts) a ∷ below ts) gs (c ∷ w) t
 unmarked ts gs t a u c w after n k no_suffix i = i
 unmarked ts gs t a u c w after n k (greedy_suffix star_mark) i = absurd (false≢true (sym n.0))
 unmarked ts gs t a u c w after n k (greedy_suffix plus_mark) i = absurd (false≢true (sym n.1))
@@ -286,16 +286,16 @@ unmarked ts gs t a u c w after n k (lazy_suffix question_mark) i = absurd (false
 unmarked ts gs t a u c w after n k (lazy_suffix (braces_mark bounds {least = least} {most = most} b)) i = absurd (k (bounds, 63 ∷ after, least, most, b, refl))
 
 -- a character that stands for itself is an atom
-pub itself_taken : (r : Reading) (c : ℕ) (w : List ℕ) (t : Tree) → is_plain c ≡ true → InTerm r.trees r.groups (c ∷ w) t → AfterAtom (char c) r.trees r.groups w t
+itself_taken : (r : Reading) (c : ℕ) (w : List ℕ) (t : Tree) → is_plain c ≡ true → InTerm r.trees r.groups (c ∷ w) t → AfterAtom (char c) r.trees r.groups w t
 itself_taken r c w t h i = let k = term_taken r c w t i in completes_at (with_atom (char c) r) k.2.0 w t (sym (plain_begun r c h) ∙ k.2.1) k.2.2
 
 -- digits and commas stand for themselves, and mark no quantifier
-pub inner_plain : (c : ℕ) → (is_digit c ≡ true) ⊎ (c ≡ 44) → (is_plain c ≡ true) × NoMark c × (c == 123 ≡ false)
+inner_plain : (c : ℕ) → (is_digit c ≡ true) ⊎ (c ≡ 44) → (is_plain c ≡ true) × NoMark c × (c == 123 ≡ false)
 inner_plain c (inl d) = let h = digit_plain c d in (h, (apart_by is_plain c 42 h refl, apart_by is_plain c 43 h refl, apart_by is_plain c 63 h refl), apart_by is_digit c 123 d refl)
 inner_plain c (inr e) = subst (λ (k : ℕ). (is_plain k ≡ true) × NoMark k × (k == 123 ≡ false)) (sym e) (refl, (refl, refl, refl), refl)
 
 -- the characters of braces that are no quantifier
-pub flushed_chars_taken : (cs : List ℕ) (r : Reading) (rest : List ℕ) (t : Tree) → AllInner cs → AfterAtom (top r.trees) (below r.trees) r.groups (cs ++ rest) t
+flushed_chars_taken : (cs : List ℕ) (r : Reading) (rest : List ℕ) (t : Tree) → AllInner cs → AfterAtom (top r.trees) (below r.trees) r.groups (cs ++ rest) t
     → AfterAtom (top (flushed_chars cs r).trees) (below (flushed_chars cs r).trees) (flushed_chars cs r).groups rest t
 flushed_chars_taken [] r rest t h a = a
 flushed_chars_taken (c ∷ cs) r rest t h a =
@@ -316,7 +316,7 @@ abbrev pub counted : Reading → ℕ → Option ℕ → Reading
 counted r n k = quantified n k (charged (r.atom_product * count_of n k) r)
 
 -- the end of braces that are a quantifier, after an atom
-pub counted_taken : (r : Reading) (text w : List ℕ) (t u : Tree) (after : List ℕ) → text ≡ r.braces ++ 125 ∷ w → AllInner r.braces → (n : ℕ) (k : Option ℕ) → bounds_of r.braces ≡ Some (n, k) → Suffix (top r.trees) u (123 ∷ text) after
+counted_taken : (r : Reading) (text w : List ℕ) (t u : Tree) (after : List ℕ) → text ≡ r.braces ++ 125 ∷ w → AllInner r.braces → (n : ℕ) (k : Option ℕ) → bounds_of r.braces ≡ Some (n, k) → Suffix (top r.trees) u (123 ∷ text) after
     → InTerm (sequence (top (below r.trees)) u ∷ below (below r.trees)) r.groups after t → Taken (in_braces_end (bounds_of r.braces) true 125 r) w t
 counted_taken r text w t u after e inner n k b no_suffix i = absurd ((term_taken (with_term r) 123 text t i).1 (r.braces, w, n, k, bounds_sound r.braces n k b, ap (λ (v : List ℕ). 123 ∷ v) e))
 counted_taken r text w t u after e inner n k b (greedy_suffix (braces_mark bounds {least = least} {most = most} h)) i =
@@ -329,12 +329,12 @@ counted_taken r text w t u after e inner n k b (lazy_suffix (braces_mark bounds 
     (counted r least most, ap (λ (o : Option (ℕ × Option ℕ)). in_braces_end o true 125 r) is, inr (after, sym same.1, i))
 
 -- braces that are a quantifier stand after an atom
-pub bounds_taken : (after_atom : Bool) (r : Reading) (w : List ℕ) (t : Tree) → AllInner r.braces → (n : ℕ) (k : Option ℕ) → bounds_of r.braces ≡ Some (n, k) → Base after_atom r (123 ∷ (r.braces ++ 125 ∷ w)) t → Taken (in_braces_end (bounds_of r.braces) after_atom 125 r) w t
+bounds_taken : (after_atom : Bool) (r : Reading) (w : List ℕ) (t : Tree) → AllInner r.braces → (n : ℕ) (k : Option ℕ) → bounds_of r.braces ≡ Some (n, k) → Base after_atom r (123 ∷ (r.braces ++ 125 ∷ w)) t → Taken (in_braces_end (bounds_of r.braces) after_atom 125 r) w t
 bounds_taken true r w t inner n k b a = counted_taken r (r.braces ++ 125 ∷ w) w t a.0 a.1 refl inner n k b a.2 a.3
 bounds_taken false r w t inner n k b i = absurd ((term_taken r 123 (r.braces ++ 125 ∷ w) t i).1 (r.braces, w, n, k, bounds_sound r.braces n k b, refl))
 
 -- braces that go on, end, or break
-pub braces_taken : (after_atom : Bool) (c : ℕ) (r : Reading) (w : List ℕ) (t : Tree) → r.mode ≡ Braces after_atom → AllInner r.braces → Base after_atom r (123 ∷ (r.braces ++ c ∷ w)) t → Taken (in_braces after_atom c r) w t
+braces_taken : (after_atom : Bool) (c : ℕ) (r : Reading) (w : List ℕ) (t : Tree) → r.mode ≡ Braces after_atom → AllInner r.braces → Base after_atom r (123 ∷ (r.braces ++ c ∷ w)) t → Taken (in_braces after_atom c r) w t
 braces_taken after_atom c r w t m inner h = by_inner (is_inner r.braces c) refl
   where
     more : Reading

@@ -18,7 +18,7 @@ use Rattle.es_pattern.proofs.Sound.{Closes, InTerm, AfterAtom, AfterClass, Compl
 use Rattle.es_pattern.proofs.Sane.{CanEnd, IsPartial, greatest_of_three, IsSaneIn, IsSane, Outer, MeasuredOpen, MeasuredBase, after_atom_in, IsMeasured}
 
 -- what closes the groups that are open
-abbrev pub closers : List Open → List ℕ
+abbrev closers : List Open → List ℕ
 closers [] = []
 closers (g ∷ gs) = 41 ∷ closers gs
 

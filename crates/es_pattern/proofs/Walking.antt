@@ -8,18 +8,18 @@ use Rattle.es_pattern.specs.Program.{Does, Runs, Stands, Walks, choice_steps, ma
 use Rattle.es_pattern.specs.Spans.{Chain, IsUpTo}
 
 -- where two parts stand, each stands
-pub stands_within : (program : List Step) (at : ℕ) (steps : List Step) → Stands program at steps → at + length steps ≤ length program
+stands_within : (program : List Step) (at : ℕ) (steps : List Step) → Stands program at steps → at + length steps ≤ length program
 stands_within p at [] h = omega arith
 stands_within p at (s ∷ steps) h = omega (arith, stands_within p (suc at) steps h.1)
 
 stands_at : (p : List Step) (steps : List Step) (x y : ℕ) → x ≡ y → Stands p x steps → Stands p y steps
 stands_at p steps x y e h = subst (λ (z : ℕ). Stands p z steps) e h
 
-pub stands_first : (program : List Step) (at : ℕ) (a b : List Step) → Stands program at (a ++ b) → Stands program at a
+stands_first : (program : List Step) (at : ℕ) (a b : List Step) → Stands program at (a ++ b) → Stands program at a
 stands_first p at [] b h = omega (arith, stands_within p at b h)
 stands_first p at (s ∷ a) b h = (h.0, stands_first p (suc at) a b h.1)
 
-pub stands_second : (program : List Step) (at : ℕ) (a b : List Step) → Stands program at (a ++ b) → Stands program (at + length a) b
+stands_second : (program : List Step) (at : ℕ) (a b : List Step) → Stands program at (a ++ b) → Stands program (at + length a) b
 stands_second p at [] b h = rw add-zero h
 stands_second p at (s ∷ a) b h = stands_at p b (suc at + length a) (at + suc (length a)) (omega arith) (stands_second p (suc at) a b h.1)
 
