@@ -97,9 +97,12 @@ module _ (text : List ℕ) (q : ℕ) (bounds : List ℕ) (least : ℕ) (most : O
   bound_inner : (i : ℕ) → i < length bounds → is_inner (take i bounds) (get_or bounds i 0) ≡ true
   bound_inner i lt = goes_on bounds (take i bounds) (get_or bounds i 0) (drop (i + 1) bounds) least most h.are_bounds (sym (take-append-drop i bounds) ∙ ap (λ (xs : List ℕ). take i bounds ++ xs) (drop_more bounds i 0 lt))
 
-  -- what stands at a place between the quantifier's braces
+  -- what stands at a place between the quantifier's braces: one more character of the bounds, or the end
+  abbrev InnerOrEnd : ℕ → Reading → Type 0
+  InnerOrEnd n r = (is_inner r.braces (get_or text n 0) ≡ true) ⊎ ((n ≡ end) × (get_or text n 0 ≡ 125) × (r.braces ≡ bounds))
+
   abbrev Interior : ℕ → Reading → Type 0
-  Interior n r = (after_atom : Bool) × (r.mode ≡ Braces after_atom) × ((is_inner r.braces (get_or text n 0) ≡ true) ⊎ ((n ≡ end) × (get_or text n 0 ≡ 125) × (r.braces ≡ bounds)))
+  Interior n r = (after_atom : Bool) × (r.mode ≡ Braces after_atom) × InnerOrEnd n r
 
   interior_at : (i : ℕ) (r : Reading) → i ≤ length bounds → reads (take (q + (i + 1)) text) start ≡ Some r → Interior (q + (i + 1)) r
   interior_at i r le e =
@@ -110,7 +113,7 @@ module _ (text : List ℕ) (q : ℕ) (bounds : List ℕ) (least : ℕ) (most : O
       let braces : r.braces ≡ take i bounds = subst (λ (y : Reading). y.braces ≡ take i bounds) same s.4 in
       (s.1, mode, by_place braces (lt_or_same i (length bounds) le))
     where
-      by_place : r.braces ≡ take i bounds → (i < length bounds) ⊎ (i ≡ length bounds) → (is_inner r.braces (get_or text (q + (i + 1)) 0) ≡ true) ⊎ ((q + (i + 1) ≡ end) × (get_or text (q + (i + 1)) 0 ≡ 125) × (r.braces ≡ bounds))
+      by_place : r.braces ≡ take i bounds → (i < length bounds) ⊎ (i ≡ length bounds) → InnerOrEnd (q + (i + 1)) r
       by_place b (inl lt) = inl (subst (λ (xs : List ℕ). is_inner xs (get_or text (q + (i + 1)) 0) ≡ true) (sym b) (subst (λ (c : ℕ). is_inner (take i bounds) c ≡ true) (sym (bound_char i lt)) (bound_inner i lt)))
       by_place b (inr same) =
           let at_end : q + (i + 1) ≡ end = omega (arith, same) in
@@ -143,7 +146,7 @@ module _ (text : List ℕ) (n : ℕ) (r : Reading) (within : n ≤ length text) 
       by_place s.0 s.1 i.0 i.1 i.2
     where
       by_place : (s : Reading) → reads (take (q + (length bounds + 1)) text) start ≡ Some s → (after_atom : Bool) → s.mode ≡ Braces after_atom
-          → (is_inner s.braces (get_or text (q + (length bounds + 1)) 0) ≡ true) ⊎ ((q + (length bounds + 1) ≡ q + (length bounds + 1)) × (get_or text (q + (length bounds + 1)) 0 ≡ 125) × (s.braces ≡ bounds)) → ⊥
+          → InnerOrEnd text q bounds least most h (q + (length bounds + 1)) s → ⊥
       by_place s is after_atom m (inl inner) = inner_apart s.braces (get_or text (q + (length bounds + 1)) 0) 125 inner (end_char text q bounds least most h) (inr (inr refl))
       by_place s is after_atom m (inr (same, c, b)) =
           let all : bounds_of s.braces ≡ Some (least, most) = ap bounds_of b ∙ bounds_complete bounds least most h.are_bounds in
@@ -186,7 +189,7 @@ no_span text n c r e head which apart q bounds least most lt le large = by_inter
     at : get_or text n 0 ≡ c
     at = head_of text head.0 n c head.1
 
-    by_interior : (is_inner r.braces (get_or text n 0) ≡ true) ⊎ ((n ≡ q + (length bounds + 1)) × (get_or text n 0 ≡ 125) × (r.braces ≡ bounds)) → ⊥
+    by_interior : InnerOrEnd text q bounds least most large.0 n r → ⊥
     by_interior (inl inner) = inner_apart r.braces (get_or text n 0) c inner at which
     by_interior (inr (same, at_end, b)) = apart (sym at ∙ at_end)
 
@@ -232,7 +235,7 @@ module _ (text : List ℕ) (n : ℕ) (r : Reading) (c : Comes text n r) (lt : n 
           let s = begins_reads (take (n + 1) text) (subst (λ (k : ℕ). BeginsPattern (take k text)) next begins) in
           no_some s.0 (sym stop ∙ reads_step text n r s.0 lt c.so_far s.1)
 
-      by_interior : (after_atom : Bool) → r.mode ≡ Braces after_atom → (is_inner r.braces (get_or text n 0) ≡ true) ⊎ ((n ≡ q + (length bounds + 1)) × (get_or text n 0 ≡ 125) × (r.braces ≡ bounds)) → IsLarge text q bounds least most → ⊥
+      by_interior : (after_atom : Bool) → r.mode ≡ Braces after_atom → InnerOrEnd text q bounds least most h n r → IsLarge text q bounds least most → ⊥
       by_interior after_atom m (inl inner) large = no_some _ (sym stop ∙ inner_step after_atom (get_or text n 0) r m inner)
       by_interior after_atom m (inr (same, at, b)) large = by_large after_atom m same at b large
 
@@ -318,10 +321,10 @@ module _ (text : List ℕ) (n : ℕ) (r : Reading) (c : Comes text n r) (lt : n 
   overcount : IsOvercount (get_or text n 0) r
   overcount = overcounts_in_braces r.mode (get_or text n 0) r refl over
 
-  abbrev Placed : Type 0
-  Placed = (q : ℕ) × (q + (length r.braces + 1) ≡ n) × IsQuantifierAt text q r.braces overcount.0 overcount.1 × (byte_place text q + (length r.braces + 1) ≡ byte_place text n)
+  abbrev BracesPlaced : Type 0
+  BracesPlaced = (q : ℕ) × (q + (length r.braces + 1) ≡ n) × IsQuantifierAt text q r.braces overcount.0 overcount.1 × (byte_place text q + (length r.braces + 1) ≡ byte_place text n)
 
-  placed : Placed
+  placed : BracesPlaced
   placed = let o = overcount.2 in quantifier_placed text n r o.after_atom overcount.0 overcount.1 lt c.so_far o.mode o.at_end o.bounds
 
   pub braces_fit : length r.braces < byte_place text n
@@ -387,7 +390,7 @@ module _ (text : List ℕ) (n : ℕ) (r : Reading) (c : Comes text n r) (lt : n 
   over_spans : (q : ℕ) (bounds : List ℕ) (least : ℕ) (most : Option ℕ) → q < placed.0 → n ≤ q + (length bounds + 1) → IsLargeAt text q bounds least most → ⊥
   over_spans q bounds least most below le (h, large) = by_interior (interior text q bounds least most h n r (omega (arith, below, placed.1)) le c.so_far).2
     where
-      by_interior : (is_inner r.braces (get_or text n 0) ≡ true) ⊎ ((n ≡ q + (length bounds + 1)) × (get_or text n 0 ≡ 125) × (r.braces ≡ bounds)) → ⊥
+      by_interior : InnerOrEnd text q bounds least most h n r → ⊥
       by_interior (inl inner) = inner_apart r.braces (get_or text n 0) 125 inner overcount.2.at_end (inr (inr refl))
       by_interior (inr (same, at, b)) = absurd (omega (arith, same, below, placed.1, ap length b))
 

@@ -357,26 +357,19 @@ deep_reads text q r le (depth, place, deep, form) e =
 left_within : (text : List ℕ) (q : ℕ) → 0 < length (drop q text) → q < length text
 left_within text q some_left = omega (arith, some_left, length-drop q text)
 
-form_left : (rest : List ℕ) → (begins_unsupported_escape rest || begins_named_group rest) ≡ true → 0 < length rest
-form_left [] h = absurd (false≢true h)
-form_left (c ∷ rest) h = omega arith
-
-escape_left : (rest : List ℕ) → begins_unsupported_escape rest ≡ true → 0 < length rest
-escape_left [] h = absurd (false≢true h)
-escape_left (c ∷ rest) h = omega arith
-
-group_left : (rest : List ℕ) → begins_group rest ≡ true → 0 < length rest
-group_left [] h = absurd (false≢true h)
-group_left (c ∷ rest) h = omega arith
+-- what passes a test that the empty text fails has a character
+test_left : (p : List ℕ → Bool) (rest : List ℕ) → p [] ≡ false → p rest ≡ true → 0 < length rest
+test_left p [] n h = absurd (false≢true (sym n ∙ h))
+test_left p (c ∷ rest) n h = omega arith
 
 -- a form begins with a character
 pub forms_within : (text : List ℕ) (q : ℕ) → IsUnsupportedAt text q → q < length text
-forms_within text q (inl (depth, place, form)) = left_within text q (form_left (drop q text) form)
-forms_within text q (inr (depth, place, form)) = left_within text q (escape_left (drop q text) form)
+forms_within text q (inl (depth, place, form)) = left_within text q (test_left (λ (xs : List ℕ). begins_unsupported_escape xs || begins_named_group xs) (drop q text) refl form)
+forms_within text q (inr (depth, place, form)) = left_within text q (test_left begins_unsupported_escape (drop q text) refl form)
 
 -- the same of a group too deep, and of a quantifier in braces
 pub deep_within : (text : List ℕ) (q : ℕ) → IsTooDeepAt text q → q < length text
-deep_within text q (depth, place, deep, form) = left_within text q (group_left (drop q text) form)
+deep_within text q (depth, place, deep, form) = left_within text q (test_left begins_group (drop q text) refl form)
 
 pub quantifier_within : (text : List ℕ) (q : ℕ) (bounds : List ℕ) (least : ℕ) (most : Option ℕ) → IsQuantifierAt text q bounds least most → q < length text
 quantifier_within text q bounds least most h =
