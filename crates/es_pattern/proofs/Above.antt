@@ -1,8 +1,7 @@
 -- The products of what was read are at most that of the whole pattern.
-use Rattle.std.proofs.Common.{◌≡◌, ℕ, ◌*◌, ◌<◌, ◌≤◌, List, [], ◌∷◌, Option, ap, arith}
+use Rattle.std.proofs.Common.{ℕ, ◌<◌, ◌≤◌, List, [], ◌∷◌, Option, ap, arith}
 use Rattle.std.proofs.Math.Nat.{le-mul_of_pos_right}
-use Rattle.std.specs.Prelude.{max, unwrap_or}
-use Rattle.es_pattern.specs.Tree.{Tree, repetition, sequence, lookahead}
+use Rattle.es_pattern.specs.Tree.{Tree}
 use Rattle.es_pattern.specs.Pieces.{top, below}
 use Rattle.es_pattern.specs.Grammar.{Reads, alternatives, ends, bar, followed}
 use Rattle.es_pattern.specs.Limits.{product_of, count_of}

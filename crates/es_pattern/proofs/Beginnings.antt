@@ -1,19 +1,20 @@
 -- The states that the machine comes to are those of the texts that patterns begin with.
-use Rattle.std.proofs.Common.{◌≡◌, ℕ, suc, ◌+◌, ◌<◌, ◌≤◌, List, [], ◌∷◌, ◌++◌, length, get_or, take, drop, Option, Some, None, refl, sym, ap, subst, ◌∙◌, arith}
+use Rattle.std.proofs.Common.{◌≡◌, ℕ, ◌+◌, ◌<◌, ◌≤◌, List, [], ◌∷◌, ◌++◌, length, get_or, take, Option, Some, None, refl, sym, ap, subst, ◌∙◌, arith}
 use Rattle.std.specs.Prelude.{option_and_then}
-use Rattle.std.proofs.lemmas.List.{append-nil, take_more, take_all, take-take, take-append-drop}
+use Rattle.std.proofs.lemmas.List.{append-nil, take_all}
 use Rattle.std.proofs.lemmas.Option.{same_Some}
 use Rattle.es_pattern.specs.Tree.{Tree, nothing}
 use Rattle.es_pattern.specs.Grammar.{never, alternatives, Reads, IsPattern}
 use Rattle.es_pattern.specs.Reading.{Reading, step, reads, start, finished, accepted}
 use Rattle.es_pattern.specs.Faults.{BeginsPattern, IsSyntaxAt}
-use Rattle.es_pattern.proofs.Parsings.{reads-append}
-use Rattle.es_pattern.proofs.Sound.{Completes, step_completes, no_reading, no_tree}
+use Rattle.es_pattern.proofs.Parsings.{reads_part, reads_step}
+use Rattle.es_pattern.proofs.Sound.{Completes, step_completes, Taken}
 use Rattle.es_pattern.proofs.Sane.{IsSane}
 use Rattle.es_pattern.proofs.Viable.{viable}
 use Rattle.es_pattern.proofs.Taking.{taking}
 use Rattle.es_pattern.proofs.TakingEnds.{taking_end}
 use Rattle.es_pattern.proofs.Kept.{sane_next, sane_reads}
+use Rattle.es_pattern.proofs.Tests.{no_some}
 
 -- what completes the state that a text leads to completes the state before it, with the text in front
 pub completes_before : (xs : List ℕ) (r s : Reading) (w : List ℕ) (t : Tree) → reads xs r ≡ Some s → Completes s w t → Completes r (xs ++ w) t
@@ -21,11 +22,11 @@ completes_before [] r s w t e h = subst (λ (y : Reading). Completes y w t) (sym
 completes_before (c ∷ xs) r s w t e h = by_step (step c r) refl (λ next g. completes_before xs next s w t g h) e
   where
     by_step : (o : Option Reading) → step c r ≡ o → ((next : Reading) → reads xs next ≡ Some s → Completes next (xs ++ w) t) → option_and_then (reads xs) o ≡ Some s → Completes r (c ∷ (xs ++ w)) t
-    by_step None is again g = no_reading s g
+    by_step None is again g = no_some s g
     by_step (Some next) is again g = step_completes r.mode c r next (xs ++ w) t refl is (again next g)
 
 -- and the other way
-pub completes_after : (xs : List ℕ) (r : Reading) (w : List ℕ) (t : Tree) → IsSane r → Completes r (xs ++ w) t → (s : Reading) × (reads xs r ≡ Some s) × Completes s w t
+completes_after : (xs : List ℕ) (r : Reading) (w : List ℕ) (t : Tree) → IsSane r → Completes r (xs ++ w) t → Taken (reads xs r) w t
 completes_after [] r w t sane h = (r, refl, h)
 completes_after (c ∷ xs) r w t sane h =
     let next = taking c r (xs ++ w) t sane h in
@@ -43,7 +44,7 @@ sane_start : IsSane start
 sane_start = tt
 
 -- a pattern that begins with the text leads to a state, which its rest completes
-pub pattern_reads : (xs w : List ℕ) (t : Tree) → IsPattern (xs ++ w) t → (s : Reading) × (reads xs start ≡ Some s) × Completes s w t
+pub pattern_reads : (xs w : List ℕ) (t : Tree) → IsPattern (xs ++ w) t → Taken (reads xs start) w t
 pattern_reads xs w t h = completes_after xs start w t sane_start (pattern_completes (xs ++ w) t h)
 
 pub begins_reads : (xs : List ℕ) → BeginsPattern xs → (s : Reading) × (reads xs start ≡ Some s)
@@ -60,45 +61,12 @@ pattern_accepted text t h =
     let s = pattern_reads text [] t (subst (λ (xs : List ℕ). IsPattern xs t) (sym (append-nil text)) h) in
     ap (option_and_then finished) s.1 ∙ taking_end s.0.mode s.0 t refl (sane_reads text s.0 s.1) s.2
 
--- what is read in two parts
-part_reads : (xs ys : List ℕ) (r s : Reading) → reads (xs ++ ys) r ≡ Some s → (m : Reading) × (reads xs r ≡ Some m) × (reads ys m ≡ Some s)
-part_reads xs ys r s e = by_part (reads xs r) refl (sym (reads-append xs ys r) ∙ e)
-  where
-    by_part : (o : Option Reading) → reads xs r ≡ o → option_and_then (reads ys) o ≡ Some s → (m : Reading) × (reads xs r ≡ Some m) × (reads ys m ≡ Some s)
-    by_part None is g = no_reading s g
-    by_part (Some m) is g = (m, is, g)
-
--- a part of what is read is read
-pub reads_part : (text : List ℕ) (q n : ℕ) (r : Reading) → q ≤ n → reads (take n text) start ≡ Some r → (s : Reading) × (reads (take q text) start ≡ Some s)
-reads_part text q n r le e =
-    let split : take q text ++ drop q (take n text) ≡ take n text = ap (λ (xs : List ℕ). xs ++ drop q (take n text)) (sym (take-take q n text le)) ∙ take-append-drop q (take n text) in
-    let p = part_reads (take q text) (drop q (take n text)) start r (ap (λ (xs : List ℕ). reads xs start) split ∙ e) in
-    (p.0, p.1)
-
-reads_one : (c : ℕ) (r s : Reading) → reads (c ∷ []) r ≡ Some s → step c r ≡ Some s
-reads_one c r s e = by_step (step c r) refl e
-  where
-    by_step : (o : Option Reading) → step c r ≡ o → option_and_then (reads []) o ≡ Some s → step c r ≡ Some s
-    by_step None is g = no_reading s g
-    by_step (Some m) is g = is ∙ g
-
--- one character more
-pub reads_step : (text : List ℕ) (n : ℕ) (r s : Reading) → n < length text → reads (take n text) start ≡ Some r → reads (take (n + 1) text) start ≡ Some s → step (get_or text n 0) r ≡ Some s
-reads_step text n r s lt e g =
-    let p = part_reads (take n text) (get_or text n 0 ∷ []) start s (ap (λ (xs : List ℕ). reads xs start) (sym (take_more text n 0 lt)) ∙ g) in
-    let same : p.0 ≡ r = same_Some p.0 r (sym p.1 ∙ e) in
-    subst (λ (y : Reading). step (get_or text n 0) y ≡ Some s) same (reads_one (get_or text n 0) p.0 s p.2)
-
--- no state, no pattern that begins so
-pub no_beginning : (xs : List ℕ) → reads xs start ≡ None → BeginsPattern xs → ⊥
-no_beginning xs e h = let s = begins_reads xs h in no_reading s.0 (sym e ∙ s.1)
-
 -- where the next character, or the text's end, leads to nothing
 pub syntax_stops : (text : List ℕ) (n : ℕ) (r : Reading) → n < length text → reads (take n text) start ≡ Some r → step (get_or text n 0) r ≡ None → IsSyntaxAt text n
 syntax_stops text n r lt e stop = record {
   within = omega (arith, lt);
   begins = reads_begins (take n text) r e;
-  stops = λ here h. let s = begins_reads (take (n + 1) text) h in no_reading s.0 (sym stop ∙ reads_step text n r s.0 lt e s.1);
+  stops = λ here h. let s = begins_reads (take (n + 1) text) h in no_some s.0 (sym stop ∙ reads_step text n r s.0 lt e s.1);
   ends = λ at_end. absurd (omega (arith, lt, at_end));
 }
 
@@ -109,7 +77,7 @@ syntax_ends text r e stop =
       within = omega arith;
       begins = subst (λ (xs : List ℕ). BeginsPattern xs) (sym whole) (reads_begins text r e);
       stops = λ lt. absurd (omega (arith, lt));
-      ends = λ at_end tree h. no_tree tree (sym (ap (option_and_then finished) e ∙ stop) ∙ pattern_accepted text tree h);
+      ends = λ at_end tree h. no_some tree (sym (ap (option_and_then finished) e ∙ stop) ∙ pattern_accepted text tree h);
     }
 
 -- what is read so far has no syntax fault

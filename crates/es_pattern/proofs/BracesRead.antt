@@ -1,18 +1,18 @@
 -- Which texts of braces are bounds.
-use Rattle.std.proofs.Common.{◌≡◌, ℕ, ◌+◌, ◌-◌, ◌*◌, ◌<◌, ◌≤◌, Bool, true, false, cond, List, [], ◌∷◌, ◌++◌, inl, inr, length, get_or, take, drop, Option, Some, None, refl, sym, ap, subst, ◌∙◌, arith}
+use Rattle.std.proofs.Common.{◌≡◌, ℕ, ◌+◌, ◌-◌, ◌*◌, ◌<◌, Bool, true, false, cond, List, [], ◌∷◌, ◌++◌, inl, inr, length, get_or, take, drop, Option, Some, None, refl, sym, ap, subst, ◌∙◌, arith}
 use Rattle.std.specs.Prelude.{◌==◌, ◌⊎◌, nat_lt, nat_le, position, option_map}
 use Rattle.std.specs.List.{position_or_len, list_any}
 use Rattle.std.proofs.lemmas.List.{take_at, drop_at, length-append, take-append-drop, drop_more, append_assoc, append-nil}
 use Rattle.std.proofs.lemmas.List.Quantifiers.{position-Some}
-use Rattle.std.proofs.lemmas.Option.{some_pair_parts}
-use Rattle.std.proofs.lemmas.Bool.{false≢true}
+use Rattle.std.proofs.lemmas.Option.{some_pair_parts, none-some}
+use Rattle.std.proofs.lemmas.Bool.{false≢true, le-leb}
 use Rattle.std.proofs.lemmas.Bool.Decides.{nat_tests}
 use Rattle.es_pattern.specs.Escapes.{is_digit}
 use Rattle.es_pattern.specs.Grammar.{number, number_from, Bounds, exactly, at_least, between, BeginsBraces}
 use Rattle.es_pattern.specs.Reading.{bounds_of, bounds_by, second_bounds, pair_bounds, is_inner, may_be_comma}
-use Rattle.es_pattern.proofs.Digits.{digit_only}
+use Rattle.es_pattern.proofs.Digits.{digit_only, digit_within}
 
-abbrev pub AllDigits : List ℕ → Type 0
+abbrev AllDigits : List ℕ → Type 0
 AllDigits [] = Unit {0}
 AllDigits (c ∷ cs) = (is_digit c ≡ true) × AllDigits cs
 
@@ -41,8 +41,10 @@ number_digits (c ∷ ds) n h = (digits_from 0 (c ∷ ds) n h, omega arith)
 digit_no_comma : (c : ℕ) → is_digit c ≡ true → c == 44 ≡ false
 digit_no_comma c h = grind (arith, nat_tests)
 
-digit_no_end : (c : ℕ) → is_digit c ≡ true → c ≡ 125 → ⊥
-digit_no_end c h e = grind (arith, nat_tests)
+-- a digit or a comma is no `}`
+pub inner_no_end : (y : ℕ) → (is_digit y ≡ true) ⊎ (y ≡ 44) → y ≡ 125 → ⊥
+inner_no_end y (inl d) e = omega (arith, digit_within y d, e)
+inner_no_end y (inr d) e = omega (arith, d, e)
 
 -- the first comma
 comma_after : (ds es : List ℕ) → AllDigits ds → position_or_len (λ c. c == 44) (ds ++ 44 ∷ es) ≡ length ds
@@ -72,9 +74,6 @@ seconds ds es h =
     ∙ ap (λ (xs : List ℕ). second_bounds (number ds) (drop (length ds + 1) xs)) (sym (append_assoc ds (44 ∷ []) es))
     ∙ ap (second_bounds (number ds)) (drop_at (ds ++ 44 ∷ []) es (length ds + 1) (omega (arith, length-append ds (44 ∷ []))))
 
-le_holds : (n m : ℕ) → n ≤ m → nat_le n m ≡ true
-le_holds n m h = grind (arith, nat_tests)
-
 abbrev exact : ℕ → ℕ × Option ℕ
 exact k = (k, Some k)
 
@@ -90,7 +89,7 @@ bounds_complete b n m (exactly ds e) = ap (λ (o : Option ℕ). bounds_by o ds) 
 bounds_complete b n m (at_least ds e) = seconds ds [] (number_digits ds n e).0 ∙ ap (option_map unbounded) e
 bounds_complete b n m (between ds [] e f le) = cc f
 bounds_complete b n m (between ds (c ∷ es) {m = k} e f le) =
-    seconds ds (c ∷ es) (number_digits ds n e).0 ∙ ap (λ (o : Option ℕ). pair_bounds o (number (c ∷ es))) e ∙ ap (pair_bounds (Some n)) f ∙ ap (λ (b : Bool). cond b (Some (n, Some k)) None) (le_holds n k le)
+    seconds ds (c ∷ es) (number_digits ds n e).0 ∙ ap (λ (o : Option ℕ). pair_bounds o (number (c ∷ es))) e ∙ ap (pair_bounds (Some n)) f ∙ ap (λ (b : Bool). cond b (Some (n, Some k)) None) (le-leb n k le)
 
 pub bounds_inner : (b : List ℕ) (n : ℕ) (m : Option ℕ) → Bounds b n m → AllInner b
 bounds_inner b n m (exactly ds e) = digits_inner ds (number_digits ds n e).0
@@ -140,11 +139,7 @@ bounds_sound text n m h = by_place (position (λ c. c == 44) text) refl h
 compared : (bs b : List ℕ) (c : ℕ) (w rest : List ℕ) → AllInner bs → bs ++ c ∷ w ≡ b ++ 125 ∷ rest → ((b ≡ bs) × (c ≡ 125)) ⊎ ((more : List ℕ) × (b ≡ bs ++ c ∷ more))
 compared [] [] c w rest h e = inl (refl, cc)
 compared [] (x ∷ b) c w rest h e = inr (b, let same : x ≡ c = cc in ap (λ (y : ℕ). y ∷ b) same)
-compared (y ∷ bs) [] c w rest h e = absurd (no_end y h.0 (cc))
-  where
-    no_end : (y : ℕ) → (is_digit y ≡ true) ⊎ (y ≡ 44) → y ≡ 125 → ⊥
-    no_end y (inl d) e = digit_no_end y d e
-    no_end y (inr d) e = absurd (omega (arith, d, e))
+compared (y ∷ bs) [] c w rest h e = absurd (inner_no_end y h.0 (cc))
 compared (y ∷ bs) (x ∷ b) c w rest h e = by_cases (compared bs b c w rest h.1 cc)
   where
     heads : x ≡ y
@@ -200,21 +195,14 @@ pub breaks : (bs : List ℕ) (c : ℕ) (w : List ℕ) → AllInner bs → is_inn
 breaks bs c w h out none (b, rest, n, m, bounds, e) = by_cases (compared bs b c w rest h cc)
   where
     by_cases : ((b ≡ bs) × (c ≡ 125)) ⊎ ((more : List ℕ) × (b ≡ bs ++ c ∷ more)) → ⊥
-    by_cases (inl s) = no_both (none s.1) (bounds_complete bs n m (subst (λ (x : List ℕ). Bounds x n m) s.0 bounds))
-      where
-        no_both : bounds_of bs ≡ None → bounds_of bs ≡ Some (n, m) → ⊥
-        no_both x y = cc
+    by_cases (inl s) = none-some (n, m) (sym (none s.1) ∙ bounds_complete bs n m (subst (λ (x : List ℕ). Bounds x n m) s.0 bounds))
     by_cases (inr s) = false≢true (sym out ∙ goes_on b bs c s.0 n m bounds s.1)
 
 -- the same where the text ends
 ends_short : (bs b rest : List ℕ) → AllInner bs → bs ≡ b ++ 125 ∷ rest → ⊥
 ends_short [] [] rest h e = cc
 ends_short [] (x ∷ b) rest h e = cc
-ends_short (y ∷ bs) [] rest h e = no_end y h.0 cc
-  where
-    no_end : (y : ℕ) → (is_digit y ≡ true) ⊎ (y ≡ 44) → y ≡ 125 → ⊥
-    no_end y (inl d) e = digit_no_end y d e
-    no_end y (inr d) e = absurd (omega (arith, d, e))
+ends_short (y ∷ bs) [] rest h e = inner_no_end y h.0 cc
 ends_short (y ∷ bs) (x ∷ b) rest h e = ends_short bs b rest h.1 cc
 
 pub breaks_at_end : (bs : List ℕ) → AllInner bs → BeginsBraces (123 ∷ (bs ++ [])) → ⊥

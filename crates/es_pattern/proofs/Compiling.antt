@@ -16,9 +16,14 @@ use Rattle.es_pattern.specs.Program.{Stands, Runs, Walks, copies, maybe_steps, f
 use Rattle.es_pattern.specs.Passing.{PassesPiece, IsSingle, Tells}
 use Rattle.es_pattern.specs.Reaching.{IsPassBelow, PassesBelow, Reaches}
 use Rattle.es_pattern.proofs.Walking.{walks_nothing, walks_piece, walks_sequence, walks_choice, walks_repetition, walks_same}
-use Rattle.es_pattern.proofs.Runnings.{lt_or_same}
 use Rattle.es_pattern.proofs.Passings.{tree_at_is, with_more}
 use Rattle.es_pattern.specs.Compiled.{stack_of, top_code, code_below, with_code, AllWalk, Compiled, Tabulates}
+use Rattle.es_pattern.proofs.Tests.{lt_or_same}
+
+-- an element behind those in front of it
+slice_get_end : {X : Type 0} (front : List X) (x : X) (rest : List X) → slice_get (front ++ x ∷ rest) (length front) ≡ Some x
+slice_get_end [] x rest = refl
+slice_get_end (y ∷ front) x rest = slice_get_end front x rest
 
 stack_push : (programs : List (Vec Step)) (p : Vec Step) → stack_of (programs ++ p ∷ []) ≡ p.items ∷ stack_of programs
 stack_push programs p = ap reverse (map-append (λ (q : Vec Step). q.items) programs (p ∷ [])) ∙ reverse-append (map (λ (q : Vec Step). q.items) programs) (p.items ∷ [])
@@ -37,17 +42,13 @@ module _ (passes : ℕ → ℕ → ℕ → Type 0) (program : List Step) (R : �
   stands_beyond : (front rest : List Step) → Stands (front ++ rest) (length front) rest
   stands_beyond front [] = omega (arith, ap length (append-nil front))
   stands_beyond front (s ∷ rest) = (
-    slice_get_at front s rest,
+    slice_get_end front s rest,
     subst (λ (p : List Step). Stands p (suc (length front)) rest) (append_assoc front (s ∷ []) rest)
         (subst (λ (k : ℕ). Stands ((front ++ s ∷ []) ++ rest) k rest) (length_one_more front s) (stands_beyond (front ++ s ∷ []) rest)),
   )
     where
       length_one_more : (front : List Step) (s : Step) → length (front ++ s ∷ []) ≡ suc (length front)
       length_one_more front s = omega (arith, length-append front (s ∷ []))
-
-      slice_get_at : (front : List Step) (s : Step) (rest : List Step) → slice_get (front ++ s ∷ rest) (length front) ≡ Some s
-      slice_get_at [] s rest = refl
-      slice_get_at (t ∷ front) s rest = slice_get_at front s rest
 
   stands_whole : Stands program 0 program
   stands_whole = stands_beyond [] program
@@ -106,7 +107,7 @@ passes-further None a count h = (tt, passes-append a (Back (length a + 1) ∷ []
 passes-further (Some more) a count h = passes-copies more (maybe_steps a) count (tt, h)
 
 -- the programs with a piece more
-pub walks_with : (pieces : List Piece) (text : List ℕ) (count : ℕ) (p : Piece) (cs : List (List Step)) → slice_get pieces count ≡ Some p → AllWalk pieces text count cs (with_pieces (take count pieces) [])
+walks_with : (pieces : List Piece) (text : List ℕ) (count : ℕ) (p : Piece) (cs : List (List Step)) → slice_get pieces count ≡ Some p → AllWalk pieces text count cs (with_pieces (take count pieces) [])
     → AllWalk pieces text (count + 1) (with_code p count cs) (with_pieces (take (count + 1) pieces) [])
 walks_with pieces text count p cs stands a =
     subst (λ (us : List Tree). AllWalk pieces text (count + 1) (with_code p count cs) us) (sym (rw add-one (with_more pieces count p [] stands))) (by_piece p stands)
@@ -170,14 +171,7 @@ slice_get-append [] ys k b h = cc
 slice_get-append (x ∷ xs) ys zero b h = h
 slice_get-append (x ∷ xs) ys (suc k) b h = slice_get-append xs ys k b h
 
-slice_get_end : (xs : List Bool) (b : Bool) → slice_get (xs ++ b ∷ []) (length xs) ≡ Some b
-slice_get_end [] b = refl
-slice_get_end (x ∷ xs) b = slice_get_end xs b
-
 module _ (passes : ℕ → ℕ → ℕ → Type 0) (program : List Step) (negated : Bool) where
-  pub tabulating_start : Tabulating passes program negated 0 []
-  tabulating_start = record { counted = refl; told = λ k lt. absurd (omega (arith, lt)) }
-
   pub tabulating_more : (count : ℕ) (table : List Bool) (found : Bool) → Tabulating passes program negated count table → (IsTrue found ↔ Reaches passes program count count) → Tabulating passes program negated (count + 1) (table ++ differs negated found ∷ [])
   tabulating_more count table found t h = record {
     counted = omega (arith, length-append table (differs negated found ∷ []), t.counted);
@@ -186,10 +180,7 @@ module _ (passes : ℕ → ℕ → ℕ → Type 0) (program : List Step) (negate
     where
       by_order : (k : ℕ) → (k < count) ⊎ (k ≡ count) → (f : Bool) × (slice_get (table ++ differs negated found ∷ []) k ≡ Some (differs negated f)) × (IsTrue f ↔ Reaches passes program k k)
       by_order k (inl lt) = let old = t.told k lt in (old.0, slice_get-append table (differs negated found ∷ []) k (differs negated old.0) old.1, old.2)
-      by_order k (inr e) = (found, subst (λ (x : ℕ). slice_get (table ++ differs negated found ∷ []) x ≡ Some (differs negated found)) (t.counted ∙ sym e) (slice_get_end table (differs negated found)), subst (λ (x : ℕ). IsTrue found ↔ Reaches passes program x x) (sym e) h)
-
-  pub tabulates : (size : ℕ) (table : List Bool) → Tabulating passes program negated (size + 1) table → Tabulates passes program negated size table
-  tabulates size table t = record { at = λ k le. t.told k (omega (arith, le)) }
+      by_order k (inr e) = (found, subst (λ (x : ℕ). slice_get (table ++ differs negated found ∷ []) x ≡ Some (differs negated found)) (t.counted ∙ sym e) (slice_get_end table (differs negated found) []), subst (λ (x : ℕ). IsTrue found ↔ Reaches passes program x x) (sym e) h)
 
 -- a lookahead's table
 pub tells_from : (pieces : List Piece) (text : List ℕ) (count : ℕ) (programs : List (List Step)) (tables : List (Vec Bool)) (negated : Bool) (table : List Bool) → Compiled pieces text count programs tables → slice_get pieces count ≡ Some (Lookahead negated)
@@ -247,7 +238,7 @@ compiled_more pieces text count programs tables piece table rest program c stand
         subst (λ (n : ℕ). Tells pieces text n other.items) (sym same) (subst (λ (v : Vec Bool). Tells pieces text count v.items) g.1 (told negated (subst (λ (n : ℕ). slice_get pieces n ≡ Some (Lookahead negated)) same at_piece)))
 
 -- all pieces
-pub found_from : (pieces : List Piece) (text : List ℕ) (programs : List (List Step)) (tables : List (Vec Bool)) (program : List Step) → Compiled pieces text (length pieces) programs tables → program ≡ top_code programs → (found : Bool)
+found_from : (pieces : List Piece) (text : List ℕ) (programs : List (List Step)) (tables : List (Vec Bool)) (program : List Step) → Compiled pieces text (length pieces) programs tables → program ≡ top_code programs → (found : Bool)
     → (IsTrue found ↔ Reaches (PassesPiece pieces text) program 0 (length text)) → IsTrue found ↔ IsFound (tree_of pieces) text
 found_from pieces text programs tables program c e found h = (λ yes_. to (h.0 yes_), λ f. h.1 (from f))
   where
@@ -263,10 +254,6 @@ found_from pieces text programs tables program c e found h = (λ yes_. to (h.0 y
 
     from : IsFound (tree_of pieces) text → Reaches (PassesPiece pieces text) program 0 (length text)
     from f = let r = ends_from (PassesPiece pieces text) program (Spans (tree_of pieces) text) walks f.0 f.1 f.3 in (f.0, r.0, omega arith, f.2, r.1)
-
-pub part_passes : (pieces : List Piece) (text : List ℕ) (count : ℕ) (programs : List (List Step)) (tables : List (Vec Bool)) (part : List Step) → Compiled pieces text count programs tables → part ≡ top_code programs → PassesBelow part (length tables)
-part_passes pieces text count programs tables part c e =
-    subst (λ (p : List Step). PassesBelow p (length tables)) (sym e) (subst (λ (k : ℕ). PassesBelow (top_code programs) k) (sym c.counted) (passes_top pieces text count programs (with_pieces (take count pieces) []) c.walk))
 
 pub found_if : {E : Type 0} (r : Result Bool E) (pieces : List Piece) (cs lent text : List ℕ) (programs : List (List Step)) (tables : List (Vec Bool)) (program taken : List Step) (count last : ℕ)
     → Compiled pieces cs count programs tables → count ≡ length pieces → program ≡ top_code programs → taken ≡ program → lent ≡ cs → last ≡ length cs → cs ≡ text

@@ -1,51 +1,39 @@
 -- What the machine stops at is the first fault of the text, and where it stops at none there is none.
-use Rattle.std.proofs.Common.{◌≡◌, ℕ, zero, suc, ◌+◌, ◌-◌, ◌*◌, ◌<◌, ◌≤◌, Bool, true, false, cond, List, [], ◌∷◌, ◌++◌, inl, inr, length, get_or, take, drop, Option, Some, None, refl, sym, ap, subst, ◌∙◌, arith}
-use Rattle.std.specs.Prelude.{◌==◌, ◌&&◌, ◌||◌, ◌⊎◌, nat_lt, max, option_and_then}
+use Rattle.std.proofs.Common.{◌≡◌, ℕ, suc, ◌+◌, ◌-◌, ◌*◌, ◌<◌, ◌≤◌, Bool, true, false, List, [], ◌∷◌, ◌++◌, inl, inr, length, get_or, take, drop, Option, Some, None, refl, sym, ap, subst, ◌∙◌, arith}
+use Rattle.std.specs.Prelude.{◌==◌, ◌&&◌, ◌||◌, ◌⊎◌, nat_lt, option_and_then}
 use Rattle.std.proofs.Math.Seq.{get_or-append_seam}
-use Rattle.std.proofs.lemmas.List.{get_or-drop, get_or_append_left, length-append, length-drop, take_all, take_at, take-append-drop, drop_more}
+use Rattle.std.proofs.lemmas.List.{get_or-drop, get_or_append_left, length-append, length-drop, take_all, take-append-drop, drop_more}
 use Rattle.std.proofs.lemmas.Option.{same_Some}
-use Rattle.std.proofs.lemmas.Bool.{cases_lt, false≢true}
+use Rattle.std.proofs.lemmas.Bool.{cases_lt, false≢true, eqb-true, and_parts, or_cases, or_left, ltb-true}
 use Rattle.std.proofs.lemmas.Bool.Decides.{nat_tests}
-use Rattle.es_pattern.specs.Tree.{Tree, repetition, sequence}
+use Rattle.es_pattern.specs.Tree.{Tree}
 use Rattle.es_pattern.specs.Pieces.{top, below}
 use Rattle.es_pattern.specs.Escapes.{is_digit}
-use Rattle.es_pattern.specs.Grammar.{Bounds, IsPattern}
+use Rattle.es_pattern.specs.Grammar.{IsPattern}
 use Rattle.es_pattern.specs.Limits.{is_above_limit, count_of, product_of}
 use Rattle.es_pattern.specs.Forms.{begins_unsupported_escape, begins_named_group, begins_group}
-use Rattle.es_pattern.specs.Refusals.{may_escape, may_open, pending, is_unsupported, is_too_deep}
-use Rattle.es_pattern.specs.declared.error.PatternError.{PatternError}
-use Rattle.es_pattern.specs.declared.error.PatternError.TheVariants.{Syntax, Unsupported, CountTooLarge, NoMemory}
+use Rattle.es_pattern.specs.Refusals.{may_escape, may_open, is_unsupported, is_too_deep}
+use Rattle.es_pattern.specs.declared.error.PatternError.TheVariants.{Syntax, Unsupported, CountTooLarge}
 use Rattle.es_pattern.specs.declared.mode.Mode.{Mode}
 use Rattle.es_pattern.specs.declared.mode.Mode.TheVariants.{Braces}
-use Rattle.es_pattern.specs.Reading.{Reading, step, step_in, plain, flushed, in_braces, in_braces_end, marked, quantified, charged, bounds_of, is_inner, overcounts, overcounts_in, overcounts_at, reads, start, finished, accepted}
+use Rattle.es_pattern.specs.Reading.{Reading, step, step_in, in_braces, in_braces_end, quantified, charged, bounds_of, is_inner, overcounts, overcounts_in, overcounts_at, reads, start, finished}
 use Rattle.es_pattern.specs.Parsing.{PassesBefore}
-use Rattle.es_pattern.specs.Faults.{BeginsPattern, IsUnsupportedAt, IsTooDeepAt, IsQuantifierAt, IsCountAt, IsProductAt, IsTooLargeAt, IsSyntaxAt, IsClearBefore, IsFirstFault, IsClear, byte_place}
-use Rattle.es_pattern.proofs.Runnings.{lt_or_same}
-use Rattle.es_pattern.proofs.Parsings.{reads_more}
+use Rattle.es_pattern.specs.Faults.{BeginsPattern, IsUnsupportedAt, IsQuantifierAt, IsTooLargeAt, IsSyntaxAt, IsClearBefore, IsFirstFault, IsClear, byte_place}
+use Rattle.es_pattern.proofs.Parsings.{reads_more, reads_part, reads_step, passes_less}
 use Rattle.es_pattern.proofs.BracesRead.{bounds_complete, goes_on}
-use Rattle.es_pattern.proofs.Sound.{Completes, InTerm, if_else, inner_is, is_char, no_reading, accepted_is_pattern}
-use Rattle.es_pattern.proofs.Sane.{IsMeasured, MeasuredBase, after_atom_in}
+use Rattle.es_pattern.proofs.Sound.{Completes, InTerm, inner_is, accepted_is_pattern}
+use Rattle.es_pattern.proofs.Sane.{MeasuredBase, after_atom_in}
 use Rattle.es_pattern.proofs.Viable.{viable}
 use Rattle.es_pattern.proofs.Above.{term_above}
-use Rattle.es_pattern.proofs.Beginnings.{completes_before, completes_pattern, pattern_reads, begins_reads, reads_begins, reads_part, reads_step, syntax_stops, syntax_ends, no_syntax_before}
+use Rattle.es_pattern.proofs.Beginnings.{completes_before, completes_pattern, pattern_reads, begins_reads, reads_begins, syntax_stops, syntax_ends, no_syntax_before}
 use Rattle.es_pattern.proofs.Kept.{sane_reads, measured_reads}
 use Rattle.es_pattern.proofs.Placing.{unsupported_placed, deep_placed, quantifier_placed}
-use Rattle.es_pattern.proofs.Placed.{unsupported_reads, deep_reads, quantifier_reads, forms_within, deep_within, quantifier_within}
+use Rattle.es_pattern.proofs.Placed.{unsupported_reads, deep_reads, quantifier_reads, forms_within, deep_within, quantifier_within, inner_step}
+use Rattle.es_pattern.proofs.Tests.{lt_or_same, no_some}
 
 -- the heads of the forms that are refused
 head_of : (text rest : List ℕ) (n c : ℕ) → drop n text ≡ c ∷ rest → get_or text n 0 ≡ c
 head_of text rest n c e = let at : get_or (drop n text) 0 0 ≡ get_or text (n + 0) 0 = get_or-drop n text 0 0 in let same : n + 0 ≡ n = omega arith in ap (λ (k : ℕ). get_or text k 0) (sym same) ∙ sym at ∙ ap (λ (xs : List ℕ). get_or xs 0 0) e
-
-first_true : (a b : Bool) → a && b ≡ true → a ≡ true
-first_true true b e = refl
-first_true false b e = e
-
-one_of_two : (a b c d : Bool) → a && b || c && d ≡ true → (b ≡ true) ⊎ (d ≡ true)
-one_of_two true true c d e = inl refl
-one_of_two true false true d e = inr e
-one_of_two true false false d e = absurd (false≢true e)
-one_of_two false b true d e = inr e
-one_of_two false b false d e = absurd (false≢true e)
 
 abbrev HeadIs : List ℕ → ℕ → Type 0
 HeadIs text c = (rest : List ℕ) × (text ≡ c ∷ rest)
@@ -53,32 +41,27 @@ HeadIs text c = (rest : List ℕ) × (text ≡ c ∷ rest)
 escape_head : (text : List ℕ) → begins_unsupported_escape text ≡ true → HeadIs text 92
 escape_head [] e = absurd (false≢true e)
 escape_head (a ∷ []) e = absurd (false≢true e)
-escape_head (a ∷ b ∷ rest) e = (b ∷ rest, ap (λ (c : ℕ). c ∷ b ∷ rest) (is_char a 92 (first_true (a == 92) _ e)))
+escape_head (a ∷ b ∷ rest) e = (b ∷ rest, ap (λ (c : ℕ). c ∷ b ∷ rest) (eqb-true a 92 (and_parts (a == 92) _ e).0))
 
 named_head : (text : List ℕ) → begins_named_group text ≡ true → HeadIs text 40
 named_head [] e = absurd (false≢true e)
 named_head (a ∷ []) e = absurd (false≢true e)
 named_head (a ∷ b ∷ []) e = absurd (false≢true e)
-named_head (a ∷ b ∷ c ∷ rest) e = (b ∷ c ∷ rest, ap (λ (d : ℕ). d ∷ b ∷ c ∷ rest) (is_char a 40 (first_true (a == 40) _ (first_true (a == 40 && b == 63) (c == 60) e))))
+named_head (a ∷ b ∷ c ∷ rest) e = (b ∷ c ∷ rest, ap (λ (d : ℕ). d ∷ b ∷ c ∷ rest) (eqb-true a 40 (and_parts (a == 40) _ (and_parts (a == 40 && b == 63) (c == 60) e).0).0))
 
 group_head : (text : List ℕ) → begins_group text ≡ true → HeadIs text 40
 group_head [] e = absurd (false≢true e)
-group_head (a ∷ rest) e = (rest, ap (λ (d : ℕ). d ∷ rest) (is_char a 40 e))
+group_head (a ∷ rest) e = (rest, ap (λ (d : ℕ). d ∷ rest) (eqb-true a 40 e))
 
 unsupported_head : (m : Mode) (text : List ℕ) → is_unsupported m text ≡ true → HeadIs text 92 ⊎ HeadIs text 40
-unsupported_head m text e = by_form (one_of_two (may_escape m) (begins_unsupported_escape text) (may_open m) (begins_named_group text) e)
+unsupported_head m text e = by_form (or_cases (may_escape m && begins_unsupported_escape text) (may_open m && begins_named_group text) e)
   where
-    by_form : (begins_unsupported_escape text ≡ true) ⊎ (begins_named_group text ≡ true) → HeadIs text 92 ⊎ HeadIs text 40
-    by_form (inl h) = inl (escape_head text h)
-    by_form (inr h) = inr (named_head text h)
-
-second_true : (a b c : Bool) → a && b && c ≡ true → b ≡ true
-second_true true true c e = refl
-second_true true false c e = absurd (false≢true e)
-second_true false b c e = absurd (false≢true e)
+    by_form : (may_escape m && begins_unsupported_escape text ≡ true) ⊎ (may_open m && begins_named_group text ≡ true) → HeadIs text 92 ⊎ HeadIs text 40
+    by_form (inl h) = inl (escape_head text (and_parts (may_escape m) (begins_unsupported_escape text) h).1)
+    by_form (inr h) = inr (named_head text (and_parts (may_open m) (begins_named_group text) h).1)
 
 deep_head : (depth : ℕ) (m : Mode) (text : List ℕ) → is_too_deep depth m text ≡ true → HeadIs text 40
-deep_head depth m text e = group_head text (second_true (may_open m) (begins_group text) _ e)
+deep_head depth m text e = group_head text (and_parts (may_open m) (begins_group text) (and_parts (may_open m && begins_group text) _ e).0).1
 
 -- a character of a quantifier's bounds
 inner_apart : (bs : List ℕ) (c k : ℕ) → is_inner bs c ≡ true → c ≡ k → (k ≡ 92) ⊎ ((k ≡ 40) ⊎ (k ≡ 125)) → ⊥
@@ -114,9 +97,12 @@ module _ (text : List ℕ) (q : ℕ) (bounds : List ℕ) (least : ℕ) (most : O
   bound_inner : (i : ℕ) → i < length bounds → is_inner (take i bounds) (get_or bounds i 0) ≡ true
   bound_inner i lt = goes_on bounds (take i bounds) (get_or bounds i 0) (drop (i + 1) bounds) least most h.are_bounds (sym (take-append-drop i bounds) ∙ ap (λ (xs : List ℕ). take i bounds ++ xs) (drop_more bounds i 0 lt))
 
-  -- what stands at a place between the quantifier's braces
+  -- what stands at a place between the quantifier's braces: one more character of the bounds, or the end
+  abbrev InnerOrEnd : ℕ → Reading → Type 0
+  InnerOrEnd n r = (is_inner r.braces (get_or text n 0) ≡ true) ⊎ ((n ≡ end) × (get_or text n 0 ≡ 125) × (r.braces ≡ bounds))
+
   abbrev Interior : ℕ → Reading → Type 0
-  Interior n r = (after_atom : Bool) × (r.mode ≡ Braces after_atom) × ((is_inner r.braces (get_or text n 0) ≡ true) ⊎ ((n ≡ end) × (get_or text n 0 ≡ 125) × (r.braces ≡ bounds)))
+  Interior n r = (after_atom : Bool) × (r.mode ≡ Braces after_atom) × InnerOrEnd n r
 
   interior_at : (i : ℕ) (r : Reading) → i ≤ length bounds → reads (take (q + (i + 1)) text) start ≡ Some r → Interior (q + (i + 1)) r
   interior_at i r le e =
@@ -127,7 +113,7 @@ module _ (text : List ℕ) (q : ℕ) (bounds : List ℕ) (least : ℕ) (most : O
       let braces : r.braces ≡ take i bounds = subst (λ (y : Reading). y.braces ≡ take i bounds) same s.4 in
       (s.1, mode, by_place braces (lt_or_same i (length bounds) le))
     where
-      by_place : r.braces ≡ take i bounds → (i < length bounds) ⊎ (i ≡ length bounds) → (is_inner r.braces (get_or text (q + (i + 1)) 0) ≡ true) ⊎ ((q + (i + 1) ≡ end) × (get_or text (q + (i + 1)) 0 ≡ 125) × (r.braces ≡ bounds))
+      by_place : r.braces ≡ take i bounds → (i < length bounds) ⊎ (i ≡ length bounds) → InnerOrEnd (q + (i + 1)) r
       by_place b (inl lt) = inl (subst (λ (xs : List ℕ). is_inner xs (get_or text (q + (i + 1)) 0) ≡ true) (sym b) (subst (λ (c : ℕ). is_inner (take i bounds) c ≡ true) (sym (bound_char i lt)) (bound_inner i lt)))
       by_place b (inr same) =
           let at_end : q + (i + 1) ≡ end = omega (arith, same) in
@@ -145,14 +131,10 @@ IsLarge text q bounds least most = (is_above_limit least most ≡ true) ⊎ (Beg
 abbrev IsLargeAt : List ℕ → ℕ → List ℕ → ℕ → Option ℕ → Type 0
 IsLargeAt text q bounds least most = IsQuantifierAt text q bounds least most × IsLarge text q bounds least most
 
-or_first : (a b : Bool) → a ≡ true → a || b ≡ true
-or_first true b e = refl
-or_first false b e = absurd (false≢true e)
-
 overcounts_above : (r : Reading) (after_atom : Bool) (c least : ℕ) (most : Option ℕ) → r.mode ≡ Braces after_atom → c ≡ 125 → bounds_of r.braces ≡ Some (least, most) → is_above_limit least most ≡ true → overcounts_at c r ≡ true
 overcounts_above r after_atom c least most m e b h =
     ap (λ (k : Mode). overcounts_in k c r) m ∙ ap (λ (k : ℕ). (k == 125) && overcounts (bounds_of r.braces) after_atom r) e ∙ ap (λ (o : Option (ℕ × Option ℕ)). overcounts o after_atom r) b
-    ∙ or_first (is_above_limit least most) (after_atom && nat_lt 100000 (r.atom_product * count_of least most)) h
+    ∙ or_left (is_above_limit least most) (after_atom && nat_lt 100000 (r.atom_product * count_of least most)) h
 
 -- a quantifier whose end was passed is within the limits
 module _ (text : List ℕ) (n : ℕ) (r : Reading) (within : n ≤ length text) (so_far : reads (take n text) start ≡ Some r) (passes : PassesBefore text n) where
@@ -164,20 +146,17 @@ module _ (text : List ℕ) (n : ℕ) (r : Reading) (within : n ≤ length text) 
       by_place s.0 s.1 i.0 i.1 i.2
     where
       by_place : (s : Reading) → reads (take (q + (length bounds + 1)) text) start ≡ Some s → (after_atom : Bool) → s.mode ≡ Braces after_atom
-          → (is_inner s.braces (get_or text (q + (length bounds + 1)) 0) ≡ true) ⊎ ((q + (length bounds + 1) ≡ q + (length bounds + 1)) × (get_or text (q + (length bounds + 1)) 0 ≡ 125) × (s.braces ≡ bounds)) → ⊥
+          → InnerOrEnd text q bounds least most h (q + (length bounds + 1)) s → ⊥
       by_place s is after_atom m (inl inner) = inner_apart s.braces (get_or text (q + (length bounds + 1)) 0) 125 inner (end_char text q bounds least most h) (inr (inr refl))
       by_place s is after_atom m (inr (same, c, b)) =
           let all : bounds_of s.braces ≡ Some (least, most) = ap bounds_of b ∙ bounds_complete bounds least most h.are_bounds in
           false≢true (sym ((passes.each (q + (length bounds + 1)) lt s is).2) ∙ overcounts_above s after_atom (get_or text (q + (length bounds + 1)) 0) least most m c all above)
 
-  passes_less : (p : ℕ) → p ≤ n → PassesBefore text p
-  passes_less p le = record { each = λ q lt read e. passes.each q (omega (arith, lt, le)) read e }
-
   ended_product : (p : ℕ) → p ≤ n → BeginsPattern (take p text) → ((rest : List ℕ) (tree : Tree) → IsPattern (take p text ++ rest) tree → 100000 < product_of tree) → ⊥
   ended_product p le begins large =
       let s = begins_reads (take p text) begins in
       let v = viable s.0 (sane_reads (take p text) s.0 s.1) in
-      let small = v.3 (measured_reads text p s.0 (omega (arith, le, within)) (passes_less p le) s.1) in
+      let small = v.3 (measured_reads text p s.0 (omega (arith, le, within)) (passes_less text n p passes le) s.1) in
       let over = large v.0 v.1 (completes_pattern (take p text ++ v.0) v.1 (completes_before (take p text) start s.0 v.0 v.1 s.1 v.2)) in
       omega (arith, small, over)
 
@@ -210,7 +189,7 @@ no_span text n c r e head which apart q bounds least most lt le large = by_inter
     at : get_or text n 0 ≡ c
     at = head_of text head.0 n c head.1
 
-    by_interior : (is_inner r.braces (get_or text n 0) ≡ true) ⊎ ((n ≡ q + (length bounds + 1)) × (get_or text n 0 ≡ 125) × (r.braces ≡ bounds)) → ⊥
+    by_interior : InnerOrEnd text q bounds least most large.0 n r → ⊥
     by_interior (inl inner) = inner_apart r.braces (get_or text n 0) c inner at which
     by_interior (inr (same, at_end, b)) = apart (sym at ∙ at_end)
 
@@ -230,18 +209,17 @@ unsupported_first text n r c u =
     (n, refl, clear_before text n r c.within c.so_far c.passes n (omega arith) (no_span_by text n r c.so_far (unsupported_head r.mode (drop n text) u)), unsupported_placed text n r c.within c.so_far u)
 
 pub deep_first : (text : List ℕ) (n : ℕ) (r : Reading) → Comes text n r → is_unsupported r.mode (drop n text) ≡ false → is_too_deep (length r.groups) r.mode (drop n text) ≡ true → IsFirstFault text (CountTooLarge (byte_place text n))
-deep_first text n r c u d =
-    (n, refl, clear_before text n r c.within c.so_far c.passes n (omega arith) (no_span_by text n r c.so_far (inr (deep_head (length r.groups) r.mode (drop n text) d))),
-    (λ h. false≢true (sym u ∙ unsupported_reads text n r c.within h c.so_far)), inl (deep_placed text n r c.within c.so_far d))
+deep_first text n r c u d = (
+  n,
+  refl,
+  clear_before text n r c.within c.so_far c.passes n (omega arith) (no_span_by text n r c.so_far (inr (deep_head (length r.groups) r.mode (drop n text) d))),
+  (λ h. false≢true (sym u ∙ unsupported_reads text n r c.within h c.so_far)),
+  inl (deep_placed text n r c.within c.so_far d),
+)
 
 -- a quantifier doesn't begin where the machine stops
 no_start : (text : List ℕ) (n : ℕ) (r : Reading) (bounds : List ℕ) (least : ℕ) (most : Option ℕ) → n < length text → reads (take n text) start ≡ Some r → step (get_or text n 0) r ≡ None → IsQuantifierAt text n bounds least most → ⊥
-no_start text n r bounds least most lt e stop h = let s = quantifier_reads text n bounds least most r h e 0 (omega arith) in no_reading s.0 (sym stop ∙ reads_step text n r s.0 lt e s.2)
-
-inner_step : (r : Reading) (after_atom : Bool) (c : ℕ) → r.mode ≡ Braces after_atom → is_inner r.braces c ≡ true → step c r ≡ None → ⊥
-inner_step r after_atom c m inner stop =
-    let taken : step c r ≡ Some (record r { braces = r.braces ++ c ∷ [] }) = ap (λ (k : Mode). step_in k c r) m ∙ ap (λ (b : Bool). cond b (Some (record r { braces = r.braces ++ c ∷ [] })) (cond (c == 125) (in_braces_end (bounds_of r.braces) after_atom c r) (plain true false c (flushed after_atom r)))) inner in
-    no_reading (record r { braces = r.braces ++ c ∷ [] }) (sym stop ∙ taken)
+no_start text n r bounds least most lt e stop h = let s = quantifier_reads text n bounds least most r h e 0 (omega arith) in no_some s.0 (sym stop ∙ reads_step text n r s.0 lt e s.2)
 
 -- where no character goes on
 module _ (text : List ℕ) (n : ℕ) (r : Reading) (c : Comes text n r) (lt : n < length text) (stop : step (get_or text n 0) r ≡ None) (small : overcounts_at (get_or text n 0) r ≡ false) where
@@ -255,10 +233,10 @@ module _ (text : List ℕ) (n : ℕ) (r : Reading) (c : Comes text n r) (lt : n 
       by_large after_atom m same at b (inr (begins, over)) =
           let next : q + (length bounds + 2) ≡ n + 1 = omega (arith, same) in
           let s = begins_reads (take (n + 1) text) (subst (λ (k : ℕ). BeginsPattern (take k text)) next begins) in
-          no_reading s.0 (sym stop ∙ reads_step text n r s.0 lt c.so_far s.1)
+          no_some s.0 (sym stop ∙ reads_step text n r s.0 lt c.so_far s.1)
 
-      by_interior : (after_atom : Bool) → r.mode ≡ Braces after_atom → (is_inner r.braces (get_or text n 0) ≡ true) ⊎ ((n ≡ q + (length bounds + 1)) × (get_or text n 0 ≡ 125) × (r.braces ≡ bounds)) → IsLarge text q bounds least most → ⊥
-      by_interior after_atom m (inl inner) large = inner_step r after_atom (get_or text n 0) m inner stop
+      by_interior : (after_atom : Bool) → r.mode ≡ Braces after_atom → InnerOrEnd text q bounds least most h n r → IsLarge text q bounds least most → ⊥
+      by_interior after_atom m (inl inner) large = no_some _ (sym stop ∙ inner_step after_atom (get_or text n 0) r m inner)
       by_interior after_atom m (inr (same, at, b)) large = by_large after_atom m same at b large
 
   pub syntax_first : is_unsupported r.mode (drop n text) ≡ false → is_too_deep (length r.groups) r.mode (drop n text) ≡ false → IsFirstFault text (Syntax (byte_place text n))
@@ -283,9 +261,14 @@ all_read : (text : List ℕ) (r : Reading) → reads (take (length text) text) s
 all_read text r e = ap (λ (xs : List ℕ). reads xs start) (sym (take_all (length text) text (omega arith))) ∙ e
 
 pub end_first : (text : List ℕ) (r : Reading) → Comes text (length text) r → finished r ≡ None → IsFirstFault text (Syntax (byte_place text (length text)))
-end_first text r c stop =
-    (length text, refl, clear_before text (length text) r c.within c.so_far c.passes (length text) (omega arith) (end_spans text), (λ h. absurd (omega (arith, forms_within text (length text) h))),
-    (λ h. absurd (omega (arith, too_large_within text (length text) h))), syntax_ends text r (all_read text r c.so_far) stop)
+end_first text r c stop = (
+  length text,
+  refl,
+  clear_before text (length text) r c.within c.so_far c.passes (length text) (omega arith) (end_spans text),
+  (λ h. absurd (omega (arith, forms_within text (length text) h))),
+  (λ h. absurd (omega (arith, too_large_within text (length text) h))),
+  syntax_ends text r (all_read text r c.so_far) stop,
+)
 
 -- what is accepted has no fault
 pub accepted_clear : (text : List ℕ) (r : Reading) (t : Tree) → Comes text (length text) r → finished r ≡ Some t → IsClear text
@@ -318,15 +301,6 @@ large_of false true true e = inr (refl, refl)
 large_of false true false e = absurd (false≢true e)
 large_of false false c e = absurd (false≢true e)
 
-both_true : (a b : Bool) → a && b ≡ true → (a ≡ true) × (b ≡ true)
-both_true true true e = (refl, refl)
-both_true true false e = absurd (false≢true e)
-both_true false b e = absurd (false≢true e)
-
-either : (a b : Bool) → a || b ≡ true → (a ≡ true) ⊎ (b ≡ true)
-either true b e = inl refl
-either false b e = inr e
-
 no_head : (text rest : List ℕ) (c : ℕ) → HeadIs text c → text ≡ 123 ∷ rest → (c ≡ 123 → ⊥) → ⊥
 no_head text rest c head e apart = let heads : c ∷ head.0 ≡ 123 ∷ rest = sym head.1 ∙ e in apart cc
 
@@ -339,7 +313,7 @@ overcounts_by after_atom c r (Some bounds) m at b e =
     (bounds.0, bounds.1, record { after_atom = after_atom; mode = m; at_end = at; bounds = b; large = large_of (is_above_limit bounds.0 bounds.1) after_atom (nat_lt 100000 (r.atom_product * count_of bounds.0 bounds.1)) e })
 
 overcounts_in_braces : (m : Mode) (c : ℕ) (r : Reading) → r.mode ≡ m → overcounts_in m c r ≡ true → IsOvercount c r
-overcounts_in_braces (Braces after_atom) c r m e = let b = both_true (c == 125) (overcounts (bounds_of r.braces) after_atom r) e in overcounts_by after_atom c r (bounds_of r.braces) m (is_char c 125 b.0) refl b.1
+overcounts_in_braces (Braces after_atom) c r m e = let b = and_parts (c == 125) (overcounts (bounds_of r.braces) after_atom r) e in overcounts_by after_atom c r (bounds_of r.braces) m (eqb-true c 125 b.0) refl b.1
 overcounts_in_braces other c r m e = absurd (false≢true e)
 
 -- where a quantifier in braces ends that counts too much
@@ -347,10 +321,10 @@ module _ (text : List ℕ) (n : ℕ) (r : Reading) (c : Comes text n r) (lt : n 
   overcount : IsOvercount (get_or text n 0) r
   overcount = overcounts_in_braces r.mode (get_or text n 0) r refl over
 
-  abbrev Placed : Type 0
-  Placed = (q : ℕ) × (q + (length r.braces + 1) ≡ n) × IsQuantifierAt text q r.braces overcount.0 overcount.1 × (byte_place text q + (length r.braces + 1) ≡ byte_place text n)
+  abbrev BracesPlaced : Type 0
+  BracesPlaced = (q : ℕ) × (q + (length r.braces + 1) ≡ n) × IsQuantifierAt text q r.braces overcount.0 overcount.1 × (byte_place text q + (length r.braces + 1) ≡ byte_place text n)
 
-  placed : Placed
+  placed : BracesPlaced
   placed = let o = overcount.2 in quantifier_placed text n r o.after_atom overcount.0 overcount.1 lt c.so_far o.mode o.at_end o.bounds
 
   pub braces_fit : length r.braces < byte_place text n
@@ -373,11 +347,8 @@ module _ (text : List ℕ) (n : ℕ) (r : Reading) (c : Comes text n r) (lt : n 
       let s = pattern_reads (take (n + 1) text) rest tree h in
       let same : s.0 ≡ next = same_Some s.0 next (sym s.1 ∙ next_reads after) in
       let completes : Completes next rest tree = subst (λ (y : Reading). Completes y rest tree) same s.2 in
-      by_way completes (lt_of (r.atom_product * count_of overcount.0 overcount.1) large) (measured.0)
+      by_way completes (ltb-true 100000 (r.atom_product * count_of overcount.0 overcount.1) large) (measured.0)
     where
-      lt_of : (p : ℕ) → nat_lt 100000 p ≡ true → 100000 < p
-      lt_of p e = grind (arith, nat_tests)
-
       measured : MeasuredBase true r
       measured = subst (λ (b : Bool). MeasuredBase b r) (ap after_atom_in overcount.2.mode ∙ after) (measured_reads text n r c.within c.passes c.so_far)
 
@@ -398,12 +369,18 @@ module _ (text : List ℕ) (n : ℕ) (r : Reading) (c : Comes text n r) (lt : n 
       by_kind (inl above) = inr (inl (r.braces, overcount.0, overcount.1, placed.2, above))
       by_kind (inr (after, large)) =
           let begins = reads_begins (take (n + 1) text) next (next_reads after) in
-          inr (inr (r.braces, overcount.0, overcount.1, placed.2, subst (λ (k : ℕ). BeginsPattern (take k text)) end_is begins,
-          subst (λ (k : ℕ). (rest : List ℕ) (tree : Tree) → IsPattern (take k text ++ rest) tree → 100000 < product_of tree) end_is (product_over after large)))
+          inr (inr (
+            r.braces,
+            overcount.0,
+            overcount.1,
+            placed.2,
+            subst (λ (k : ℕ). BeginsPattern (take k text)) end_is begins,
+            subst (λ (k : ℕ). (rest : List ℕ) (tree : Tree) → IsPattern (take k text ++ rest) tree → 100000 < product_of tree) end_is (product_over after large),
+          ))
 
   -- at its `{` no form begins, and no earlier quantifier is open
   supported_there : IsUnsupportedAt text placed.0 → ⊥
-  supported_there (inl (depth, stands, form)) = by_form (either (begins_unsupported_escape (drop placed.0 text)) (begins_named_group (drop placed.0 text)) form)
+  supported_there (inl (depth, stands, form)) = by_form (or_cases (begins_unsupported_escape (drop placed.0 text)) (begins_named_group (drop placed.0 text)) form)
     where
       by_form : (begins_unsupported_escape (drop placed.0 text) ≡ true) ⊎ (begins_named_group (drop placed.0 text) ≡ true) → ⊥
       by_form (inl e) = no_head (drop placed.0 text) _ 92 (escape_head (drop placed.0 text) e) placed.2.braces (λ x. absurd (omega (arith, x)))
@@ -413,7 +390,7 @@ module _ (text : List ℕ) (n : ℕ) (r : Reading) (c : Comes text n r) (lt : n 
   over_spans : (q : ℕ) (bounds : List ℕ) (least : ℕ) (most : Option ℕ) → q < placed.0 → n ≤ q + (length bounds + 1) → IsLargeAt text q bounds least most → ⊥
   over_spans q bounds least most below le (h, large) = by_interior (interior text q bounds least most h n r (omega (arith, below, placed.1)) le c.so_far).2
     where
-      by_interior : (is_inner r.braces (get_or text n 0) ≡ true) ⊎ ((n ≡ q + (length bounds + 1)) × (get_or text n 0 ≡ 125) × (r.braces ≡ bounds)) → ⊥
+      by_interior : InnerOrEnd text q bounds least most h n r → ⊥
       by_interior (inl inner) = inner_apart r.braces (get_or text n 0) 125 inner overcount.2.at_end (inr (inr refl))
       by_interior (inr (same, at, b)) = absurd (omega (arith, same, below, placed.1, ap length b))
 

@@ -7,29 +7,26 @@ use Rattle.std.proofs.lemmas.Bool.Decides.{nat_tests}
 use Rattle.es_pattern.specs.Escapes.{hex_value, is_surrogate}
 use Rattle.es_pattern.specs.Grammar.{Hex}
 use Rattle.es_pattern.specs.Reading.{greatest_from, scalar}
-
--- a test of a number against two bounds
-between : (a b c : ℕ) → nat_le a c && nat_le c b ≡ true → (a ≤ c) × (c ≤ b)
-between a b c h = (grind (arith, nat_tests), grind (arith, nat_tests))
+use Rattle.es_pattern.proofs.Tests.{within_bounds}
 
 -- a hexadecimal digit is less than 16
 pub hex_digit : (c d : ℕ) → hex_value c ≡ Some d → d < 16
 hex_digit c d e = decimal (nat_le 48 c && nat_le c 57) refl e
   where
     lower : (b : Bool) → nat_le 97 c && nat_le c 102 ≡ b → cond b (Some (c - 87)) None ≡ Some d → d < 16
-    lower true h g = let same = same_Some (c - 87) d g in omega (arith, same, between 97 102 c h)
+    lower true h g = let same = same_Some (c - 87) d g in omega (arith, same, within_bounds 97 102 c h)
     lower false h g = cc
 
     upper : (b : Bool) → nat_le 65 c && nat_le c 70 ≡ b → cond b (Some (c - 55)) (cond (nat_le 97 c && nat_le c 102) (Some (c - 87)) None) ≡ Some d → d < 16
-    upper true h g = let same = same_Some (c - 55) d g in omega (arith, same, between 65 70 c h)
+    upper true h g = let same = same_Some (c - 55) d g in omega (arith, same, within_bounds 65 70 c h)
     upper false h g = lower (nat_le 97 c && nat_le c 102) refl g
 
     decimal : (b : Bool) → nat_le 48 c && nat_le c 57 ≡ b → cond b (Some (c - 48)) (cond (nat_le 65 c && nat_le c 70) (Some (c - 55)) (cond (nat_le 97 c && nat_le c 102) (Some (c - 87)) None)) ≡ Some d → d < 16
-    decimal true h g = let same = same_Some (c - 48) d g in omega (arith, same, between 48 57 c h)
+    decimal true h g = let same = same_Some (c - 48) d g in omega (arith, same, within_bounds 48 57 c h)
     decimal false h g = upper (nat_le 65 c && nat_le c 70) refl g
 
 -- how large the number is that one digit more leads to
-pub one_digit : (v : ℕ) (text rest : List ℕ) (ch : ℕ) → Hex 1 v text rest ch → (v * 16 ≤ ch) × (ch ≤ v * 16 + 15)
+one_digit : (v : ℕ) (text rest : List ℕ) (ch : ℕ) → Hex 1 v text rest ch → (v * 16 ≤ ch) × (ch ≤ v * 16 + 15)
 one_digit v text rest ch h = let small = hex_digit h.0 h.1 h.4 in let last = h.5.1 in (omega (arith, last), omega (arith, last, small))
 
 -- two digits more
@@ -38,7 +35,7 @@ two_digits_more v text rest ch h =
     let small = hex_digit h.0 h.1 h.4 in let more = one_digit (v * 16 + h.1) h.2 rest ch h.5 in (omega (arith, more), omega (arith, more, small))
 
 -- three digits more
-pub three_digits_more : (v : ℕ) (text rest : List ℕ) (ch : ℕ) → Hex 3 v text rest ch → (v * 4096 ≤ ch) × (ch ≤ v * 4096 + 4095)
+three_digits_more : (v : ℕ) (text rest : List ℕ) (ch : ℕ) → Hex 3 v text rest ch → (v * 4096 ≤ ch) × (ch ≤ v * 4096 + 4095)
 three_digits_more v text rest ch h =
     let small = hex_digit h.0 h.1 h.4 in let more = two_digits_more (v * 16 + h.1) h.2 rest ch h.5 in (omega (arith, more), omega (arith, more, small))
 
@@ -52,8 +49,12 @@ surrogate_is : (c : ℕ) → 0xd800 ≤ c → c ≤ 0xdfff → is_surrogate c �
 surrogate_is c low high = grind (arith, nat_tests)
 
 -- below the surrogates is none
-pub no_surrogate_below : (c : ℕ) → c < 0xd800 → is_surrogate c ≡ false
+no_surrogate_below : (c : ℕ) → c < 0xd800 → is_surrogate c ≡ false
 no_surrogate_below c h = grind (arith, nat_tests)
+
+-- a number of two digits is no surrogate
+pub two_small : (text rest : List ℕ) (ch : ℕ) → Hex 2 0 text rest ch → is_surrogate ch ≡ false
+two_small text rest ch h = no_surrogate_below ch (omega (arith, two_digits_more 0 text rest ch h))
 
 -- a block of numbers is of surrogates alone, or has none
 no_surrogate_to : (lowest highest ch : ℕ) → is_surrogate ch ≡ false → (0xd800 ≤ highest → 0xd800 ≤ lowest) → lowest ≤ ch → ch ≤ highest → is_surrogate highest ≡ false
@@ -62,7 +63,7 @@ no_surrogate_to lowest highest ch none aligned above within = by_test (is_surrog
     by_test : (b : Bool) → is_surrogate highest ≡ b → is_surrogate highest ≡ false
     by_test false e = e
     by_test true e =
-        let bounds = between 0xd800 0xdfff highest e in
+        let bounds = within_bounds 0xd800 0xdfff highest e in
         let from : 0xd800 ≤ lowest = aligned bounds.0 in
         absurd (false≢true (sym none ∙ surrogate_is ch (omega (arith, from, above)) (omega (arith, within, bounds.1))))
 
@@ -75,7 +76,7 @@ scalar_some : (v : ℕ) → is_surrogate v ≡ false → v < 65536 → scalar v 
 scalar_some v none lt = rw (none, in_limit v lt) refl
 
 -- there is a greatest character that so many digits more lead to, at least as great as the one
-abbrev pub Greatest : ℕ → ℕ → ℕ → Type 0
+abbrev Greatest : ℕ → ℕ → ℕ → Type 0
 Greatest v left ch = (g : ℕ) × (greatest_from v left ≡ Some g) × (ch ≤ g)
 
 -- where no digit is left, it is the number's
@@ -84,27 +85,27 @@ greatest_last v ch none lt e = scalar_some v (subst (λ (x : ℕ). is_surrogate 
 
 module _ (v : ℕ) (text rest : List ℕ) (ch : ℕ) (none : is_surrogate ch ≡ false) where
   -- where one is left
-  pub greatest_of_one : v < 4096 → Hex 1 v text rest ch → Greatest v 1 ch
-  greatest_of_one lt h =
+  pub greatest_with_one : v < 4096 → Hex 1 v text rest ch → Greatest v 1 ch
+  greatest_with_one lt h =
       let within = one_digit v text rest ch h in
       (v * 16 + 15, scalar_some (v * 16 + 15) (no_surrogate_to (v * 16) (v * 16 + 15) ch none (λ k. omega arith) within.0 within.1) (omega (arith, lt)), within.1)
 
   -- where two are left
-  pub greatest_of_two : v < 256 → Hex 2 v text rest ch → Greatest v 2 ch
-  greatest_of_two lt h =
+  pub greatest_with_two : v < 256 → Hex 2 v text rest ch → Greatest v 2 ch
+  greatest_with_two lt h =
       let within = two_digits_more v text rest ch h in
       (v * 256 + 255, scalar_some (v * 256 + 255) (no_surrogate_to (v * 256) (v * 256 + 255) ch none (λ k. omega arith) within.0 within.1) (omega (arith, lt)), within.1)
 
   -- where three are left; the block with surrogates has characters before them
-  pub greatest_of_three : v < 16 → Hex 3 v text rest ch → Greatest v 3 ch
-  greatest_of_three lt h = by_test (is_surrogate (v * 4096 + 4095)) refl
+  pub greatest_with_three : v < 16 → Hex 3 v text rest ch → Greatest v 3 ch
+  greatest_with_three lt h = by_test (is_surrogate (v * 4096 + 4095)) refl
     where
       within : (v * 4096 ≤ ch) × (ch ≤ v * 4096 + 4095)
       within = three_digits_more v text rest ch h
 
       by_test : (b : Bool) → is_surrogate (v * 4096 + 4095) ≡ b → Greatest v 3 ch
       by_test true e =
-          let bounds = between 0xd800 0xdfff (v * 4096 + 4095) e in
+          let bounds = within_bounds 0xd800 0xdfff (v * 4096 + 4095) e in
           (0xd7ff, rw e refl, before (omega (arith, within, bounds)))
         where
           before : ch ≤ 0xdfff → ch ≤ 0xd7ff

@@ -1,9 +1,8 @@
 -- What holds of every state is kept by each character.
 use Rattle.std.proofs.Common.{◌≡◌, ℕ, zero, suc, ◌+◌, ◌-◌, ◌*◌, ◌<◌, ◌≤◌, Bool, true, false, cond, List, [], ◌∷◌, ◌++◌, length, get_or, take, Option, Some, None, refl, sym, ap, subst, ◌∙◌, arith}
 use Rattle.std.specs.Prelude.{◌==◌, ◌&&◌, ◌||◌, max, nat_le, nat_lt, option_and_then}
-use Rattle.std.proofs.lemmas.List.{take_more}
 use Rattle.std.proofs.lemmas.Option.{same_Some}
-use Rattle.std.proofs.lemmas.Bool.{false≢true}
+use Rattle.std.proofs.lemmas.Bool.{false≢true, eqb-true, ltb-false, leb-true}
 use Rattle.std.proofs.lemmas.Bool.Decides.{nat_tests}
 use Rattle.es_pattern.specs.Tree.{Tree, CharRange, nothing, one_of, text_start, text_end, word_boundary, sequence, choice, repetition, lookahead}
 use Rattle.es_pattern.specs.Pieces.{top, below}
@@ -18,16 +17,18 @@ use Rattle.es_pattern.specs.declared.mode.Mode.TheVariants as modes
 use Rattle.es_pattern.specs.Reading.{Reading, asserted, joined, leaf, chosen, with_atom, flushed_chars, charged, with_term, top_product, products_below, closed_by, quantified, marked, term_begun, plain, with_set, with_char, settled, opened, at, greatest_from, scalar, hex_to, hex_by, flushed, bounds_of, overcounts, overcounts_in, overcounts_at, in_braces_end, is_inner, in_braces, ranged, class_end, item, next_item, after_char, class_char, after_dash, class_char_if, can_end, class_zero, with_ranges, class_set, class_hex_to, class_hex_by, step_in, step, start, reads}
 use Rattle.es_pattern.specs.Parsing.{PassesBefore}
 use Rattle.es_pattern.proofs.BracesRead.{inner-append}
-use Rattle.es_pattern.proofs.Sound.{if_else, is_char, no_reading, inner_is, scalar_is, hex_guard}
-use Rattle.es_pattern.proofs.Parsings.{reads-append}
+use Rattle.es_pattern.proofs.Sound.{if_else, inner_is, scalar_is, hex_guard}
+use Rattle.es_pattern.proofs.Parsings.{reads_last, passes_less}
 use Rattle.es_pattern.proofs.Sane.{CanEnd, greatest_of_three, IsPartial, IsSane, IsSaneIn, Outer, MeasuredBase, after_atom_in, IsMeasured}
+use Rattle.es_pattern.proofs.Tests.{no_some}
+use Rattle.es_pattern.proofs.HexDigits.{hex_digit}
 
 -- what holds of the state that is made
 sane_at : (x s : Reading) → Some x ≡ Some s → IsSane x → IsSane s
 sane_at x s e h = subst (λ (y : Reading). IsSane y) (same_Some x s e) h
 
 closed_sane : (gs : List Open) (r s : Reading) → closed_by gs r ≡ Some s → IsSane s
-closed_sane [] r s e = no_reading s e
+closed_sane [] r s e = no_some s e
 closed_sane (Group ∷ gs) r s e = sane_at _ s e tt
 closed_sane (Ahead negated ∷ gs) r s e = sane_at _ s e tt
 
@@ -46,7 +47,7 @@ term_sane c r s e =
 
 marked_sane : (after_atom : Bool) (product least : ℕ) (most : Option ℕ) (r s : Reading) → marked after_atom product least most r ≡ Some s → IsSane s
 marked_sane true product least most r s e = sane_at _ s e tt
-marked_sane false product least most r s e = no_reading s e
+marked_sane false product least most r s e = no_some s e
 
 lazy_sane : (after_atom may_be_lazy : Bool) (r s : Reading) → cond may_be_lazy (Some (at Term r)) (marked after_atom r.atom_product 0 (Some 1) r) ≡ Some s → IsSane s
 lazy_sane after_atom true r s e = sane_at _ s e tt
@@ -80,28 +81,9 @@ in_braces_sane after_atom c r s m inner e =
     at_end (Some bounds) x = marked_sane after_atom _ bounds.0 bounds.1 r s x
 
 -- hexadecimal digits
-digit_if : (b : Bool) (x : ℕ) (y : Option ℕ) (d : ℕ) → cond b (Some x) y ≡ Some d → (b ≡ true → x < 16) → (b ≡ false → y ≡ Some d → d < 16) → d < 16
-digit_if true x y d e yes_ no_ = subst (λ (k : ℕ). k < 16) (same_Some x d e) (yes_ refl)
-digit_if false x y d e yes_ no_ = no_ refl e
-
-digit_below : (c d : ℕ) → hex_value c ≡ Some d → d < 16
-digit_below c d e =
-    digit_if (nat_le 48 c && nat_le c 57) (c - 48) _ d e (low c) (λ n e2.
-    digit_if (nat_le 65 c && nat_le c 70) (c - 55) _ d e2 (upper c) (λ n2 e3.
-    digit_if (nat_le 97 c && nat_le c 102) (c - 87) None d e3 (lower c) (λ n3 x. cc)))
-  where
-    low : (c : ℕ) → nat_le 48 c && nat_le c 57 ≡ true → c - 48 < 16
-    low c h = grind (arith, nat_tests)
-
-    upper : (c : ℕ) → nat_le 65 c && nat_le c 70 ≡ true → c - 55 < 16
-    upper c h = grind (arith, nat_tests)
-
-    lower : (c : ℕ) → nat_le 97 c && nat_le c 102 ≡ true → c - 87 < 16
-    lower c h = grind (arith, nat_tests)
-
 can_end_is : (first : Option ℕ) (c : ℕ) → can_end first c ≡ true → CanEnd first c
 can_end_is None c h = tt
-can_end_is (Some f) c h = grind (arith, nat_tests)
+can_end_is (Some f) c h = leb-true f c h
 
 is_thirteen : (v : ℕ) → is_surrogate (v * 4096 + 4095) ≡ true → v == 13 ≡ true
 is_thirteen v h =
@@ -114,7 +96,7 @@ no_thirteen : (v : ℕ) → is_surrogate (v * 4096 + 4095) ≡ false → v == 13
 no_thirteen v h = by_test (v == 13) refl
   where
     by_test : (b : Bool) → v == 13 ≡ b → b ≡ false
-    by_test true y = absurd (false≢true (sym h ∙ subst (λ (k : ℕ). is_surrogate (k * 4096 + 4095) ≡ true) (sym (is_char v 13 y)) refl))
+    by_test true y = absurd (false≢true (sym h ∙ subst (λ (k : ℕ). is_surrogate (k * 4096 + 4095) ≡ true) (sym (eqb-true v 13 y)) refl))
     by_test false y = refl
 
 three_greatest : (v g : ℕ) → greatest_from v 3 ≡ Some g → g ≡ greatest_of_three v
@@ -144,22 +126,22 @@ hex_sane : (value left c : ℕ) (r s : Reading) → IsPartial None value left �
 hex_sane value left c r s p e = by_digit (hex_value c) refl e
   where
     by_left : (d l : ℕ) → d < 16 → left ≡ suc l → (o : Option ℕ) → greatest_from (value * 16 + d) l ≡ o → hex_to o (value * 16 + d) l r ≡ Some s → IsSane s
-    by_left d l lt is None g x = no_reading s x
+    by_left d l lt is None g x = no_some s x
     by_left d l lt is (Some greatest) g x =
         if_else (l == 0) _ _ s (IsSane s) x (λ z y. sane_at _ s y tt)
         (λ z y. sane_at (at (modes.Hex (value * 16 + d) l) r) s y (next_partial None value l d greatest (subst (λ (k : ℕ). IsPartial None value k) is p) lt z g tt))
 
     by_digit : (o : Option ℕ) → hex_value c ≡ o → hex_by o value left r ≡ Some s → IsSane s
-    by_digit None here x = no_reading s x
+    by_digit None here x = no_some s x
     by_digit (Some d) here x = hex_guard value left None (hex_to (greatest_from (value * 16 + d) (left - 1)) (value * 16 + d) (left - 1) r) s (IsSane s) x
-        (λ l is y. let same : left - 1 ≡ l = omega (arith, is) in by_left d l (digit_below c d here) is (greatest_from (value * 16 + d) l) refl
+        (λ l is y. let same : left - 1 ≡ l = omega (arith, is) in by_left d l (hex_digit c d here) is (greatest_from (value * 16 + d) l) refl
         (subst (λ (k : ℕ). hex_to (greatest_from (value * 16 + d) k) (value * 16 + d) k r ≡ Some s) same y))
 
 escape_sane : (c : ℕ) (r s : Reading) → with_set (set_of c) c r ≡ Some s → IsSane s
 escape_sane c r s e = by_set (set_of c) e
   where
     by_char : (o : Option ℕ) → with_char o r ≡ Some s → IsSane s
-    by_char None x = no_reading s x
+    by_char None x = no_some s x
     by_char (Some v) x = sane_at _ s x tt
 
     by_set : (o : Option (List CharRange)) → with_set o c r ≡ Some s → IsSane s
@@ -186,54 +168,54 @@ after_char_sane first c r s e = if_else (c == 45) _ _ s (IsSane s) e (λ y x. sa
 
 class_char_sane : (first : Option ℕ) (c : ℕ) (r s : Reading) → class_char first c r ≡ Some s → IsSane s
 class_char_sane None c r s e = sane_at _ s e tt
-class_char_sane (Some first) c r s e = if_else (nat_le first c) _ _ s (IsSane s) e (λ y x. sane_at _ s x tt) (λ n x. no_reading s x)
+class_char_sane (Some first) c r s e = if_else (nat_le first c) _ _ s (IsSane s) e (λ y x. sane_at _ s x tt) (λ n x. no_some s x)
 
 after_dash_sane : (first c : ℕ) (r s : Reading) → after_dash first c r ≡ Some s → IsSane s
 after_dash_sane first c r s e =
     let P : Type 0 = IsSane s in
     if_else (c == 93) _ _ s P e (λ y x. sane_at _ s x tt) (λ n e2.
-    if_else (c == 92) _ _ s P e2 (λ y x. if_else (nat_le first 0xffff) _ _ s P x (λ z g. sane_at (at (modes.ClassEscape (Some first)) r) s g (can_end_is (Some first) 0xffff z)) (λ z g. no_reading s g)) (λ n e3.
-    if_else (c == 45) _ _ s P e3 (λ y x. if_else (nat_le first 45) _ _ s P x (λ z g. sane_at _ s g tt) (λ z g. no_reading s g)) (λ n x. class_char_sane (Some first) c r s x)))
+    if_else (c == 92) _ _ s P e2 (λ y x. if_else (nat_le first 0xffff) _ _ s P x (λ z g. sane_at (at (modes.ClassEscape (Some first)) r) s g (can_end_is (Some first) 0xffff z)) (λ z g. no_some s g)) (λ n e3.
+    if_else (c == 45) _ _ s P e3 (λ y x. if_else (nat_le first 45) _ _ s P x (λ z g. sane_at _ s g tt) (λ z g. no_some s g)) (λ n x. class_char_sane (Some first) c r s x)))
 
 class_escape_sane : (first : Option ℕ) (c : ℕ) (r s : Reading) → CanEnd first 0xffff → class_set (set_of c) first c r ≡ Some s → IsSane s
 class_escape_sane first c r s can e = by_set (set_of c) first can e
   where
     zero_sane : (f : Option ℕ) → class_zero f r ≡ Some s → IsSane s
     zero_sane None x = sane_at _ s x tt
-    zero_sane (Some k) x = if_else (k == 0) _ _ s (IsSane s) x (λ y g. sane_at _ s g tt) (λ y g. no_reading s g)
+    zero_sane (Some k) x = if_else (k == 0) _ _ s (IsSane s) x (λ y g. sane_at _ s g tt) (λ y g. no_some s g)
 
     by_char : (f : Option ℕ) (o : Option ℕ) → class_char_if f o r ≡ Some s → IsSane s
-    by_char f None x = no_reading s x
+    by_char f None x = no_some s x
     by_char f (Some v) x = class_char_sane f v r s x
 
     rest_sane : (f : Option ℕ) → CanEnd f 0xffff → class_set None f c r ≡ Some s → IsSane s
     rest_sane f can x =
         let P : Type 0 = IsSane s in
         if_else (c == 98) _ _ s P x (λ y g. class_char_sane f 8 r s g) (λ n x2.
-        if_else (c == 120) _ _ s P x2 (λ y g. if_else (can_end f 0xff) _ _ s P g (λ z k. sane_at (at (modes.ClassHex f 0 2) r) s k (omega arith, refl, can_end_is f 0xff z)) (λ z k. no_reading s k)) (λ n x3.
-        if_else (c == 117) _ _ s P x3 (λ y g. if_else (can_end f 0xffff) _ _ s P g (λ z k. sane_at (at (modes.ClassHex f 0 4) r) s k (refl, can_end_is f 0xffff z)) (λ z k. no_reading s k)) (λ n x4.
+        if_else (c == 120) _ _ s P x2 (λ y g. if_else (can_end f 0xff) _ _ s P g (λ z k. sane_at (at (modes.ClassHex f 0 2) r) s k (omega arith, refl, can_end_is f 0xff z)) (λ z k. no_some s k)) (λ n x3.
+        if_else (c == 117) _ _ s P x3 (λ y g. if_else (can_end f 0xffff) _ _ s P g (λ z k. sane_at (at (modes.ClassHex f 0 4) r) s k (refl, can_end_is f 0xffff z)) (λ z k. no_some s k)) (λ n x4.
         if_else (c == 48) _ _ s P x4 (λ y g. zero_sane f g) (λ n x5. by_char f (escaped c) x5))))
 
     by_set : (o : Option (List CharRange)) (f : Option ℕ) → CanEnd f 0xffff → class_set o f c r ≡ Some s → IsSane s
     by_set (Some ranges) None can x = sane_at _ s x tt
-    by_set (Some ranges) (Some k) can x = no_reading s x
+    by_set (Some ranges) (Some k) can x = no_some s x
     by_set None f can x = rest_sane f can x
 
 class_hex_sane : (first : Option ℕ) (value left c : ℕ) (r s : Reading) → IsPartial first value left → class_hex_by (hex_value c) first value left r ≡ Some s → IsSane s
 class_hex_sane first value left c r s p e = by_digit (hex_value c) refl e
   where
     by_left : (d l : ℕ) → d < 16 → left ≡ suc l → (o : Option ℕ) → greatest_from (value * 16 + d) l ≡ o → class_hex_to o first (value * 16 + d) l r ≡ Some s → IsSane s
-    by_left d l lt is None g x = no_reading s x
+    by_left d l lt is None g x = no_some s x
     by_left d l lt is (Some greatest) g x =
         if_else (can_end first greatest) _ _ s (IsSane s) x (λ ok x2.
         if_else (l == 0) _ _ s (IsSane s) x2 (λ z y. class_char_sane first greatest r s y)
         (λ z y. sane_at (at (modes.ClassHex first (value * 16 + d) l) r) s y (next_partial first value l d greatest (subst (λ (k : ℕ). IsPartial first value k) is p) lt z g (can_end_is first greatest ok))))
-        (λ ok x2. no_reading s x2)
+        (λ ok x2. no_some s x2)
 
     by_digit : (o : Option ℕ) → hex_value c ≡ o → class_hex_by o first value left r ≡ Some s → IsSane s
-    by_digit None here x = no_reading s x
+    by_digit None here x = no_some s x
     by_digit (Some d) here x = hex_guard value left None (class_hex_to (greatest_from (value * 16 + d) (left - 1)) first (value * 16 + d) (left - 1) r) s (IsSane s) x
-        (λ l is y. let same : left - 1 ≡ l = omega (arith, is) in by_left d l (digit_below c d here) is (greatest_from (value * 16 + d) l) refl
+        (λ l is y. let same : left - 1 ≡ l = omega (arith, is) in by_left d l (hex_digit c d here) is (greatest_from (value * 16 + d) l) refl
         (subst (λ (k : ℕ). class_hex_to (greatest_from (value * 16 + d) k) first (value * 16 + d) k r ≡ Some s) same y))
 
 -- each character
@@ -241,7 +223,7 @@ step_sane : (m : Mode) (c : ℕ) (r s : Reading) → r.mode ≡ m → IsSaneIn m
 step_sane Term c r s m h e = plain_sane false false c r s e
 step_sane Atom c r s m h e = plain_sane true false c r s e
 step_sane Quantified c r s m h e = plain_sane false true c r s e
-step_sane Zero c r s m h e = if_else (is_digit c) _ _ s (IsSane s) e (λ y x. no_reading s x) (λ n x. plain_sane true false c r s x)
+step_sane Zero c r s m h e = if_else (is_digit c) _ _ s (IsSane s) e (λ y x. no_some s x) (λ n x. plain_sane true false c r s x)
 step_sane (Braces after_atom) c r s m h e = in_braces_sane after_atom c r s m h e
 step_sane Escape c r s m h e = escape_sane c r s e
 step_sane (modes.Hex value left) c r s m h e = hex_sane value left c r s h e
@@ -249,15 +231,15 @@ step_sane Paren c r s m h e = if_else (c == 63) _ _ s (IsSane s) e (λ y x. sane
 step_sane ParenQuestion c r s m h e =
     if_else (c == 58) _ _ s (IsSane s) e (λ y x. sane_at _ s x tt) (λ n e2.
     if_else (c == 61) _ _ s (IsSane s) e2 (λ y x. sane_at _ s x tt) (λ n e3.
-    if_else (c == 33) _ _ s (IsSane s) e3 (λ y x. sane_at _ s x tt) (λ n x. no_reading s x)))
+    if_else (c == 33) _ _ s (IsSane s) e3 (λ y x. sane_at _ s x tt) (λ n x. no_some s x)))
 step_sane ClassOpen c r s m h e = if_else (c == 94) _ _ s (IsSane s) e (λ y x. sane_at _ s x tt) (λ n x. item_sane c r s x)
 step_sane ClassFirst c r s m h e = item_sane c r s e
 step_sane ClassNext c r s m h e = next_item_sane c r s e
-step_sane ClassLast c r s m h e = if_else (c == 93) _ _ s (IsSane s) e (λ y x. sane_at _ s x tt) (λ n x. no_reading s x)
+step_sane ClassLast c r s m h e = if_else (c == 93) _ _ s (IsSane s) e (λ y x. sane_at _ s x tt) (λ n x. no_some s x)
 step_sane (modes.ClassChar first) c r s m h e = after_char_sane first c r s e
 step_sane (modes.ClassDash first) c r s m h e = after_dash_sane first c r s e
-step_sane (modes.ClassZero true) c r s m h e = if_else (is_digit c) _ _ s (IsSane s) e (λ y x. no_reading s x) (λ n x. next_item_sane c r s x)
-step_sane (modes.ClassZero false) c r s m h e = if_else (is_digit c) _ _ s (IsSane s) e (λ y x. no_reading s x) (λ n x. after_char_sane 0 c r s x)
+step_sane (modes.ClassZero true) c r s m h e = if_else (is_digit c) _ _ s (IsSane s) e (λ y x. no_some s x) (λ n x. next_item_sane c r s x)
+step_sane (modes.ClassZero false) c r s m h e = if_else (is_digit c) _ _ s (IsSane s) e (λ y x. no_some s x) (λ n x. after_char_sane 0 c r s x)
 step_sane (modes.ClassEscape first) c r s m h e = class_escape_sane first c r s h e
 step_sane (modes.ClassHex first value left) c r s m h e = class_hex_sane first value left c r s h e
 
@@ -270,14 +252,14 @@ sane_from [] x r h e = sane_at x r e h
 sane_from (c ∷ text) x r h e = by_step (step c x) refl (λ (y : Reading). sane_from text y r) e
   where
     by_step : (o : Option Reading) → step c x ≡ o → ((y : Reading) → IsSane y → reads text y ≡ Some r → IsSane r) → option_and_then (reads text) o ≡ Some r → IsSane r
-    by_step None is again g = no_reading r g
+    by_step None is again g = no_some r g
     by_step (Some y) is again g = again y (sane_next c x y h is) g
 
 pub sane_reads : (text : List ℕ) (r : Reading) → reads text start ≡ Some r → IsSane r
 sane_reads text r e = sane_from text start r tt e
 
 -- products
-pub product_positive : (t : Tree) → 1 ≤ product_of t
+product_positive : (t : Tree) → 1 ≤ product_of t
 product_positive nothing = omega arith
 product_positive (one_of negated ranges) = omega arith
 product_positive text_start = omega arith
@@ -348,7 +330,7 @@ quantified_measured least most product r is le h =
     (joined_product r.product product (product_of (top r.trees) * count) (product_of (top (below r.trees))) (product_of (top (below (below r.trees)))) same h.2.0, max_within r.product product 100000 h.2.1 le, h.2.2)
 
 closed_measured : (gs : List Open) (r s : Reading) → r.groups ≡ gs → MeasuredBase false r → closed_by gs r ≡ Some s → IsMeasured s
-closed_measured [] r s g h e = no_reading s e
+closed_measured [] r s g h e = no_some s e
 closed_measured (Group ∷ gs) r s g h e =
     let lower = below (below r.trees) in
     let out : Outer (Group ∷ gs) r.products lower = subst (λ (k : List Open). Outer k r.products lower) g h.2 in
@@ -385,12 +367,12 @@ term_measured c r s h e =
 
 marked_measured : (after_atom : Bool) (product least : ℕ) (most : Option ℕ) (r s : Reading) → product ≡ r.atom_product * count_of least most → (after_atom ≡ true → product ≤ 100000) → MeasuredBase after_atom r → marked after_atom product least most r ≡ Some s → IsMeasured s
 marked_measured true product least most r s is le h e = measured_at (quantified least most (charged product r)) s e (quantified_measured least most product r is (le refl) h)
-marked_measured false product least most r s is le h e = no_reading s e
+marked_measured false product least most r s is le h e = no_some s e
 
 -- a quantifier that counts one
 one_measured : (after_atom : Bool) (least : ℕ) (most : Option ℕ) (r s : Reading) → count_of least most ≡ 1 → MeasuredBase after_atom r → marked after_atom r.atom_product least most r ≡ Some s → IsMeasured s
 one_measured true least most r s one h e = marked_measured true r.atom_product least most r s (subst (λ (k : ℕ). r.atom_product ≡ r.atom_product * k) (sym one) (omega arith)) (λ t. h.1) h e
-one_measured false least most r s one h e = no_reading s e
+one_measured false least most r s one h e = no_some s e
 
 lazy_measured : (after_atom may_be_lazy : Bool) (r s : Reading) → (may_be_lazy ≡ true → after_atom ≡ false) → MeasuredBase after_atom r → cond may_be_lazy (Some (at Term r)) (marked after_atom r.atom_product 0 (Some 1) r) ≡ Some s → IsMeasured s
 lazy_measured true true r s apart h e = absurd (false≢true (sym (apart refl)))
@@ -439,25 +421,22 @@ in_braces_measured after_atom c r s m h within e =
     at_end None w x = broken x
     at_end (Some bounds) w x =
         let product = r.atom_product * count_of bounds.0 bounds.1 in
-        marked_measured after_atom product bounds.0 bounds.1 r s refl (λ y. at_most product 100000 (counted (is_above_limit bounds.0 bounds.1) after_atom (nat_lt 100000 product) w y)) h x
-      where
-        at_most : (p k : ℕ) → nat_lt k p ≡ false → p ≤ k
-        at_most p k w = grind (arith, nat_tests)
+        marked_measured after_atom product bounds.0 bounds.1 r s refl (λ y. ltb-false 100000 product (counted (is_above_limit bounds.0 bounds.1) after_atom (nat_lt 100000 product) w y)) h x
 
 -- hexadecimal digits
 hex_to_measured : (o : Option ℕ) (value left : ℕ) (r s : Reading) → MeasuredBase false r → hex_to o value left r ≡ Some s → IsMeasured s
-hex_to_measured None value left r s h e = no_reading s e
+hex_to_measured None value left r s h e = no_some s e
 hex_to_measured (Some greatest) value left r s h e =
     if_else (left == 0) _ _ s (IsMeasured s) e (λ y x. measured_at (with_atom (char greatest) r) s x (with_atom_measured (char greatest) r refl h)) (λ n x. measured_at (at (modes.Hex value left) r) s x h)
 
 hex_measured : (o : Option ℕ) (value left : ℕ) (r s : Reading) → MeasuredBase false r → hex_by o value left r ≡ Some s → IsMeasured s
-hex_measured None value left r s h e = no_reading s e
+hex_measured None value left r s h e = no_some s e
 hex_measured (Some d) value left r s h e =
-    if_else (nat_lt 0xfff value || (left == 0)) _ _ s (IsMeasured s) e (λ y x. no_reading s x) (λ n x. hex_to_measured (greatest_from (value * 16 + d) (left - 1)) (value * 16 + d) (left - 1) r s h x)
+    if_else (nat_lt 0xfff value || (left == 0)) _ _ s (IsMeasured s) e (λ y x. no_some s x) (λ n x. hex_to_measured (greatest_from (value * 16 + d) (left - 1)) (value * 16 + d) (left - 1) r s h x)
 
 -- an escape
 char_measured : (o : Option ℕ) (r s : Reading) → MeasuredBase false r → with_char o r ≡ Some s → IsMeasured s
-char_measured None r s h e = no_reading s e
+char_measured None r s h e = no_some s e
 char_measured (Some v) r s h e = measured_at (with_atom (char v) r) s e (with_atom_measured (char v) r refl h)
 
 escape_measured : (o : Option (List CharRange)) (c : ℕ) (r s : Reading) → MeasuredBase false r → with_set o c r ≡ Some s → IsMeasured s
@@ -487,51 +466,51 @@ after_char_measured first c r s h e = if_else (c == 45) _ _ s (IsMeasured s) e (
 
 class_char_measured : (first : Option ℕ) (c : ℕ) (r s : Reading) → MeasuredBase false r → class_char first c r ≡ Some s → IsMeasured s
 class_char_measured None c r s h e = measured_at (at (modes.ClassChar c) r) s e h
-class_char_measured (Some first) c r s h e = if_else (nat_le first c) _ _ s (IsMeasured s) e (λ y x. measured_at (at ClassNext (ranged first c r)) s x h) (λ n x. no_reading s x)
+class_char_measured (Some first) c r s h e = if_else (nat_le first c) _ _ s (IsMeasured s) e (λ y x. measured_at (at ClassNext (ranged first c r)) s x h) (λ n x. no_some s x)
 
 after_dash_measured : (first c : ℕ) (r s : Reading) → MeasuredBase false r → after_dash first c r ≡ Some s → IsMeasured s
 after_dash_measured first c r s h e =
     let P : Type 0 = IsMeasured s in
     if_else (c == 93) _ _ s P e (λ y x. class_end_measured (ranged 45 45 (ranged first first r)) s h x) (λ n e2.
-    if_else (c == 92) _ _ s P e2 (λ y x. if_else (nat_le first 0xffff) _ _ s P x (λ z g. measured_at (at (modes.ClassEscape (Some first)) r) s g h) (λ z g. no_reading s g)) (λ n e3.
-    if_else (c == 45) _ _ s P e3 (λ y x. if_else (nat_le first 45) _ _ s P x (λ z g. measured_at (at ClassLast (ranged first 45 r)) s g h) (λ z g. no_reading s g)) (λ n x. class_char_measured (Some first) c r s h x)))
+    if_else (c == 92) _ _ s P e2 (λ y x. if_else (nat_le first 0xffff) _ _ s P x (λ z g. measured_at (at (modes.ClassEscape (Some first)) r) s g h) (λ z g. no_some s g)) (λ n e3.
+    if_else (c == 45) _ _ s P e3 (λ y x. if_else (nat_le first 45) _ _ s P x (λ z g. measured_at (at ClassLast (ranged first 45 r)) s g h) (λ z g. no_some s g)) (λ n x. class_char_measured (Some first) c r s h x)))
 
 class_zero_measured : (first : Option ℕ) (r s : Reading) → MeasuredBase false r → class_zero first r ≡ Some s → IsMeasured s
 class_zero_measured None r s h e = measured_at (at (modes.ClassZero false) r) s e h
-class_zero_measured (Some first) r s h e = if_else (first == 0) _ _ s (IsMeasured s) e (λ y x. measured_at (at (modes.ClassZero true) (ranged 0 0 r)) s x h) (λ n x. no_reading s x)
+class_zero_measured (Some first) r s h e = if_else (first == 0) _ _ s (IsMeasured s) e (λ y x. measured_at (at (modes.ClassZero true) (ranged 0 0 r)) s x h) (λ n x. no_some s x)
 
 class_char_if_measured : (first o : Option ℕ) (r s : Reading) → MeasuredBase false r → class_char_if first o r ≡ Some s → IsMeasured s
-class_char_if_measured first None r s h e = no_reading s e
+class_char_if_measured first None r s h e = no_some s e
 class_char_if_measured first (Some v) r s h e = class_char_measured first v r s h e
 
 class_escape_measured : (o : Option (List CharRange)) (first : Option ℕ) (c : ℕ) (r s : Reading) → MeasuredBase false r → class_set o first c r ≡ Some s → IsMeasured s
 class_escape_measured (Some ranges) None c r s h e = measured_at (with_ranges ranges r) s e h
-class_escape_measured (Some ranges) (Some first) c r s h e = no_reading s e
+class_escape_measured (Some ranges) (Some first) c r s h e = no_some s e
 class_escape_measured None first c r s h e =
     let P : Type 0 = IsMeasured s in
     if_else (c == 98) _ _ s P e (λ y x. class_char_measured first 8 r s h x) (λ n e2.
-    if_else (c == 120) _ _ s P e2 (λ y x. if_else (can_end first 0xff) _ _ s P x (λ z g. measured_at (at (modes.ClassHex first 0 2) r) s g h) (λ z g. no_reading s g)) (λ n e3.
-    if_else (c == 117) _ _ s P e3 (λ y x. if_else (can_end first 0xffff) _ _ s P x (λ z g. measured_at (at (modes.ClassHex first 0 4) r) s g h) (λ z g. no_reading s g)) (λ n e4.
+    if_else (c == 120) _ _ s P e2 (λ y x. if_else (can_end first 0xff) _ _ s P x (λ z g. measured_at (at (modes.ClassHex first 0 2) r) s g h) (λ z g. no_some s g)) (λ n e3.
+    if_else (c == 117) _ _ s P e3 (λ y x. if_else (can_end first 0xffff) _ _ s P x (λ z g. measured_at (at (modes.ClassHex first 0 4) r) s g h) (λ z g. no_some s g)) (λ n e4.
     if_else (c == 48) _ _ s P e4 (λ y x. class_zero_measured first r s h x) (λ n x. class_char_if_measured first (escaped c) r s h x))))
 
 class_hex_to_measured : (o first : Option ℕ) (value left : ℕ) (r s : Reading) → MeasuredBase false r → class_hex_to o first value left r ≡ Some s → IsMeasured s
-class_hex_to_measured None first value left r s h e = no_reading s e
+class_hex_to_measured None first value left r s h e = no_some s e
 class_hex_to_measured (Some greatest) first value left r s h e =
     if_else (can_end first greatest) _ _ s (IsMeasured s) e
     (λ ok x. if_else (left == 0) _ _ s (IsMeasured s) x (λ y g. class_char_measured first greatest r s h g) (λ n g. measured_at (at (modes.ClassHex first value left) r) s g h))
-    (λ ok x. no_reading s x)
+    (λ ok x. no_some s x)
 
 class_hex_measured : (o first : Option ℕ) (value left : ℕ) (r s : Reading) → MeasuredBase false r → class_hex_by o first value left r ≡ Some s → IsMeasured s
-class_hex_measured None first value left r s h e = no_reading s e
+class_hex_measured None first value left r s h e = no_some s e
 class_hex_measured (Some d) first value left r s h e =
-    if_else (nat_lt 0xfff value || (left == 0)) _ _ s (IsMeasured s) e (λ y x. no_reading s x) (λ n x. class_hex_to_measured (greatest_from (value * 16 + d) (left - 1)) first (value * 16 + d) (left - 1) r s h x)
+    if_else (nat_lt 0xfff value || (left == 0)) _ _ s (IsMeasured s) e (λ y x. no_some s x) (λ n x. class_hex_to_measured (greatest_from (value * 16 + d) (left - 1)) first (value * 16 + d) (left - 1) r s h x)
 
 -- each character
 step_measured : (m : Mode) (c : ℕ) (r s : Reading) → r.mode ≡ m → MeasuredBase (after_atom_in m) r → overcounts_in m c r ≡ false → step_in m c r ≡ Some s → IsMeasured s
 step_measured Term c r s m h within e = base_measured false c r s h e
 step_measured Atom c r s m h within e = base_measured true c r s h e
 step_measured Quantified c r s m h within e = plain_measured false true c r s (λ y. refl) h e
-step_measured Zero c r s m h within e = if_else (is_digit c) _ _ s (IsMeasured s) e (λ y x. no_reading s x) (λ n x. base_measured true c r s h x)
+step_measured Zero c r s m h within e = if_else (is_digit c) _ _ s (IsMeasured s) e (λ y x. no_some s x) (λ n x. base_measured true c r s h x)
 step_measured (Braces after_atom) c r s m h within e = in_braces_measured after_atom c r s m h within e
 step_measured Escape c r s m h within e = escape_measured (set_of c) c r s h e
 step_measured (modes.Hex value left) c r s m h within e = hex_measured (hex_value c) value left r s h e
@@ -540,43 +519,27 @@ step_measured Paren c r s m h within e =
 step_measured ParenQuestion c r s m h within e =
     if_else (c == 58) _ _ s (IsMeasured s) e (λ y x. measured_at (opened Group r) s x (opened_measured Group r h)) (λ n e2.
     if_else (c == 61) _ _ s (IsMeasured s) e2 (λ y x. measured_at (opened (Ahead false) r) s x (opened_measured (Ahead false) r h)) (λ n e3.
-    if_else (c == 33) _ _ s (IsMeasured s) e3 (λ y x. measured_at (opened (Ahead true) r) s x (opened_measured (Ahead true) r h)) (λ n x. no_reading s x)))
+    if_else (c == 33) _ _ s (IsMeasured s) e3 (λ y x. measured_at (opened (Ahead true) r) s x (opened_measured (Ahead true) r h)) (λ n x. no_some s x)))
 step_measured ClassOpen c r s m h within e =
     if_else (c == 94) _ _ s (IsMeasured s) e (λ y x. measured_at (at ClassFirst (record r { negated = true })) s x h) (λ n x. item_measured c r s h x)
 step_measured ClassFirst c r s m h within e = item_measured c r s h e
 step_measured ClassNext c r s m h within e = next_item_measured c r s h e
-step_measured ClassLast c r s m h within e = if_else (c == 93) _ _ s (IsMeasured s) e (λ y x. class_end_measured r s h x) (λ n x. no_reading s x)
+step_measured ClassLast c r s m h within e = if_else (c == 93) _ _ s (IsMeasured s) e (λ y x. class_end_measured r s h x) (λ n x. no_some s x)
 step_measured (modes.ClassChar first) c r s m h within e = after_char_measured first c r s h e
 step_measured (modes.ClassDash first) c r s m h within e = after_dash_measured first c r s h e
-step_measured (modes.ClassZero true) c r s m h within e = if_else (is_digit c) _ _ s (IsMeasured s) e (λ y x. no_reading s x) (λ n x. next_item_measured c r s h x)
-step_measured (modes.ClassZero false) c r s m h within e = if_else (is_digit c) _ _ s (IsMeasured s) e (λ y x. no_reading s x) (λ n x. after_char_measured 0 c r s h x)
+step_measured (modes.ClassZero true) c r s m h within e = if_else (is_digit c) _ _ s (IsMeasured s) e (λ y x. no_some s x) (λ n x. next_item_measured c r s h x)
+step_measured (modes.ClassZero false) c r s m h within e = if_else (is_digit c) _ _ s (IsMeasured s) e (λ y x. no_some s x) (λ n x. after_char_measured 0 c r s h x)
 step_measured (modes.ClassEscape first) c r s m h within e = class_escape_measured (set_of c) first c r s h e
 step_measured (modes.ClassHex first value left) c r s m h within e = class_hex_measured (hex_value c) first value left r s h e
 
-pub measured_next : (c : ℕ) (r s : Reading) → IsMeasured r → overcounts_at c r ≡ false → step c r ≡ Some s → IsMeasured s
+measured_next : (c : ℕ) (r s : Reading) → IsMeasured r → overcounts_at c r ≡ false → step c r ≡ Some s → IsMeasured s
 measured_next c r s h within e = step_measured r.mode c r s refl h within e
 
 -- all that a text leads to, where no quantifier counts too much
 pub measured_reads : (text : List ℕ) (n : ℕ) (r : Reading) → n ≤ length text → PassesBefore text n → reads (take n text) start ≡ Some r → IsMeasured r
 measured_reads text zero r le passes e = measured_at start r e (refl, omega arith, tt)
-measured_reads text (suc n) r le passes e = by_last (reads (take n text) start) refl (λ q is. measured_reads text n q (omega (arith, le)) earlier is) next
-  where
-    next : option_and_then (reads (get_or text n 0 ∷ [])) (reads (take n text) start) ≡ Some r
-    next =
-        sym (reads-append (take n text) (get_or text n 0 ∷ []) start) ∙ ap (λ (xs : List ℕ). reads xs start) (sym (take_more text n 0 (omega (arith, le)))) ∙ more
-      where
-        more : reads (take (n + 1) text) start ≡ Some r
-        more = let one : suc n ≡ n + 1 = omega arith in subst (λ (k : ℕ). reads (take k text) start ≡ Some r) one e
-
-    earlier : PassesBefore text n
-    earlier = record { each = λ q lt. passes.each q (omega (arith, lt)) }
-
-    by_last : (o : Option Reading) → reads (take n text) start ≡ o → ((q : Reading) → reads (take n text) start ≡ Some q → IsMeasured q) → option_and_then (reads (get_or text n 0 ∷ [])) o ≡ Some r → IsMeasured r
-    by_last None is before g = no_reading r g
-    by_last (Some q) is before g =
-        let kept = passes.each n (omega arith) q is in
-        by_step (step (get_or text n 0) q) refl (λ (s : Reading). measured_next (get_or text n 0) q s (before q is) kept.2) g
-      where
-        by_step : (o : Option Reading) → step (get_or text n 0) q ≡ o → ((s : Reading) → step (get_or text n 0) q ≡ Some s → IsMeasured s) → option_and_then (reads []) o ≡ Some r → IsMeasured r
-        by_step None same again x = no_reading r x
-        by_step (Some s) same again x = measured_at s r x (again s same)
+measured_reads text (suc n) r le passes e =
+    let one : suc n ≡ n + 1 = omega arith in
+    let s = reads_last text n r (omega (arith, le)) (subst (λ (k : ℕ). reads (take k text) start ≡ Some r) one e) in
+    let before = measured_reads text n s.0 (omega (arith, le)) (passes_less text (suc n) n passes (omega arith)) s.1 in
+    measured_next (get_or text n 0) s.0 r before (passes.each n (omega arith) s.0 s.1).2 s.2

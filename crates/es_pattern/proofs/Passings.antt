@@ -2,8 +2,8 @@
 use Rattle.std.proofs.Common.{inl, inr, get_or, ◌≡◌, ℕ, zero, suc, ◌+◌, ◌<◌, ◌≤◌, Bool, true, false, cond, List, [], ◌∷◌, ◌++◌, add-one, length, take, Option, Some, None, refl, sym, ap, subst, ◌∙◌, arith}
 use Rattle.std.specs.Prelude.{slice_get, slice_index, unwrap_or, MatchBool, ◌==◌, ◌&&◌, nat_lt, ◌⊎◌}
 use Rattle.std.specs.Global.{Vec}
-use Rattle.std.proofs.lemmas.Option.{slice_get_cases, slice_get_read}
-use Rattle.std.proofs.lemmas.Bool.Decides.{nat_tests}
+use Rattle.std.proofs.lemmas.Option.{slice_get_cases, slice_get_read, same_Some}
+use Rattle.std.proofs.lemmas.Bool.{eqb-true, eqb-false, and_parts, ltb-true, lt-ltb, and_from, both_ways}
 use mathlib.Core.Bool.{not, beq}
 use Rattle.es_pattern.specs.Tree.{Tree, one_of, text_start, text_end, word_boundary, lookahead}
 use Rattle.es_pattern.specs.Spans.{differs, is_boundary, fits, Spans}
@@ -11,6 +11,7 @@ use Rattle.es_pattern.specs.Pieces.{top, with_piece, with_pieces, tree_at}
 use Rattle.es_pattern.specs.Passing.{IsSingle, PassesTo, Tells, AllTell, passed_by}
 use Rattle.es_pattern.specs.declared.piece.Piece.{Piece}
 use Rattle.es_pattern.specs.declared.piece.Piece.TheVariants.{Nothing, OneOf, TextStart, TextEnd, WordBoundary, Sequence, Choice, Repetition, Lookahead}
+use Rattle.es_pattern.proofs.Readers.{push_piece}
 
 pub differs_is : (a b : Bool) → not (beq a b) ≡ differs a b
 differs_is true true = refl
@@ -28,12 +29,9 @@ pub tree_at_is : (pieces : List Piece) (number : ℕ) (p : Piece) → slice_get 
 tree_at_is pieces number p h = ap top (with_more pieces number p [] h)
 
 module _ (pieces : List Piece) (text : List ℕ) (number i : ℕ) (p : Piece) (stands : slice_get pieces number ≡ Some p) where
-  same_piece : (q r : Piece) → Some q ≡ Some r → q ≡ r
-  same_piece q r e = cc
-
   -- a piece that is not single passes nothing
   no_single : (IsSingle p → ⊥) → PassesTo pieces text number i None
-  no_single none = λ j h. none (subst (λ (q : Piece). IsSingle q) (same_piece h.piece p (sym h.stands ∙ stands)) h.single)
+  no_single none = λ j h. none (subst (λ (q : Piece). IsSingle q) (same_Some h.piece p (sym h.stands ∙ stands)) h.single)
 
   -- one that spans the empty part where a test holds
   by_test : (b : Bool) → IsSingle p → (b ≡ true → Spans (tree_at pieces number) text i i) → (b ≡ false → (j : ℕ) → Spans (tree_at pieces number) text i j → ⊥) → ((j : ℕ) → Spans (tree_at pieces number) text i j → i ≡ j)
@@ -55,29 +53,6 @@ module _ (pieces : List Piece) (text : List ℕ) (number i : ℕ) (p : Piece) (s
     from_tree : (j : ℕ) → Spans t text i j → Spans (tree_at pieces number) text i j
     from_tree j h = subst (λ (u : Tree). Spans u text i j) (sym e) h
 
-not_both : (b : Bool) → b ≡ true → b ≡ false → ⊥
-not_both b yes_ no_ = cc
-
-is_equal : (a b : ℕ) → a == b ≡ true → a ≡ b
-is_equal a b h = grind (arith, nat_tests)
-
-is_no_equal : (a b : ℕ) → a == b ≡ false → a ≡ b → ⊥
-is_no_equal a b h e = grind (arith, nat_tests)
-
-and_both : (a b : Bool) → a && b ≡ true → (a ≡ true) × (b ≡ true)
-and_both true true h = (refl, refl)
-and_both true false h = cc
-and_both false b h = cc
-
-and_from : (a b : Bool) → a ≡ true → b ≡ true → a && b ≡ true
-and_from a b ha hb = cc
-
-is_below : (a b : ℕ) → nat_lt a b ≡ true → a < b
-is_below a b h = grind (arith, nat_tests)
-
-from_below : (a b : ℕ) → a < b → nat_lt a b ≡ true
-from_below a b h = grind (arith, nat_tests)
-
 differs_not : (a b : Bool) → differs a b ≡ true → a ≡ not b
 differs_not true true h = cc
 differs_not true false h = refl
@@ -94,7 +69,7 @@ not_differs false false h e = cc
 abbrev pub Answers : List Piece → List ℕ → ℕ → ℕ → Bool → Type 0
 Answers pieces text number i told = MatchBool told (Spans (tree_at pieces number) text i i) (Spans (tree_at pieces number) text i i → ⊥)
 
-pub passes_right : (pieces : List Piece) (text : List ℕ) (number i : ℕ) (p : Piece) (told : Bool) → slice_get pieces number ≡ Some p → ((negated : Bool) → p ≡ Lookahead negated → Answers pieces text number i told)
+passes_right : (pieces : List Piece) (text : List ℕ) (number i : ℕ) (p : Piece) (told : Bool) → slice_get pieces number ≡ Some p → ((negated : Bool) → p ≡ Lookahead negated → Answers pieces text number i told)
     → PassesTo pieces text number i (passed_by p told text i)
 passes_right pieces text number i Nothing told h a = no_single pieces text number i Nothing h (λ s. s)
 passes_right pieces text number i Sequence told h a = no_single pieces text number i Sequence h (λ s. s)
@@ -104,14 +79,14 @@ passes_right pieces text number i TextStart told h a =
     let e : tree_at pieces number ≡ text_start = tree_at_is pieces number TextStart h in
     let to = to_tree pieces text number i TextStart h text_start e in
     by_test pieces text number i TextStart h (i == 0) tt
-    (λ b. from_tree pieces text number i TextStart h text_start e i (refl, is_equal i 0 b))
-    (λ b j s. is_no_equal i 0 b (to j s).1) (λ j s. (to j s).0)
+    (λ b. from_tree pieces text number i TextStart h text_start e i (refl, eqb-true i 0 b))
+    (λ b j s. eqb-false i 0 b (to j s).1) (λ j s. (to j s).0)
 passes_right pieces text number i TextEnd told h a =
     let e : tree_at pieces number ≡ text_end = tree_at_is pieces number TextEnd h in
     let to = to_tree pieces text number i TextEnd h text_end e in
     by_test pieces text number i TextEnd h (i == length text) tt
-    (λ b. from_tree pieces text number i TextEnd h text_end e i (refl, is_equal i (length text) b))
-    (λ b j s. is_no_equal i (length text) b (to j s).1) (λ j s. (to j s).0)
+    (λ b. from_tree pieces text number i TextEnd h text_end e i (refl, eqb-true i (length text) b))
+    (λ b j s. eqb-false i (length text) b (to j s).1) (λ j s. (to j s).0)
 passes_right pieces text number i (WordBoundary negated) told h a =
     let e : tree_at pieces number ≡ word_boundary negated = tree_at_is pieces number (WordBoundary negated) h in
     let to = to_tree pieces text number i (WordBoundary negated) h (word_boundary negated) e in
@@ -124,8 +99,8 @@ passes_right pieces text number i (OneOf negated ranges) told h a =
     let to = to_tree pieces text number i (OneOf negated ranges) h t e in
     let fit = fits negated ranges.items (slice_index text i) in
     by_char pieces text number i (OneOf negated ranges) h (nat_lt i (length text) && fit) tt
-    (λ b. let both = and_both (nat_lt i (length text)) fit b in from_tree pieces text number i (OneOf negated ranges) h t e (i + 1) (is_below i (length text) both.0, refl, both.1))
-    (λ b j s. not_both (nat_lt i (length text) && fit) (and_from (nat_lt i (length text)) fit (from_below i (length text) (to j s).0) (to j s).2) b) (λ j s. (to j s).1)
+    (λ b. let both = and_parts (nat_lt i (length text)) fit b in from_tree pieces text number i (OneOf negated ranges) h t e (i + 1) (ltb-true i (length text) both.0, refl, both.1))
+    (λ b j s. both_ways (nat_lt i (length text) && fit) b (and_from (nat_lt i (length text)) fit (lt-ltb i (length text) (to j s).0) (to j s).2)) (λ j s. (to j s).1)
 passes_right pieces text number i (Lookahead negated) told h a =
     let t = with_piece (Lookahead negated) (with_pieces (take number pieces) []) in
     let e : tree_at pieces number ≡ lookahead negated (top (with_pieces (take number pieces) [])) = tree_at_is pieces number (Lookahead negated) h in
@@ -159,9 +134,5 @@ passed_right pieces text tables number i p told all lt le h e = passes_right pie
 pub copied_more : (copies copies' pieces : List Piece) (i : ℕ) (piece copy : Piece) → copies' ≡ copies ++ copy ∷ [] → with_pieces copies [] ≡ with_pieces (take i pieces) [] → ((ts : List Tree) → with_piece copy ts ≡ with_piece piece ts)
     → i < length pieces → piece ≡ get_or pieces i piece → with_pieces copies' [] ≡ with_pieces (take (i + 1) pieces) []
 copied_more copies copies' pieces i piece copy e same alike lt is =
-    ap (λ (ps : List Piece). with_pieces ps []) e ∙ with_pieces-push copies copy [] ∙ ap (with_piece copy) same ∙ alike (with_pieces (take i pieces) [])
+    ap (λ (ps : List Piece). with_pieces ps []) e ∙ push_piece copies copy [] ∙ ap (with_piece copy) same ∙ alike (with_pieces (take i pieces) [])
     ∙ sym (rw add-one (with_more pieces i piece [] (slice_get_read pieces (length pieces) i piece refl lt is)))
-  where
-    with_pieces-push : (ps : List Piece) (p : Piece) (ts : List Tree) → with_pieces (ps ++ p ∷ []) ts ≡ with_piece p (with_pieces ps ts)
-    with_pieces-push [] p ts = refl
-    with_pieces-push (q ∷ ps) p ts = with_pieces-push ps p (with_piece q ts)

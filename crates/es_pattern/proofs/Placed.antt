@@ -3,8 +3,7 @@ use Rattle.std.proofs.Common.{◌≡◌, ℕ, zero, suc, ◌+◌, ◌-◌, ◌*�
 use Rattle.std.specs.Prelude.{◌==◌, ◌&&◌, ◌||◌, ◌⊎◌, cond, nat_le, option_and_then}
 use Rattle.std.proofs.lemmas.List.{append_assoc, append-nil, take-append-drop, take_at, length-append, length-drop, length-take-le}
 use Rattle.std.proofs.lemmas.Option.{same_Some, option_and_then_some}
-use Rattle.std.proofs.lemmas.Bool.{false≢true}
-use Rattle.std.proofs.lemmas.Bool.Decides.{nat_tests}
+use Rattle.std.proofs.lemmas.Bool.{false≢true, le-leb}
 use Rattle.es_pattern.specs.Escapes.{hex_value}
 use Rattle.es_pattern.specs.Grammar.{Hex, Bounds}
 use Rattle.es_pattern.specs.Places.{Stands, Within, groups, class_in_groups, is_structural, BeginsQuestion, Escaped, other_escape, two_digit_escape, four_digit_escape}
@@ -24,7 +23,7 @@ use Rattle.es_pattern.proofs.Moves.{OutsideMoves, by_symbol, by_brace, by_paren,
 use Rattle.es_pattern.proofs.Placing.{inner_symbol}
 
 -- the machine, within d groups, is at a kind of place that the tokens before the rest lead to
-abbrev pub Agrees : Within → Kind → ℕ → List ℕ → Type 0
+abbrev Agrees : Within → Kind → ℕ → List ℕ → Type 0
 Agrees (groups depth) outside d rest = d ≡ depth
 Agrees (groups depth) (in_bounds bs) d rest = d ≡ depth
 Agrees (groups depth) in_paren d rest = (suc d ≡ depth) × (BeginsQuestion rest → ⊥)
@@ -285,7 +284,7 @@ stands_told text place rest (past_class {depth = depth} h) =
     (λ k d new e x m. let y = at_end_bracket new e depth (inside_moves k d 93 new e depth rest x m) in agrees_as (groups depth) new outside e depth rest y.0 y.1 refl)
 
 -- the machine, where it comes up to a place, is at such a kind of place
-pub agrees_at : (text : List ℕ) (q : ℕ) (place : Within) (r : Reading) → q ≤ length text → Stands text place (drop q text) → reads (take q text) start ≡ Some r → Agrees place (kind r) (length r.groups) (drop q text)
+agrees_at : (text : List ℕ) (q : ℕ) (place : Within) (r : Reading) → q ≤ length text → Stands text place (drop q text) → reads (take q text) start ≡ Some r → Agrees place (kind r) (length r.groups) (drop q text)
 agrees_at text q place r le h e = by_front (stands_told text place (drop q text) h)
   where
     by_front : Told text (drop q text) (λ k d. Agrees place k d (drop q text)) → Agrees place (kind r) (length r.groups) (drop q text)
@@ -335,14 +334,11 @@ unsupported_reads text q r le h e = by_place h
     by_place (inl (depth, place, form)) = by_kind (unsupported_outside (kind r) (length r.groups) depth rest (agrees_at text q (groups depth) r le place e) form)
     by_place (inr (depth, place, form)) = by_kind (unsupported_inside (kind r) (length r.groups) depth rest (agrees_at text q (class_in_groups depth) r le place e) form)
 
-test_from : (a b : ℕ) → a ≤ b → nat_le a b ≡ true
-test_from a b le = grind (arith, nat_tests)
-
 -- the kinds of places outside classes refuse groups too deep
 deep_outside : (k : Kind) (d depth : ℕ) (rest : List ℕ) → Agrees (groups depth) k d rest → 200 ≤ depth → begins_group rest ≡ true → may_open_at k && begins_group rest && nat_le 200 (d + pending_at k) ≡ true
-deep_outside outside d depth rest h deep form = rw form (test_from 200 (d + 0) (omega (arith, h, deep)))
-deep_outside (in_bounds bs) d depth rest h deep form = rw form (test_from 200 (d + 0) (omega (arith, h, deep)))
-deep_outside in_paren d depth rest h deep form = rw form (test_from 200 (d + 1) (omega (arith, h.0, deep)))
+deep_outside outside d depth rest h deep form = rw form (le-leb 200 (d + 0) (omega (arith, h, deep)))
+deep_outside (in_bounds bs) d depth rest h deep form = rw form (le-leb 200 (d + 0) (omega (arith, h, deep)))
+deep_outside in_paren d depth rest h deep form = rw form (le-leb 200 (d + 1) (omega (arith, h.0, deep)))
 deep_outside in_question d depth rest h deep form = absurd h
 deep_outside (behind in_a_class) d depth rest h deep form = absurd h
 deep_outside (in_hex in_a_class value left) d depth rest h deep form = absurd h
@@ -361,26 +357,19 @@ deep_reads text q r le (depth, place, deep, form) e =
 left_within : (text : List ℕ) (q : ℕ) → 0 < length (drop q text) → q < length text
 left_within text q some_left = omega (arith, some_left, length-drop q text)
 
-form_left : (rest : List ℕ) → (begins_unsupported_escape rest || begins_named_group rest) ≡ true → 0 < length rest
-form_left [] h = absurd (false≢true h)
-form_left (c ∷ rest) h = omega arith
-
-escape_left : (rest : List ℕ) → begins_unsupported_escape rest ≡ true → 0 < length rest
-escape_left [] h = absurd (false≢true h)
-escape_left (c ∷ rest) h = omega arith
-
-group_left : (rest : List ℕ) → begins_group rest ≡ true → 0 < length rest
-group_left [] h = absurd (false≢true h)
-group_left (c ∷ rest) h = omega arith
+-- what passes a test that the empty text fails has a character
+test_left : (p : List ℕ → Bool) (rest : List ℕ) → p [] ≡ false → p rest ≡ true → 0 < length rest
+test_left p [] n h = absurd (false≢true (sym n ∙ h))
+test_left p (c ∷ rest) n h = omega arith
 
 -- a form begins with a character
 pub forms_within : (text : List ℕ) (q : ℕ) → IsUnsupportedAt text q → q < length text
-forms_within text q (inl (depth, place, form)) = left_within text q (form_left (drop q text) form)
-forms_within text q (inr (depth, place, form)) = left_within text q (escape_left (drop q text) form)
+forms_within text q (inl (depth, place, form)) = left_within text q (test_left (λ (xs : List ℕ). begins_unsupported_escape xs || begins_named_group xs) (drop q text) refl form)
+forms_within text q (inr (depth, place, form)) = left_within text q (test_left begins_unsupported_escape (drop q text) refl form)
 
 -- the same of a group too deep, and of a quantifier in braces
 pub deep_within : (text : List ℕ) (q : ℕ) → IsTooDeepAt text q → q < length text
-deep_within text q (depth, place, deep, form) = left_within text q (group_left (drop q text) form)
+deep_within text q (depth, place, deep, form) = left_within text q (test_left begins_group (drop q text) refl form)
 
 pub quantifier_within : (text : List ℕ) (q : ℕ) (bounds : List ℕ) (least : ℕ) (most : Option ℕ) → IsQuantifierAt text q bounds least most → q < length text
 quantifier_within text q bounds least most h =
@@ -409,7 +398,7 @@ brace_step (modes.ClassEscape first) r at_m h = absurd (false≢true h)
 brace_step (modes.ClassHex first value left) r at_m h = absurd (false≢true h)
 
 -- a character more in braces
-inner_step : (after_atom : Bool) (c : ℕ) (s : Reading) → s.mode ≡ Braces after_atom → is_inner s.braces c ≡ true → step c s ≡ Some (record s { braces = s.braces ++ c ∷ [] })
+pub inner_step : (after_atom : Bool) (c : ℕ) (s : Reading) → s.mode ≡ Braces after_atom → is_inner s.braces c ≡ true → step c s ≡ Some (record s { braces = s.braces ++ c ∷ [] })
 inner_step after_atom c s m inner =
     ap (λ (j : Mode). step_in j c s) m
     ∙ ap (λ (b : Bool). cond b (Some (record s { braces = s.braces ++ c ∷ [] })) (cond (c == 125) (in_braces_end (bounds_of s.braces) after_atom c s) (plain true false c (flushed after_atom s)))) inner

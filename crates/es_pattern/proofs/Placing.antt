@@ -1,11 +1,11 @@
 -- What the machine has read stands at a place.
 use Rattle.std.proofs.Common.{◌≡◌, ℕ, zero, suc, ◌+◌, ◌-◌, ◌*◌, ◌<◌, ◌≤◌, Bool, true, false, List, [], ◌∷◌, ◌++◌, inl, inr, length, get_or, take, drop, Option, Some, refl, sym, ap, subst, ◌∙◌, arith, lit<}
-use Rattle.std.specs.Prelude.{◌==◌, ◌&&◌, ◌||◌, ◌⊎◌, nat_le, encode_utf8_all, encode_utf8}
+use Rattle.std.specs.Prelude.{◌&&◌, ◌||◌, ◌⊎◌, nat_le, encode_utf8_all, encode_utf8}
 use Rattle.std.proofs.lemmas.Str.{encodes-append, length-encode, len_utf8_ascii}
 use Rattle.std.proofs.lemmas.List.{append_assoc, take-append-drop, take_at, drop_at, drop_more, length-append, length-drop}
 use Rattle.std.proofs.lemmas.Option.{same_Some, option_and_then_some}
-use Rattle.std.proofs.lemmas.Bool.{false≢true}
-use Rattle.std.proofs.lemmas.Bool.Decides.{nat_tests}
+use Rattle.std.proofs.lemmas.Bool.{false≢true, leb-true, and_parts}
+use Rattle.std.proofs.Math.Bool.{or-false}
 use Rattle.es_pattern.specs.Escapes.{is_digit}
 use Rattle.es_pattern.specs.Grammar.{Hex, BeginsCaret, Bounds}
 use Rattle.es_pattern.specs.Places.{Stands, Within, groups, class_in_groups, is_structural, BeginsQuestion, Escaped, other_escape, two_digit_escape, four_digit_escape}
@@ -19,6 +19,8 @@ use Rattle.es_pattern.specs.Reading.{Reading, step, reads, start, bounds_of}
 use Rattle.es_pattern.proofs.BracesRead.{AllInner, inner-append, bounds_sound}
 use Rattle.es_pattern.proofs.Moves.{Kind, outside, in_bounds, in_paren, in_question, behind, in_hex, class_front, inside, kind_in, kind, behind_escape, Moves, step_moves, may_open_at, may_escape_at, pending_at, modes_agree}
 use Rattle.es_pattern.proofs.Moves.{OutsideMoves, by_symbol, by_brace, by_paren, by_close, by_bracket, by_backslash, BoundsMoves, by_inner, by_other, ParenMoves, by_question, by_content, EscapeMoves, by_letter, by_x, by_u, HexMoves, by_last, by_more, InsideMoves, by_end, by_class_backslash, by_member, FrontMoves, by_caret, by_first}
+use Rattle.es_pattern.proofs.Digits.{digit_within}
+use Rattle.es_pattern.proofs.Tests.{below_apart, above_apart}
 
 -- the place of an escape, in a class or not
 abbrev pub within : Bool → ℕ → Within
@@ -26,7 +28,7 @@ within false d = groups d
 within true d = class_in_groups d
 
 -- what a kind of place says of the text and what is left of it
-abbrev pub Placed : Kind → ℕ → List ℕ → List ℕ → Type 0
+abbrev Placed : Kind → ℕ → List ℕ → List ℕ → Type 0
 Placed outside d text rest = Stands text (groups d) rest
 Placed (in_bounds bs) d text rest = AllInner bs × Stands text (groups d) (123 ∷ (bs ++ rest))
 Placed in_paren d text rest = Stands text (groups d) (40 ∷ rest)
@@ -49,15 +51,8 @@ behind_placed true d text rest h = h
 -- digits and commas are symbols
 pub inner_symbol : (c : ℕ) → (is_digit c ≡ true) ⊎ (c ≡ 44) → is_structural c ≡ false
 inner_symbol c (inl h) =
-    let high : c ≤ 57 = grind (arith, nat_tests) in
-    let low : 48 ≤ c = grind (arith, nat_tests) in
-    rw (apart_low 40 (omega (arith, low)), apart_low 41 (omega (arith, low)), apart 91 (omega (arith, high)), apart 92 (omega (arith, high))) refl
-  where
-    apart : (k : ℕ) → c < k → c == k ≡ false
-    apart k lt = grind (arith, nat_tests)
-
-    apart_low : (k : ℕ) → k < c → c == k ≡ false
-    apart_low k lt = grind (arith, nat_tests)
+    let bounds = digit_within c h in
+    rw (above_apart c 40 (omega (arith, bounds.0)), above_apart c 41 (omega (arith, bounds.0)), below_apart c 91 (omega (arith, bounds.1)), below_apart c 92 (omega (arith, bounds.1))) refl
 inner_symbol c (inr h) = subst (λ (x : ℕ). is_structural x ≡ false) (sym h) refl
 
 past_inner : (d : ℕ) (text bs rest : List ℕ) → AllInner bs → Stands text (groups d) (bs ++ rest) → Stands text (groups d) rest
@@ -133,7 +128,7 @@ placed_after [] rest text s r e h = subst (λ (x : Reading). Placed (kind x) (le
 placed_after (c ∷ front) rest text s r e h = option_and_then_some (reads front) (step c s) r e (λ next is again. placed_after front rest text next r again (placed_next (kind s) (length s.groups) c (kind next) (length next.groups) text (front ++ rest) (step_moves c s next is) h))
 
 -- what was read of the text stands at its place
-pub placed_at : (text : List ℕ) (n : ℕ) (r : Reading) → reads (take n text) start ≡ Some r → Placed (kind r) (length r.groups) text (drop n text)
+placed_at : (text : List ℕ) (n : ℕ) (r : Reading) → reads (take n text) start ≡ Some r → Placed (kind r) (length r.groups) text (drop n text)
 placed_at text n r e = placed_after (take n text) (drop n text) text start r e (subst (λ (xs : List ℕ). Stands text (groups 0) xs) (sym (take-append-drop n text)) at_front)
 
 -- `?` begins no form that isn't supported
@@ -154,18 +149,6 @@ no_group_at_question : (rest : List ℕ) → begins_group rest ≡ true → Begi
 no_group_at_question [] h b = b
 no_group_at_question (c ∷ rest) h b = false≢true (subst (λ (n : ℕ). begins_group (n ∷ rest) ≡ true) b h)
 
-left_true : (b : Bool) → b || false ≡ true → b ≡ true
-left_true true e = refl
-left_true false e = e
-
-both_true : (a b : Bool) → a && b ≡ true → (a ≡ true) × (b ≡ true)
-both_true true true e = (refl, refl)
-both_true true false e = absurd (false≢true e)
-both_true false b e = absurd (false≢true e)
-
-from_test : (a b : ℕ) → nat_le a b ≡ true → a ≤ b
-from_test a b e = grind (arith, nat_tests)
-
 -- a form that isn't supported, or a group too deep, where what is left of the text begins
 abbrev UnsupportedHere : List ℕ → List ℕ → Type 0
 UnsupportedHere text rest = ((depth : ℕ) × Stands text (groups depth) rest × ((begins_unsupported_escape rest || begins_named_group rest) ≡ true)) ⊎ ((depth : ℕ) × Stands text (class_in_groups depth) rest × (begins_unsupported_escape rest ≡ true))
@@ -181,8 +164,8 @@ unsupported_kind in_paren d text rest h e = inl (suc d, in_group h (no_form_at_q
 unsupported_kind in_question d text rest h e = absurd (false≢true e)
 unsupported_kind (behind in_a_class) d text rest h e = absurd (false≢true e)
 unsupported_kind (in_hex in_a_class value left) d text rest h e = absurd (false≢true e)
-unsupported_kind class_front d text rest h e = let begins = left_true (begins_unsupported_escape rest) e in inr (d, in_class h (no_escape_at_caret rest begins), begins)
-unsupported_kind inside d text rest h e = inr (d, h, left_true (begins_unsupported_escape rest) e)
+unsupported_kind class_front d text rest h e = let begins = sym (or-false (begins_unsupported_escape rest)) ∙ e in inr (d, in_class h (no_escape_at_caret rest begins), begins)
+unsupported_kind inside d text rest h e = inr (d, h, sym (or-false (begins_unsupported_escape rest)) ∙ e)
 
 -- where the machine refuses a form that isn't supported, one stands
 pub unsupported_placed : (text : List ℕ) (n : ℕ) (r : Reading) → n ≤ length text → reads (take n text) start ≡ Some r → is_unsupported r.mode (drop n text) ≡ true → IsUnsupportedAt text n
@@ -194,9 +177,9 @@ unsupported_placed text n r le e h =
 
 -- the same of a group too deep
 deep_kind : (k : Kind) (d : ℕ) (text rest : List ℕ) → Placed k d text rest → may_open_at k && begins_group rest && nat_le 200 (d + pending_at k) ≡ true → TooDeepHere text rest
-deep_kind outside d text rest h e = let parts = both_true (begins_group rest) (nat_le 200 (d + 0)) e in let deep = from_test 200 (d + 0) parts.1 in (d, h, omega (arith, deep), parts.0)
-deep_kind (in_bounds bs) d text rest h e = let parts = both_true (begins_group rest) (nat_le 200 (d + 0)) e in let deep = from_test 200 (d + 0) parts.1 in (d, past_inner d text bs rest h.0 (past_symbol h.1 refl), omega (arith, deep), parts.0)
-deep_kind in_paren d text rest h e = let parts = both_true (begins_group rest) (nat_le 200 (d + 1)) e in let deep = from_test 200 (d + 1) parts.1 in (suc d, in_group h (no_group_at_question rest parts.0), omega (arith, deep), parts.0)
+deep_kind outside d text rest h e = let parts = and_parts (begins_group rest) (nat_le 200 (d + 0)) e in let deep = leb-true 200 (d + 0) parts.1 in (d, h, omega (arith, deep), parts.0)
+deep_kind (in_bounds bs) d text rest h e = let parts = and_parts (begins_group rest) (nat_le 200 (d + 0)) e in let deep = leb-true 200 (d + 0) parts.1 in (d, past_inner d text bs rest h.0 (past_symbol h.1 refl), omega (arith, deep), parts.0)
+deep_kind in_paren d text rest h e = let parts = and_parts (begins_group rest) (nat_le 200 (d + 1)) e in let deep = leb-true 200 (d + 1) parts.1 in (suc d, in_group h (no_group_at_question rest parts.0), omega (arith, deep), parts.0)
 deep_kind in_question d text rest h e = absurd (false≢true e)
 deep_kind (behind in_a_class) d text rest h e = absurd (false≢true e)
 deep_kind (in_hex in_a_class value left) d text rest h e = absurd (false≢true e)
@@ -212,7 +195,7 @@ deep_placed text n r le e h =
     (subst (λ (p : ℕ). may_open_at (kind r) && begins_group rest && nat_le 200 (length r.groups + p) ≡ true) same.2 (subst (λ (b : Bool). b && begins_group rest && nat_le 200 (length r.groups + pending r.mode) ≡ true) same.0 h))
 
 -- what is left of a text at a place is its end
-abbrev pub EndsWith : List ℕ → List ℕ → Type 0
+abbrev EndsWith : List ℕ → List ℕ → Type 0
 EndsWith text rest = (front : List ℕ) × (text ≡ front ++ rest)
 
 -- the end after its first character, and the end of an end
@@ -232,7 +215,7 @@ escaped_ends more rest (two_digit_escape {text = text} {c = c} h) = let g = hex_
 escaped_ends more rest (four_digit_escape {text = text} {c = c} h) = let g = hex_ends 4 0 text rest c h in (117 ∷ g.0, ap (λ (xs : List ℕ). 117 ∷ xs) g.1)
 
 -- what is left at a place is the end of the text
-pub stands_ends : (text : List ℕ) (place : Within) (rest : List ℕ) → Stands text place rest → EndsWith text rest
+stands_ends : (text : List ℕ) (place : Within) (rest : List ℕ) → Stands text place rest → EndsWith text rest
 stands_ends text place rest at_front = ([], refl)
 stands_ends text place rest (past_symbol {depth = d} {c = c} h apart) = further text c rest (stands_ends text (groups d) (c ∷ rest) h)
 stands_ends text place rest (past_escape {depth = d} {more = more} h x) = beyond text more rest (further text 92 more (stands_ends text (groups d) (92 ∷ more) h)) (escaped_ends more rest x)
@@ -249,7 +232,7 @@ one_byte_more : (c : ℕ) (cs : List ℕ) → c < 128 → length (encode_utf8_al
 one_byte_more c cs low = omega (arith, length-append (encode_utf8 c) (encode_utf8_all cs), length-encode c, len_utf8_ascii c low)
 
 inner_low : (c : ℕ) → (is_digit c ≡ true) ⊎ (c ≡ 44) → c < 128
-inner_low c (inl h) = let high : c ≤ 57 = grind (arith, nat_tests) in omega (arith, high)
+inner_low c (inl h) = omega (arith, digit_within c h)
 inner_low c (inr h) = omega (arith, h)
 
 -- digits and commas take a byte each

@@ -1,18 +1,17 @@
 -- What the machine answers at a character, as the text's faults say it.
-use Rattle.std.proofs.Common.{◌≡◌, ℕ, ◌+◌, ◌-◌, ◌<◌, ◌≤◌, true, false, List, inl, inr, length, get_or, take, drop, Some, None, Option, refl, sym, ap, subst, ◌∙◌, arith}
+use Rattle.std.proofs.Common.{◌≡◌, ℕ, ◌+◌, ◌-◌, ◌<◌, ◌≤◌, true, false, List, inl, inr, length, get_or, take, drop, Some, None, sym, ap, subst, ◌∙◌, arith}
 use Rattle.std.specs.Prelude.{◌⊎◌, Ok, Err, slice_index}
 use Rattle.std.proofs.lemmas.List.{take_rest, get_or_read}
 use Rattle.std.proofs.lemmas.Option.{same_Some}
 use Rattle.es_pattern.specs.Tree.{Tree}
 use Rattle.es_pattern.specs.declared.error.PatternError.{PatternError}
 use Rattle.es_pattern.specs.declared.error.PatternError.TheVariants.{Syntax, Unsupported, CountTooLarge, NoMemory}
-use Rattle.es_pattern.specs.declared.mode.Mode.{Mode}
 use Rattle.es_pattern.specs.Refusals.{is_unsupported, is_too_deep}
 use Rattle.es_pattern.specs.Reading.{Reading, step, reads, start, finished, overcounts_at}
 use Rattle.es_pattern.specs.Parsing.{PassesBefore, Refuses}
 use Rattle.es_pattern.specs.Faults.{IsCaused, IsClear, IsFirstFault, byte_place}
-use Rattle.es_pattern.proofs.Runnings.{lt_or_same}
 use Rattle.es_pattern.proofs.FirstFaults.{Comes, unsupported_first, deep_first, syntax_first, end_first, accepted_clear, braces_fit, overcounts_first}
+use Rattle.es_pattern.proofs.Tests.{lt_or_same}
 
 -- the machine stands before a character, and its groups and the character's byte are counted
 pub record Reaches (text : List ℕ) (n groups place : ℕ) (r : Reading) : Type 0 where

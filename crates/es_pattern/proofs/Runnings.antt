@@ -1,11 +1,10 @@
 -- Runs of a program over a text.
-use Rattle.std.proofs.Common.{◌≡◌, ℕ, zero, suc, ◌+◌, ◌-◌, ◌<◌, ◌≤◌, Bool, true, false, cond, List, [], ◌∷◌, ◌++◌, ◌⊎◌, inl, inr, length, get_or, set, take, replicate, Option, Some, None, refl, sym, ap, subst, ◌∙◌, arith, length-append}
+use Rattle.std.proofs.Common.{◌≡◌, ℕ, zero, suc, ◌+◌, ◌-◌, ◌<◌, ◌≤◌, Bool, true, false, cond, List, [], ◌∷◌, ◌++◌, ◌⊎◌, inl, inr, length, get_or, set, take, Option, Some, None, refl, sym, ap, subst, ◌∙◌, arith, length-append}
 use Rattle.std.specs.Prelude.{slice_get, OnOk, Result, Ok, Err, Contains, ◌==◌, nat_le}
 use Rattle.std.specs.List.{sum_by}
-use Rattle.std.proofs.lemmas.List.{length-set, length-replicate}
-use Rattle.std.proofs.lemmas.Bool.{cases_eq}
+use Rattle.std.proofs.lemmas.List.{length-set}
 use Rattle.std.proofs.lemmas.Bool.Decides.{nat_tests}
-use Rattle.std.proofs.lemmas.Option.{slice_get_within, slice_get_read}
+use Rattle.std.proofs.lemmas.Option.{slice_get_within, slice_get_read, same_Some}
 use Rattle.std.proofs.lemmas.List.Elements.{Contains-append_left, Contains-append_right, Contains-append_cases, Contains-push, Contains-push_cases}
 use Rattle.es_pattern.specs.declared.step.Step.{Step}
 use Rattle.es_pattern.specs.declared.step.Step.TheVariants.{Pass, Fork, Jump, Back}
@@ -21,21 +20,12 @@ use Rattle.es_pattern.specs.Program.{Does, Goes, Runs}
 use Rattle.es_pattern.specs.Passing.{IsSingle, PassesPiece}
 use Rattle.es_pattern.specs.Reaching.{Advances, Ends, FromSome, IsPassBelow, PassesBelow, Reaches, Settles, if_within, same_place, next_place, with_start}
 use Rattle.es_pattern.proofs.Passings.{tree_at_is}
+use Rattle.es_pattern.proofs.Tests.{lt_from, lt_or_same}
 
 pub below_at : (program : List Step) (count at : ℕ) (s : Step) → PassesBelow program count → slice_get program at ≡ Some s → IsPassBelow s count
 below_at [] count at s below h = cc
 below_at (t ∷ program) count zero s below h = let e : t ≡ s = cc in subst (λ (u : Step). IsPassBelow u count) e below.0
 below_at (t ∷ program) count (suc at) s below h = below_at program count at s below.1 h
-
-pub lt_from : (a b : ℕ) → a ≤ b → (a ≡ b → ⊥) → a < b
-lt_from a b le apart = grind (arith)
-
-pub lt_or_same : (a b : ℕ) → a ≤ b → (a < b) ⊎ (a ≡ b)
-lt_or_same a b le = by_order (cases_eq a b)
-  where
-    by_order : (a ≡ b) ⊎ (a ≡ b → ⊥) → (a < b) ⊎ (a ≡ b)
-    by_order (inl e) = inr e
-    by_order (inr apart) = inl (lt_from a b le apart)
 
 contains_none : (q : ℕ) → Contains [] q → ⊥
 contains_none q h = omega (arith, h.1)
@@ -67,14 +57,11 @@ ends_near pieces text number i j h = by_piece h.piece h.single (subst (λ (t : T
     by_piece (Lookahead false) single s = inl (sym s.0)
 
 module _ (passes : ℕ → ℕ → ℕ → Type 0) (program : List Step) (at : ℕ) (s : Step) (stands : slice_get program at ≡ Some s) where
-  same_step : (t u : Step) → Some t ≡ Some u → t ≡ u
-  same_step t u e = cc
-
   goes_by : (i next j : ℕ) → Does passes s at i next j → Goes passes program at i next j
   goes_by i next j d = record { step = s; stands = stands; does = d }
 
   does_by : (i next j : ℕ) → Goes passes program at i next j → Does passes s at i next j
-  does_by i next j g = subst (λ (t : Step). Does passes t at i next j) (same_step g.step s (sym g.stands ∙ stands)) g.does
+  does_by i next j g = subst (λ (t : Step). Does passes t at i next j) (same_Some g.step s (sym g.stands ∙ stands)) g.does
 
   -- appending lists of next steps, each of which the step goes to, and which are all
   module _ (size place : ℕ) (waiting next xs ys : List ℕ) where
@@ -200,7 +187,7 @@ advances_if (Ok x) passes program size at place waiting next xs ys waiting' next
     subst (λ (v : List ℕ). Advances passes program size at place waiting next v next') (sym h.0) (subst (λ (v : List ℕ). Advances passes program size at place waiting next xs v) (sym h.1) a)
 advances_if (Err e) passes program size at place waiting next xs ys waiting' next' h a = h
 
-abbrev pub IsSeen : List Bool → ℕ → Type 0
+abbrev IsSeen : List Bool → ℕ → Type 0
 IsSeen seen q = slice_get seen q ≡ Some true
 
 -- what the loop over the steps that wait at a place keeps
@@ -213,11 +200,6 @@ pub record Settling (passes : ℕ → ℕ → ℕ → Type 0) (program : List St
   -- what a step that was taken goes to waits, or was taken
   pub closed : (at q j : ℕ) → IsSeen seen at → Goes passes program at place q j → q ≤ length program → ((j ≡ place) × (Contains waiting q ⊎ IsSeen seen q)) ⊎ ((j ≡ place + 1) × Contains next q)
   pub kept : (q : ℕ) → Contains first q → q ≤ length program → Contains waiting q ⊎ IsSeen seen q
-
-none_seen : (n q : ℕ) → IsSeen (replicate n false) q → ⊥
-none_seen zero q h = cc
-none_seen (suc n) zero h = cc
-none_seen (suc n) (suc q) h = none_seen n q h
 
 seen_there : (seen : List Bool) (at : ℕ) → at < length seen → IsSeen (set seen at true) at
 seen_there [] at h = absurd (omega (arith, h))
@@ -251,16 +233,6 @@ runs_within passes program zero q i r = omega (arith, r)
 runs_within passes program (suc n) q i r = let g = r.2 in omega (arith, slice_get_within program q g.step g.stands)
 
 module _ (passes : ℕ → ℕ → ℕ → Type 0) (program : List Step) (size : ℕ) (first : List ℕ) (place : ℕ) where
-  pub settling_start : Settling passes program size first place first (replicate (length program) false) []
-  settling_start = record {
-    same = length-replicate (length program) false;
-    waits_by = λ q n h r. (q, n, h, r);
-    comes_by = λ q n h r. absurd (contains_none q h);
-    within = λ q h. absurd (contains_none q h);
-    closed = λ at q j seen g le. absurd (none_seen (length program) at seen);
-    kept = λ q h le. inl h;
-  }
-
   pub popping : (whole waiting : List ℕ) (at : ℕ) (seen : List Bool) (next : List ℕ) → whole ≡ waiting ++ at ∷ [] → Settling passes program size first place whole seen next → Settling passes program size first place (waiting ++ at ∷ []) seen next
   popping whole waiting at seen next e s = subst (λ (w : List ℕ). Settling passes program size first place w seen next) e s
 
@@ -380,13 +352,6 @@ pub record Started (passes : ℕ → ℕ → ℕ → Type 0) (program : List Ste
   pub complete : (i n : ℕ) → first ≤ i → i ≤ place → i ≤ last → Runs passes program n 0 i → FromSome passes program waiting place
 
 module _ (passes : ℕ → ℕ → ℕ → Type 0) (program : List Step) (size first last : ℕ) where
-  pub seeking_start : (place : ℕ) → place ≤ first → Seeking passes program size first last place []
-  seeking_start place le = record {
-    sound = λ q n h r. absurd (contains_none q h);
-    complete = λ i n low high below r. absurd (omega (arith, low, high, le));
-    within = λ q h. absurd (contains_none q h);
-  }
-
   module _ (place : ℕ) (waiting : List ℕ) (s : Seeking passes program size first last place waiting) where
     pub started_here : first ≤ place → place ≤ last → Started passes program first last place (waiting ++ 0 ∷ [])
     started_here low high = record {

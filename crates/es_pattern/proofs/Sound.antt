@@ -1,10 +1,9 @@
 -- What is read as a pattern is one, with the tree that was read.
-use Rattle.std.proofs.Common.{◌≡◌, ℕ, zero, suc, ◌+◌, ◌-◌, ◌*◌, ◌<◌, ◌≤◌, Bool, true, false, cond, List, [], ◌∷◌, ◌++◌, inl, inr, Option, Some, None, refl, sym, ap, subst, ◌∙◌, arith}
+use Rattle.std.proofs.Common.{◌≡◌, ℕ, zero, suc, ◌+◌, ◌-◌, ◌*◌, ◌≤◌, Bool, true, false, cond, List, [], ◌∷◌, ◌++◌, inl, inr, Option, Some, None, refl, sym, ap, subst, ◌∙◌, arith}
 use Rattle.std.specs.Prelude.{◌==◌, ◌&&◌, ◌||◌, ◌⊎◌, max, nat_le, nat_lt, option_and_then}
 use Rattle.std.proofs.lemmas.List.{append_assoc}
 use Rattle.std.proofs.lemmas.Option.{same_Some}
-use Rattle.std.proofs.lemmas.Bool.{false≢true}
-use Rattle.std.proofs.lemmas.Bool.Decides.{nat_tests}
+use Rattle.std.proofs.lemmas.Bool.{false≢true, eqb-true, eqb-false, leb-true}
 use Rattle.es_pattern.specs.Tree.{Tree, CharRange, nothing, one_of, text_start, text_end, word_boundary, sequence, choice, repetition, lookahead}
 use Rattle.es_pattern.specs.Pieces.{top, below}
 use Rattle.es_pattern.specs.Escapes.{range, is_digit, set_of, escaped, hex_value, is_surrogate}
@@ -19,17 +18,13 @@ use Rattle.es_pattern.specs.declared.mode.Mode.TheVariants as modes
 use Rattle.es_pattern.specs.Reading.{Reading, charged, with_term, top_product, products_below, closed_by, quantified, marked, term_begun, plain, with_set, with_char, asserted, joined, settled, with_atom, opened, at, leaf, chosen, greatest_from, scalar, hex_to, hex_by, flushed, flushed_chars, bounds_of, in_braces_end, is_inner, may_be_comma, in_braces, ranged, class_end, item, next_item, after_char, class_char, after_dash, class_char_if, can_end, class_zero, with_ranges, class_set, class_hex_to, class_hex_by, step_in, step, ended, finished_in, finished, start, reads, accepted}
 use Rattle.es_pattern.specs.Limits.{count_of}
 use Rattle.es_pattern.proofs.BracesRead.{AllInner, inner-append, bounds_sound, breaks, breaks_at_end}
+use Rattle.es_pattern.proofs.Tests.{no_some, below_apart, above_apart}
+use Rattle.es_pattern.proofs.Digits.{digit_within}
 
 -- a test's two ways
 pub if_else : (b : Bool) (x y : Option Reading) (s : Reading) (P : Type 0) → cond b x y ≡ Some s → (b ≡ true → x ≡ Some s → P) → (b ≡ false → y ≡ Some s → P) → P
 if_else true x y s P e yes_ no_ = yes_ refl e
 if_else false x y s P e yes_ no_ = no_ refl e
-
-pub is_char : (c k : ℕ) → c == k ≡ true → c ≡ k
-is_char c k h = grind (arith, nat_tests)
-
-pub is_no_char : (c k : ℕ) → c == k ≡ false → c ≡ k → ⊥
-is_no_char c k h e = grind (arith, nat_tests)
 
 -- what a quantifier, greedy or lazy, or none, makes of an atom
 pub data Suffix : Tree → Tree → List ℕ → List ℕ → Type 0 where
@@ -37,7 +32,7 @@ pub data Suffix : Tree → Tree → List ℕ → List ℕ → Type 0 where
   greedy_suffix : {a : Tree} {least : ℕ} {most : Option ℕ} {text rest : List ℕ} → Mark least most text rest → Suffix a (repetition least most a) text rest
   lazy_suffix : {a : Tree} {least : ℕ} {most : Option ℕ} {text rest : List ℕ} → Mark least most text (63 ∷ rest) → Suffix a (repetition least most a) text rest
 
-pub suffix_term : {a t : Tree} {text mid rest : List ℕ} → Reads (atom a) text mid → Suffix a t mid rest → Reads (term t) text rest
+suffix_term : {a t : Tree} {text mid rest : List ℕ} → Reads (atom a) text mid → Suffix a t mid rest → Reads (term t) text rest
 suffix_term r no_suffix = once r
 suffix_term r (greedy_suffix m) = greedy r m
 suffix_term r (lazy_suffix m) = lazy r m
@@ -63,7 +58,7 @@ pub data After : ℕ → List CharRange → List ℕ → List ℕ → List CharR
   after_range : {c d : ℕ} {ranges all : List CharRange} {mid after rest : List ℕ} → ClassChar d mid after → c ≤ d → Items false (ranges ++ range c d ∷ []) after rest all → After c ranges (45 ∷ mid) rest all
   after_dash_end : {c : ℕ} {ranges : List CharRange} {rest : List ℕ} → c ≤ 45 → After c ranges (45 ∷ 45 ∷ 93 ∷ rest) rest (ranges ++ range c 45 ∷ [])
 
-pub first_after : {f : Bool} {c : ℕ} {ranges all : List CharRange} {text mid rest : List ℕ} → FirstChar f c text mid → After c ranges mid rest all → Items f ranges text rest all
+first_after : {f : Bool} {c : ℕ} {ranges all : List CharRange} {text mid rest : List ℕ} → FirstChar f c text mid → After c ranges mid rest all → Items f ranges text rest all
 first_after r (after_one i) = one_char r i
 first_after r (after_range d le i) = from_to r d le i
 first_after r (after_dash_end le) = to_dash r le
@@ -72,7 +67,7 @@ pub data EscapeItem : List CharRange → List ℕ → List ℕ → List CharRang
   escape_set : {letter : ℕ} {ranges more all : List CharRange} {text rest : List ℕ} → set_of letter ≡ Some more → Items false (ranges ++ more) text rest all → EscapeItem ranges (letter ∷ text) rest all
   escape_char : {c : ℕ} {ranges all : List CharRange} {text mid rest : List ℕ} → ClassChar c (92 ∷ text) mid → After c ranges mid rest all → EscapeItem ranges text rest all
 
-pub escape_item : {f : Bool} {ranges all : List CharRange} {text rest : List ℕ} → EscapeItem ranges text rest all → Items f ranges (92 ∷ text) rest all
+escape_item : {f : Bool} {ranges all : List CharRange} {text rest : List ℕ} → EscapeItem ranges text rest all → Items f ranges (92 ∷ text) rest all
 escape_item (escape_set e i) = one_set e i
 escape_item (escape_char r a) = first_after (other_char r) a
 
@@ -95,6 +90,10 @@ InClass is_first r rest t = (all : List CharRange) × (mid : List ℕ) × Items 
 
 abbrev pub AfterChar : ℕ → Reading → List ℕ → Tree → Type 0
 AfterChar c r rest t = (all : List CharRange) × (mid : List ℕ) × After c r.ranges rest mid all × AfterClass r t all mid
+
+-- what is left of a class, after a character of it that ends a range or begins an item
+abbrev pub AfterEnd : Option ℕ → ℕ → Reading → List ℕ → Tree → Type 0
+AfterEnd first d r rest t = (all : List CharRange) × (mid : List ℕ) × Ended first d r.ranges rest mid all × AfterClass r t all mid
 
 abbrev pub InEscape : Option ℕ → Reading → List ℕ → Tree → Type 0
 InEscape None r rest t = (all : List CharRange) × (mid : List ℕ) × EscapeItem r.ranges rest mid all × AfterClass r t all mid
@@ -127,12 +126,13 @@ CompletesIn (modes.ClassHex first value left) r rest t =
 abbrev pub Completes : Reading → List ℕ → Tree → Type 0
 Completes r rest t = CompletesIn r.mode r rest t
 
+-- the machine goes on, to what the rest of the text completes
+abbrev pub Taken : Option Reading → List ℕ → Tree → Type 0
+Taken o w t = (s : Reading) × (o ≡ Some s) × Completes s w t
+
 -- what is completed from the new reading on
 pub completes_at : (x s : Reading) (w : List ℕ) (t : Tree) → Some x ≡ Some s → Completes s w t → Completes x w t
 completes_at x s w t e h = subst (λ (y : Reading). Completes y w t) (sym (same_Some x s e)) h
-
-pub no_reading : {P : Type 0} (s : Reading) → ◌≡◌ {A = Option Reading} None (Some s) → P
-no_reading s e = cc
 
 module _ (ts : List Tree) (gs : List Open) (t : Tree) where
   pub term_next : (u : Tree) (text mid : List ℕ) → Reads (term u) text mid → InTerm (sequence (top ts) u ∷ below ts) gs mid t → InTerm ts gs text t
@@ -146,7 +146,7 @@ module _ (ts : List Tree) (gs : List Open) (t : Tree) where
 
   -- at a given character
   pub term_at : (c k : ℕ) (w : List ℕ) → c == k ≡ true → InTerm ts gs (k ∷ w) t → InTerm ts gs (c ∷ w) t
-  term_at c k w e i = subst (λ (d : ℕ). InTerm ts gs (d ∷ w) t) (sym (is_char c k e)) i
+  term_at c k w e i = subst (λ (d : ℕ). InTerm ts gs (d ∷ w) t) (sym (eqb-true c k e)) i
 
   pub opened_next : (text w : List ℕ) → ((g : Tree) (rest : List ℕ) → Reads (alternatives never nothing g) w (41 ∷ rest) → Reads (atom g) text rest) → InTerm (nothing ∷ never ∷ ts) (Group ∷ gs) w t → InTerm ts gs text t
   opened_next text w build i =
@@ -161,8 +161,8 @@ module _ (ts : List Tree) (gs : List Open) (t : Tree) where
       term_next (lookahead negated i.1) text c.0 (build i.1 c.0 body) c.2
 
 -- the end of a group
-pub closed_next : (gs : List Open) (r s : Reading) (w : List ℕ) (t : Tree) → r.groups ≡ gs → closed_by gs r ≡ Some s → Completes s w t → InTerm r.trees gs (41 ∷ w) t
-closed_next [] r s w t g e h = no_reading s e
+closed_next : (gs : List Open) (r s : Reading) (w : List ℕ) (t : Tree) → r.groups ≡ gs → closed_by gs r ≡ Some s → Completes s w t → InTerm r.trees gs (41 ∷ w) t
+closed_next [] r s w t g e h = no_some s e
 closed_next (Group ∷ gs) r s w t g e h =
     let i = completes_at (at Atom (chosen (record r { groups = gs; products = products_below r.products; product = top_product r.products; atom_product = r.product }))) s w t e h in
     (41 ∷ w, choice (top (below r.trees)) (top r.trees), ends, (w, refl, i))
@@ -172,14 +172,14 @@ closed_next (Ahead negated ∷ gs) r s w t g e h =
     let i = completes_at x s w t e h in
     (41 ∷ w, choice (top (below r.trees)) (top r.trees), ends, (w, refl, i))
 
-pub all_false : (c : ℕ) → c == 94 ≡ false → c == 36 ≡ false → c == 92 ≡ false → c == 46 ≡ false → c == 42 ≡ false → c == 43 ≡ false → c == 63 ≡ false → c == 40 ≡ false → c == 41 ≡ false → c == 91 ≡ false → c == 124 ≡ false → is_plain c ≡ true
+all_false : (c : ℕ) → c == 94 ≡ false → c == 36 ≡ false → c == 92 ≡ false → c == 46 ≡ false → c == 42 ≡ false → c == 43 ≡ false → c == 63 ≡ false → c == 40 ≡ false → c == 41 ≡ false → c == 91 ≡ false → c == 124 ≡ false → is_plain c ≡ true
 all_false c a b d e f g h i j k l = rw (a, b, d, e, f, g, h, i, j, k, l)
 
 pub no_braces : (c : ℕ) (w : List ℕ) → (c ≡ 123 → ⊥) → BeginsBraces (c ∷ w) → ⊥
 no_braces c w apart h = apart (cc (h.5))
 
 -- a character where a term may begin, that is no quantifier and no `{`
-pub term_step : (c : ℕ) (r s : Reading) (w : List ℕ) (t : Tree) → c == 42 ≡ false → c == 43 ≡ false → c == 63 ≡ false → c == 123 ≡ false → term_begun c r ≡ Some s → Completes s w t → InTerm r.trees r.groups (c ∷ w) t
+term_step : (c : ℕ) (r s : Reading) (w : List ℕ) (t : Tree) → c == 42 ≡ false → c == 43 ≡ false → c == 63 ≡ false → c == 123 ≡ false → term_begun c r ≡ Some s → Completes s w t → InTerm r.trees r.groups (c ∷ w) t
 term_step c r s w t n42 n43 n63 n123 e h =
     let P : Type 0 = InTerm r.trees r.groups (c ∷ w) t in
     let ts = r.trees in
@@ -192,14 +192,14 @@ term_step c r s w t n42 n43 n63 n123 e h =
     if_else (c == 91) _ _ s P e6 (λ y x. term_at ts gs t c 91 w y (class_opened ts gs w (completes_at (at ClassOpen (record r { negated = false; ranges = [] })) s w t x h))) (λ n91 e7.
     if_else (c == 92) _ _ s P e7 (λ y x. term_at ts gs t c 92 w y (completes_at (at Escape r) s w t x h)) (λ n92 e8.
     if_else (c == 46) _ _ s P e8 (λ y x. term_at ts gs t c 46 w y (atom_next ts gs t any (46 ∷ w) w dot (completes_at (with_atom any r) s w t x h))) (λ n46 x.
-    atom_next ts gs t (char c) (c ∷ w) w (ordinary (all_false c n94 n36 n92 n46 n42 n43 n63 n40 n41 n91 n124) (no_braces c w (is_no_char c 123 n123))) (completes_at (with_atom (char c) r) s w t x h)))))))))
+    atom_next ts gs t (char c) (c ∷ w) w (ordinary (all_false c n94 n36 n92 n46 n42 n43 n63 n40 n41 n91 n124) (no_braces c w (eqb-false c 123 n123))) (completes_at (with_atom (char c) r) s w t x h)))))))))
   where
     class_opened : (ts : List Tree) (gs : List Open) (w : List ℕ) → CompletesIn ClassOpen (record { trees = ts; groups = gs; mode = ClassOpen; braces = []; negated = false; ranges = []; product = 1; atom_product = 1; products = [] }) w t → InTerm ts gs (91 ∷ w) t
     class_opened ts gs w (inl h) = let i = h.1 in atom_next ts gs t (one_of false i.0) (91 ∷ w) i.1 (class h.0 i.2) i.3
     class_opened ts gs w (inr h) = let i = h.2 in subst (λ (v : List ℕ). InTerm ts gs (91 ∷ v) t) (sym h.1) (atom_next ts gs t (one_of true i.0) (91 ∷ 94 ∷ h.0) i.1 (negated_class i.2) i.3)
 
 -- a quantifier after an atom
-pub mark_step : (r s : Reading) (product least : ℕ) (most : Option ℕ) (w text : List ℕ) (t : Tree) → ((rest : List ℕ) → rest ≡ w → Mark least most text rest) → quantified least most (charged product r) ≡ s → Completes s w t → AfterAtom (top r.trees) (below r.trees) r.groups text t
+mark_step : (r s : Reading) (product least : ℕ) (most : Option ℕ) (w text : List ℕ) (t : Tree) → ((rest : List ℕ) → rest ≡ w → Mark least most text rest) → quantified least most (charged product r) ≡ s → Completes s w t → AfterAtom (top r.trees) (below r.trees) r.groups text t
 mark_step r s product least most w text t mark e h = by_lazy (subst (λ (y : Reading). Completes y w t) (sym e) h)
   where
     ts : List Tree
@@ -210,7 +210,7 @@ mark_step r s product least most w text t mark e h = by_lazy (subst (λ (y : Rea
     by_lazy (inr l) = (repetition least most (top r.trees), l.0, lazy_suffix (mark (63 ∷ l.0) (sym l.1)), l.2)
 
 -- where a term may begin, or a quantifier after an atom
-pub plain_step : (after_atom may_be_lazy : Bool) (c : ℕ) (r s : Reading) (w : List ℕ) (t : Tree) → plain after_atom may_be_lazy c r ≡ Some s → Completes s w t → Base after_atom r (c ∷ w) t ⊎ ((may_be_lazy ≡ true) × (c ≡ 63) × InTerm r.trees r.groups w t)
+plain_step : (after_atom may_be_lazy : Bool) (c : ℕ) (r s : Reading) (w : List ℕ) (t : Tree) → plain after_atom may_be_lazy c r ≡ Some s → Completes s w t → Base after_atom r (c ∷ w) t ⊎ ((may_be_lazy ≡ true) × (c ≡ 63) × InTerm r.trees r.groups w t)
 plain_step after_atom may_be_lazy c r s w t e h =
     let P : Type 0 = Base after_atom r (c ∷ w) t ⊎ ((may_be_lazy ≡ true) × (c ≡ 63) × InTerm r.trees r.groups w t) in
     if_else (c == 42) _ _ s P e (λ y x. inl (marked_step after_atom 0 None 42 y (λ rest same. subst (λ (v : List ℕ). Mark 0 None (42 ∷ w) v) (sym same) star_mark) x)) (λ n42 e2.
@@ -219,14 +219,14 @@ plain_step after_atom may_be_lazy c r s w t e h =
     if_else (c == 123) _ _ s P e4 (λ y x. inl (braced after_atom y x)) (λ n123 x. inl (settled_step after_atom n42 n43 n63 n123 x)))))
   where
     based : (after : Bool) (k : ℕ) → c == k ≡ true → Base after r (k ∷ w) t → Base after r (c ∷ w) t
-    based after k y b = subst (λ (d : ℕ). Base after r (d ∷ w) t) (sym (is_char c k y)) b
+    based after k y b = subst (λ (d : ℕ). Base after r (d ∷ w) t) (sym (eqb-true c k y)) b
 
     marked_step : (after : Bool) (least : ℕ) (most : Option ℕ) (k : ℕ) → c == k ≡ true → ((rest : List ℕ) → rest ≡ w → Mark least most (k ∷ w) rest) → marked after r.atom_product least most r ≡ Some s → Base after r (c ∷ w) t
     marked_step true least most k y mark x = based true k y (mark_step r s r.atom_product least most w (k ∷ w) t mark (same_Some (quantified least most (charged r.atom_product r)) s x) h)
-    marked_step false least most k y mark x = no_reading s x
+    marked_step false least most k y mark x = no_some s x
 
     lazy_by : (after may : Bool) → c == 63 ≡ true → cond may (Some (at Term r)) (marked after r.atom_product 0 (Some 1) r) ≡ Some s → Base after r (c ∷ w) t ⊎ ((may ≡ true) × (c ≡ 63) × InTerm r.trees r.groups w t)
-    lazy_by after true y x = inr (refl, is_char c 63 y, completes_at (at Term r) s w t x h)
+    lazy_by after true y x = inr (refl, eqb-true c 63 y, completes_at (at Term r) s w t x h)
     lazy_by after false y x = inl (marked_step after 0 (Some 1) 63 y (λ rest same. subst (λ (v : List ℕ). Mark 0 (Some 1) (63 ∷ w) v) (sym same) question_mark) x)
 
     lazy_step : c == 63 ≡ true → cond may_be_lazy (Some (at Term r)) (marked after_atom r.atom_product 0 (Some 1) r) ≡ Some s → Base after_atom r (c ∷ w) t ⊎ ((may_be_lazy ≡ true) × (c ≡ 63) × InTerm r.trees r.groups w t)
@@ -244,7 +244,7 @@ plain_step after_atom may_be_lazy c r s w t e h =
     settled_step false n42 n43 n63 n123 x = term_step c r s w t n42 n43 n63 n123 x h
 
 -- the same without what makes a quantifier lazy
-pub base_step : (after_atom : Bool) (c : ℕ) (r s : Reading) (w : List ℕ) (t : Tree) → plain after_atom false c r ≡ Some s → Completes s w t → Base after_atom r (c ∷ w) t
+base_step : (after_atom : Bool) (c : ℕ) (r s : Reading) (w : List ℕ) (t : Tree) → plain after_atom false c r ≡ Some s → Completes s w t → Base after_atom r (c ∷ w) t
 base_step after_atom c r s w t e h = by_cases (plain_step after_atom false c r s w t e h)
   where
     by_cases : Base after_atom r (c ∷ w) t ⊎ ((false ≡ true) × (c ≡ 63) × InTerm r.trees r.groups w t) → Base after_atom r (c ∷ w) t
@@ -254,25 +254,15 @@ base_step after_atom c r s w t e h = by_cases (plain_step after_atom false c r s
 -- digits and commas stand for themselves
 pub digit_plain : (c : ℕ) → is_digit c ≡ true → is_plain c ≡ true
 digit_plain c h =
-    let low : 48 ≤ c = grind (arith, nat_tests) in
-    let high : c ≤ 57 = grind (arith, nat_tests) in
-    all_false c (apart 94 (omega (arith, high))) (apart_low 36 (omega (arith, low))) (apart 92 (omega (arith, high))) (apart_low 46 (omega (arith, low))) (apart_low 42 (omega (arith, low))) (apart_low 43 (omega (arith, low)))
-    (apart 63 (omega (arith, high))) (apart_low 40 (omega (arith, low))) (apart_low 41 (omega (arith, low))) (apart 91 (omega (arith, high))) (apart 124 (omega (arith, high)))
-  where
-    apart : (k : ℕ) → c < k → c == k ≡ false
-    apart k lt = grind (arith, nat_tests)
+    let bounds = digit_within c h in
+    all_false c (below_apart c 94 (omega (arith, bounds.1))) (above_apart c 36 (omega (arith, bounds.0))) (below_apart c 92 (omega (arith, bounds.1))) (above_apart c 46 (omega (arith, bounds.0))) (above_apart c 42 (omega (arith, bounds.0))) (above_apart c 43 (omega (arith, bounds.0)))
+    (below_apart c 63 (omega (arith, bounds.1))) (above_apart c 40 (omega (arith, bounds.0))) (above_apart c 41 (omega (arith, bounds.0))) (below_apart c 91 (omega (arith, bounds.1))) (below_apart c 124 (omega (arith, bounds.1)))
 
-    apart_low : (k : ℕ) → k < c → c == k ≡ false
-    apart_low k lt = grind (arith, nat_tests)
-
-pub inner_atom : (c : ℕ) (rest : List ℕ) → (is_digit c ≡ true) ⊎ (c ≡ 44) → Reads (atom (char c)) (c ∷ rest) rest
-inner_atom c rest (inl h) = ordinary (digit_plain c h) (no_braces c rest (λ e. no_digit c h e))
-  where
-    no_digit : (c : ℕ) → is_digit c ≡ true → c ≡ 123 → ⊥
-    no_digit c h e = grind (arith, nat_tests)
+inner_atom : (c : ℕ) (rest : List ℕ) → (is_digit c ≡ true) ⊎ (c ≡ 44) → Reads (atom (char c)) (c ∷ rest) rest
+inner_atom c rest (inl h) = ordinary (digit_plain c h) (no_braces c rest (λ e. omega (arith, digit_within c h, e)))
 inner_atom c rest (inr h) = subst (λ (d : ℕ). Reads (atom (char d)) (d ∷ rest) rest) (sym h) (ordinary refl (no_braces 44 rest (λ e. absurd (omega (arith, e)))))
 
-pub flushed_chars_next : (cs : List ℕ) (r : Reading) (rest : List ℕ) (t : Tree) → AllInner cs → AfterAtom (top (flushed_chars cs r).trees) (below (flushed_chars cs r).trees) (flushed_chars cs r).groups rest t
+flushed_chars_next : (cs : List ℕ) (r : Reading) (rest : List ℕ) (t : Tree) → AllInner cs → AfterAtom (top (flushed_chars cs r).trees) (below (flushed_chars cs r).trees) (flushed_chars cs r).groups rest t
     → AfterAtom (top r.trees) (below r.trees) r.groups (cs ++ rest) t
 flushed_chars_next [] r rest t h a = a
 flushed_chars_next (c ∷ cs) r rest t h a =
@@ -293,18 +283,18 @@ pub inner_is : (bs : List ℕ) (c : ℕ) → is_inner bs c ≡ true → (is_digi
 inner_is bs c h = by_digit (is_digit c) refl h
   where
     by_comma : (b : Bool) → c == 44 ≡ b → b && may_be_comma bs ≡ true → (is_digit c ≡ true) ⊎ (c ≡ 44)
-    by_comma true e g = inr (is_char c 44 e)
+    by_comma true e g = inr (eqb-true c 44 e)
     by_comma false e g = absurd (false≢true g)
 
     by_digit : (b : Bool) → is_digit c ≡ b → b || (c == 44) && may_be_comma bs ≡ true → (is_digit c ≡ true) ⊎ (c ≡ 44)
     by_digit true e g = inl e
     by_digit false e g = by_comma (c == 44) refl g
 
-pub braces_step : (after_atom : Bool) (c : ℕ) (r s : Reading) (w : List ℕ) (t : Tree) → r.mode ≡ Braces after_atom → in_braces after_atom c r ≡ Some s → Completes s w t → AllInner r.braces → Base after_atom r (123 ∷ (r.braces ++ c ∷ w)) t
+braces_step : (after_atom : Bool) (c : ℕ) (r s : Reading) (w : List ℕ) (t : Tree) → r.mode ≡ Braces after_atom → in_braces after_atom c r ≡ Some s → Completes s w t → AllInner r.braces → Base after_atom r (123 ∷ (r.braces ++ c ∷ w)) t
 braces_step after_atom c r s w t m e h inner =
     let P : Type 0 = Base after_atom r (123 ∷ (r.braces ++ c ∷ w)) t in
     if_else (is_inner r.braces c) _ _ s P e (λ y x. goes_on y x) (λ out e2.
-    if_else (c == 125) _ _ s P e2 (λ y x. at_end (bounds_of r.braces) refl y out x) (λ n125 x. broken out (λ e125. absurd (is_no_char c 125 n125 e125)) x))
+    if_else (c == 125) _ _ s P e2 (λ y x. at_end (bounds_of r.braces) refl y out x) (λ n125 x. broken out (λ e125. absurd (eqb-false c 125 n125 e125)) x))
   where
     more : Reading
     more = record r { braces = r.braces ++ c ∷ [] }
@@ -324,9 +314,9 @@ braces_step after_atom c r s w t m e h inner =
 
     counted : (after : Bool) (n : ℕ) (k : Option ℕ) → bounds_of r.braces ≡ Some (n, k) → c == 125 ≡ true → marked after (r.atom_product * count_of n k) n k r ≡ Some s → Base after r (123 ∷ (r.braces ++ c ∷ w)) t
     counted true n k b y x =
-        subst (λ (d : ℕ). AfterAtom (top r.trees) (below r.trees) r.groups (123 ∷ (r.braces ++ d ∷ w)) t) (sym (is_char c 125 y))
+        subst (λ (d : ℕ). AfterAtom (top r.trees) (below r.trees) r.groups (123 ∷ (r.braces ++ d ∷ w)) t) (sym (eqb-true c 125 y))
         (mark_step r s (r.atom_product * count_of n k) n k w (123 ∷ (r.braces ++ 125 ∷ w)) t (λ rest same. subst (λ (v : List ℕ). Mark n k (123 ∷ (r.braces ++ 125 ∷ w)) v) (sym same) (braces_mark r.braces (bounds_sound r.braces n k b))) (same_Some (quantified n k (charged (r.atom_product * count_of n k) r)) s x) h)
-    counted false n k b y x = no_reading s x
+    counted false n k b y x = no_some s x
 
     at_end : (o : Option (ℕ × Option ℕ)) → bounds_of r.braces ≡ o → c == 125 ≡ true → is_inner r.braces c ≡ false → in_braces_end o after_atom c r ≡ Some s → Base after_atom r (123 ∷ (r.braces ++ c ∷ w)) t
     at_end None b y out x = broken out (λ e125. b) x
@@ -351,24 +341,24 @@ hex_guard value zero x y s P e then_ = absurd (never_both (nat_lt 0xfff value) e
     never_both : (b : Bool) → cond (b || true) None y ≡ Some s → ⊥
     never_both true g = cc
     never_both false g = cc
-hex_guard value (suc l) x y s P e then_ = if_else (nat_lt 0xfff value || (suc l == 0)) None y s P e (λ b g. no_reading s g) (λ b g. then_ l refl g)
+hex_guard value (suc l) x y s P e then_ = if_else (nat_lt 0xfff value || (suc l == 0)) None y s P e (λ b g. no_some s g) (λ b g. then_ l refl g)
 
 -- a digit more, in front of those that lead to the character
-pub hex_more : (value l c d ch : ℕ) (w mid : List ℕ) → hex_value c ≡ Some d → Hex l (value * 16 + d) w mid ch → Hex (suc l) value (c ∷ w) mid ch
+hex_more : (value l c d ch : ℕ) (w mid : List ℕ) → hex_value c ≡ Some d → Hex l (value * 16 + d) w mid ch → Hex (suc l) value (c ∷ w) mid ch
 hex_more value l c d ch w mid e h = (c, d, w, refl, e, h)
 
-pub hex_step : (value left c : ℕ) (r s : Reading) (w : List ℕ) (t : Tree) → hex_by (hex_value c) value left r ≡ Some s → Completes s w t → CompletesIn (modes.Hex value left) r (c ∷ w) t
+hex_step : (value left c : ℕ) (r s : Reading) (w : List ℕ) (t : Tree) → hex_by (hex_value c) value left r ≡ Some s → Completes s w t → CompletesIn (modes.Hex value left) r (c ∷ w) t
 hex_step value left c r s w t e h = by_digit (hex_value c) refl e
   where
     P : Type 0
     P = CompletesIn (modes.Hex value left) r (c ∷ w) t
 
     by_left : (d l : ℕ) → hex_value c ≡ Some d → left ≡ suc l → (o : Option ℕ) → greatest_from (value * 16 + d) l ≡ o → hex_to o (value * 16 + d) l r ≡ Some s → P
-    by_left d l here is None g x = no_reading s x
+    by_left d l here is None g x = no_some s x
     by_left d l here is (Some top_char) g x =
         if_else (l == 0) _ _ s P x
         (λ z y.
-        let l0 : l ≡ 0 = is_char l 0 z in
+        let l0 : l ≡ 0 = eqb-true l 0 z in
         let last = last_digit (value * 16 + d) top_char (subst (λ (k : ℕ). greatest_from (value * 16 + d) k ≡ Some top_char) l0 g) in
         let after = completes_at (with_atom (char top_char) r) s w t y h in
         subst (λ (k : ℕ). CompletesIn (modes.Hex value k) r (c ∷ w) t) (sym is)
@@ -379,12 +369,12 @@ hex_step value left c r s w t e h = by_digit (hex_value c) refl e
         subst (λ (k : ℕ). CompletesIn (modes.Hex value k) r (c ∷ w) t) (sym is) (i.0, i.1, hex_more value l c d i.0 w i.1 here i.2, i.3, i.4))
 
     by_digit : (o : Option ℕ) → hex_value c ≡ o → hex_by o value left r ≡ Some s → P
-    by_digit None here x = no_reading s x
+    by_digit None here x = no_some s x
     by_digit (Some d) here x = hex_guard value left None (hex_to (greatest_from (value * 16 + d) (left - 1)) (value * 16 + d) (left - 1) r) s P x
         (λ l is y. let same : left - 1 ≡ l = omega (arith, is) in by_left d l here is (greatest_from (value * 16 + d) l) refl
         (subst (λ (k : ℕ). hex_to (greatest_from (value * 16 + d) k) (value * 16 + d) k r ≡ Some s) same y))
 
-pub escape_step : (c : ℕ) (r s : Reading) (w : List ℕ) (t : Tree) → with_set (set_of c) c r ≡ Some s → Completes s w t → InTerm r.trees r.groups (92 ∷ c ∷ w) t
+escape_step : (c : ℕ) (r s : Reading) (w : List ℕ) (t : Tree) → with_set (set_of c) c r ≡ Some s → Completes s w t → InTerm r.trees r.groups (92 ∷ c ∷ w) t
 escape_step c r s w t e h = by_set (set_of c) refl e
   where
     ts : List Tree
@@ -397,10 +387,10 @@ escape_step c r s w t e h = by_set (set_of c) refl e
     P = InTerm ts gs (92 ∷ c ∷ w) t
 
     at_char : (k : ℕ) → c == k ≡ true → InTerm ts gs (92 ∷ k ∷ w) t → P
-    at_char k y i = subst (λ (d : ℕ). InTerm ts gs (92 ∷ d ∷ w) t) (sym (is_char c k y)) i
+    at_char k y i = subst (λ (d : ℕ). InTerm ts gs (92 ∷ d ∷ w) t) (sym (eqb-true c k y)) i
 
     by_char : (o : Option ℕ) → escaped c ≡ o → with_char o r ≡ Some s → P
-    by_char None here x = no_reading s x
+    by_char None here x = no_some s x
     by_char (Some v) here x = atom_next ts gs t (char v) (92 ∷ c ∷ w) w (char_escape (named here)) (completes_at (with_atom (char v) r) s w t x h)
 
     by_set : (o : Option (List CharRange)) → set_of c ≡ o → with_set o c r ≡ Some s → P
@@ -414,10 +404,7 @@ escape_step c r s w t e h = by_set (set_of c) refl e
         by_char (escaped c) refl x6)))))
 
 -- classes
-pub class_ended : (is_first : Bool) (r s : Reading) (w : List ℕ) (t : Tree) → Some (class_end r) ≡ Some s → Completes s w t → AfterClass r t r.ranges w
-class_ended is_first r s w t e h = completes_at (class_end r) s w t e h
-
-pub item_step : (is_first : Bool) (c : ℕ) (r s : Reading) (w : List ℕ) (t : Tree) → (c == 45 ≡ true → is_first ≡ true) → item c r ≡ Some s → Completes s w t → InClass is_first r (c ∷ w) t
+item_step : (is_first : Bool) (c : ℕ) (r s : Reading) (w : List ℕ) (t : Tree) → (c == 45 ≡ true → is_first ≡ true) → item c r ≡ Some s → Completes s w t → InClass is_first r (c ∷ w) t
 item_step is_first c r s w t dash e h =
     let P : Type 0 = InClass is_first r (c ∷ w) t in
     if_else (c == 93) _ _ s P e (λ y x. at_char 93 y (r.ranges, w, no_item, completes_at (class_end r) s w t x h)) (λ n93 e2.
@@ -425,41 +412,38 @@ item_step is_first c r s w t dash e h =
     let i = completes_at (at (modes.ClassChar c) r) s w t x h in (i.0, i.1, first_after (first (c == 45) refl n93 n92) i.2, i.3)))
   where
     at_char : (k : ℕ) → c == k ≡ true → InClass is_first r (k ∷ w) t → InClass is_first r (c ∷ w) t
-    at_char k y i = subst (λ (d : ℕ). InClass is_first r (d ∷ w) t) (sym (is_char c k y)) i
+    at_char k y i = subst (λ (d : ℕ). InClass is_first r (d ∷ w) t) (sym (eqb-true c k y)) i
 
     first : (b : Bool) → c == 45 ≡ b → c == 93 ≡ false → c == 92 ≡ false → FirstChar is_first c (c ∷ w) w
-    first true y n93 n92 = subst (λ (f : Bool). FirstChar f c (c ∷ w) w) (sym (dash y)) (subst (λ (d : ℕ). FirstChar true d (d ∷ w) w) (sym (is_char c 45 y)) first_dash)
+    first true y n93 n92 = subst (λ (f : Bool). FirstChar f c (c ∷ w) w) (sym (dash y)) (subst (λ (d : ℕ). FirstChar true d (d ∷ w) w) (sym (eqb-true c 45 y)) first_dash)
     first false y n93 n92 = other_char (itself (rw (n93, n92, y)))
 
-pub next_item_step : (c : ℕ) (r s : Reading) (w : List ℕ) (t : Tree) → next_item c r ≡ Some s → Completes s w t → InClass false r (c ∷ w) t
+next_item_step : (c : ℕ) (r s : Reading) (w : List ℕ) (t : Tree) → next_item c r ≡ Some s → Completes s w t → InClass false r (c ∷ w) t
 next_item_step c r s w t e h =
     let P : Type 0 = InClass false r (c ∷ w) t in
     if_else (c == 45) _ _ s P e
     (λ y x.
     let i = completes_at (at ClassLast (ranged 45 45 r)) s w t x h in
-    subst (λ (d : ℕ). InClass false r (d ∷ w) t) (sym (is_char c 45 y))
+    subst (λ (d : ℕ). InClass false r (d ∷ w) t) (sym (eqb-true c 45 y))
     (subst (λ (v : List ℕ). InClass false r (45 ∷ v) t) (sym i.1) (r.ranges ++ range 45 45 ∷ [], i.0, last_dash, i.2)))
     (λ n45 x. item_step false c r s w t (λ y. absurd (false≢true (sym n45 ∙ y))) x h)
 
-pub after_char_step : (first c : ℕ) (r s : Reading) (w : List ℕ) (t : Tree) → after_char first c r ≡ Some s → Completes s w t → AfterChar first r (c ∷ w) t
+after_char_step : (first c : ℕ) (r s : Reading) (w : List ℕ) (t : Tree) → after_char first c r ≡ Some s → Completes s w t → AfterChar first r (c ∷ w) t
 after_char_step first c r s w t e h =
     let P : Type 0 = AfterChar first r (c ∷ w) t in
     if_else (c == 45) _ _ s P e
-    (λ y x. subst (λ (d : ℕ). AfterChar first r (d ∷ w) t) (sym (is_char c 45 y)) (completes_at (at (modes.ClassDash first) r) s w t x h))
+    (λ y x. subst (λ (d : ℕ). AfterChar first r (d ∷ w) t) (sym (eqb-true c 45 y)) (completes_at (at (modes.ClassDash first) r) s w t x h))
     (λ n45 x. let i = item_step false c (ranged first first r) s w t (λ y. absurd (false≢true (sym n45 ∙ y))) x h in (i.0, i.1, after_one i.2, i.3))
 
 -- a character that ends a range, or begins an item
-pub class_char_step : (first : Option ℕ) (d : ℕ) (r s : Reading) (w : List ℕ) (t : Tree) → class_char first d r ≡ Some s → Completes s w t → (all : List CharRange) × (mid : List ℕ) × Ended first d r.ranges w mid all × AfterClass r t all mid
+class_char_step : (first : Option ℕ) (d : ℕ) (r s : Reading) (w : List ℕ) (t : Tree) → class_char first d r ≡ Some s → Completes s w t → AfterEnd first d r w t
 class_char_step None d r s w t e h = let i = completes_at (at (modes.ClassChar d) r) s w t e h in (i.0, i.1, i.2, i.3)
 class_char_step (Some c) d r s w t e h =
-    if_else (nat_le c d) _ _ s ((all : List CharRange) × (mid : List ℕ) × Ended (Some c) d r.ranges w mid all × AfterClass r t all mid) e
-    (λ y x. let i = completes_at (at ClassNext (ranged c d r)) s w t x h in (i.0, i.1, (le_from c d y, i.2), i.3))
-    (λ n x. no_reading s x)
-  where
-    le_from : (a b : ℕ) → nat_le a b ≡ true → a ≤ b
-    le_from a b e = grind (arith, nat_tests)
+    if_else (nat_le c d) _ _ s (AfterEnd (Some c) d r w t) e
+    (λ y x. let i = completes_at (at ClassNext (ranged c d r)) s w t x h in (i.0, i.1, (leb-true c d y, i.2), i.3))
+    (λ n x. no_some s x)
 
-pub after_dash_step : (first c : ℕ) (r s : Reading) (w : List ℕ) (t : Tree) → after_dash first c r ≡ Some s → Completes s w t → AfterChar first r (45 ∷ c ∷ w) t
+after_dash_step : (first c : ℕ) (r s : Reading) (w : List ℕ) (t : Tree) → after_dash first c r ≡ Some s → Completes s w t → AfterChar first r (45 ∷ c ∷ w) t
 after_dash_step first c r s w t e h =
     let P : Type 0 = AfterChar first r (45 ∷ c ∷ w) t in
     if_else (c == 93) _ _ s P e
@@ -470,32 +454,29 @@ after_dash_step first c r s w t e h =
     (i.0, i.1, after_range (itself (rw (n93, n92, n45))) i.2.0 i.2.1, i.3))))
   where
     at_char : (k : ℕ) → c == k ≡ true → AfterChar first r (45 ∷ k ∷ w) t → AfterChar first r (45 ∷ c ∷ w) t
-    at_char k y i = subst (λ (d : ℕ). AfterChar first r (45 ∷ d ∷ w) t) (sym (is_char c k y)) i
+    at_char k y i = subst (λ (d : ℕ). AfterChar first r (45 ∷ d ∷ w) t) (sym (eqb-true c k y)) i
 
     escaped_end : c == 92 ≡ true → cond (nat_le first 0xffff) (Some (at (modes.ClassEscape (Some first)) r)) None ≡ Some s → AfterChar first r (45 ∷ 92 ∷ w) t
     escaped_end y x = if_else (nat_le first 0xffff) _ _ s (AfterChar first r (45 ∷ 92 ∷ w) t) x
-        (λ z g. let i = completes_at (at (modes.ClassEscape (Some first)) r) s w t g h in (i.0, i.1, after_range i.4 i.5 i.6, i.7)) (λ z g. no_reading s g)
-
-    le_from : (a b : ℕ) → nat_le a b ≡ true → a ≤ b
-    le_from a b e = grind (arith, nat_tests)
+        (λ z g. let i = completes_at (at (modes.ClassEscape (Some first)) r) s w t g h in (i.0, i.1, after_range i.4 i.5 i.6, i.7)) (λ z g. no_some s g)
 
     dash_end : cond (nat_le first 45) (Some (at ClassLast (ranged first 45 r))) None ≡ Some s → AfterChar first r (45 ∷ 45 ∷ w) t
     dash_end x = if_else (nat_le first 45) _ _ s (AfterChar first r (45 ∷ 45 ∷ w) t) x
         (λ z g.
         let i = completes_at (at ClassLast (ranged first 45 r)) s w t g h in
-        subst (λ (v : List ℕ). AfterChar first r (45 ∷ 45 ∷ v) t) (sym i.1) (r.ranges ++ range first 45 ∷ [], i.0, after_dash_end (le_from first 45 z), i.2))
-        (λ z g. no_reading s g)
+        subst (λ (v : List ℕ). AfterChar first r (45 ∷ 45 ∷ v) t) (sym i.1) (r.ranges ++ range first 45 ∷ [], i.0, after_dash_end (leb-true first 45 z), i.2))
+        (λ z g. no_some s g)
 
 -- an escape in a class, of a character that was read
-pub escape_ended : (first : Option ℕ) (d : ℕ) (r : Reading) (text after : List ℕ) (t : Tree) → ClassChar d (92 ∷ text) after → (all : List CharRange) × (mid : List ℕ) × Ended first d r.ranges after mid all × AfterClass r t all mid → InEscape first r text t
+escape_ended : (first : Option ℕ) (d : ℕ) (r : Reading) (text after : List ℕ) (t : Tree) → ClassChar d (92 ∷ text) after → AfterEnd first d r after t → InEscape first r text t
 escape_ended None d r text after t read i = (i.0, i.1, escape_char read i.2, i.3)
 escape_ended (Some c) d r text after t read i = (i.0, i.1, d, after, read, i.2.0, i.2.1, i.3)
 
-pub class_escape_step : (first : Option ℕ) (c : ℕ) (r s : Reading) (w : List ℕ) (t : Tree) → class_set (set_of c) first c r ≡ Some s → Completes s w t → InEscape first r (c ∷ w) t
+class_escape_step : (first : Option ℕ) (c : ℕ) (r s : Reading) (w : List ℕ) (t : Tree) → class_set (set_of c) first c r ≡ Some s → Completes s w t → InEscape first r (c ∷ w) t
 class_escape_step first c r s w t e h = by_set (set_of c) first refl e
   where
     at_char : (f : Option ℕ) (k : ℕ) → c == k ≡ true → InEscape f r (k ∷ w) t → InEscape f r (c ∷ w) t
-    at_char f k y i = subst (λ (d : ℕ). InEscape f r (d ∷ w) t) (sym (is_char c k y)) i
+    at_char f k y i = subst (λ (d : ℕ). InEscape f r (d ∷ w) t) (sym (eqb-true c k y)) i
 
     hexed : (f : Option ℕ) (left k : ℕ) → ((d : ℕ) (after : List ℕ) → Hex left 0 w after d → is_surrogate d ≡ false → ClassChar d (92 ∷ k ∷ w) after) → Some (at (modes.ClassHex f 0 left) r) ≡ Some s → InEscape f r (k ∷ w) t
     hexed f left k build x = let i = completes_at (at (modes.ClassHex f 0 left) r) s w t x h in escape_ended f i.2 r (k ∷ w) i.3 t (build i.2 i.3 i.4 i.5) (i.0, i.1, i.6, i.7)
@@ -505,39 +486,39 @@ class_escape_step first c r s w t e h = by_set (set_of c) first refl e
     zero_step (Some k) x = if_else (k == 0) _ _ s (InEscape (Some k) r (48 ∷ w) t) x
         (λ y g.
         let i = completes_at (at (modes.ClassZero true) (ranged 0 0 r)) s w t g h in
-        subst (λ (j : ℕ). InEscape (Some j) r (48 ∷ w) t) (sym (is_char k 0 y)) (i.1.0, i.1.1, 0, w, class_escape (zero_char i.0), omega arith, i.1.2, i.1.3))
-        (λ y g. no_reading s g)
+        subst (λ (j : ℕ). InEscape (Some j) r (48 ∷ w) t) (sym (eqb-true k 0 y)) (i.1.0, i.1.1, 0, w, class_escape (zero_char i.0), omega arith, i.1.2, i.1.3))
+        (λ y g. no_some s g)
 
     by_char : (f : Option ℕ) (o : Option ℕ) → escaped c ≡ o → class_char_if f o r ≡ Some s → InEscape f r (c ∷ w) t
-    by_char f None here x = no_reading s x
+    by_char f None here x = no_some s x
     by_char f (Some v) here x = escape_ended f v r (c ∷ w) w t (class_escape (named here)) (class_char_step f v r s w t x h)
 
     rest_step : (f : Option ℕ) → class_set None f c r ≡ Some s → InEscape f r (c ∷ w) t
     rest_step f x =
         let P : Type 0 = InEscape f r (c ∷ w) t in
         if_else (c == 98) _ _ s P x (λ y g. at_char f 98 y (escape_ended f 8 r (98 ∷ w) w t backspace (class_char_step f 8 r s w t g h))) (λ n98 x2.
-        if_else (c == 120) _ _ s P x2 (λ y g. at_char f 120 y (if_else (can_end f 0xff) _ _ s (InEscape f r (120 ∷ w) t) g (λ z k. hexed f 2 120 (λ d after hx ns. class_escape (two_digits hx)) k) (λ z k. no_reading s k))) (λ n120 x3.
-        if_else (c == 117) _ _ s P x3 (λ y g. at_char f 117 y (if_else (can_end f 0xffff) _ _ s (InEscape f r (117 ∷ w) t) g (λ z k. hexed f 4 117 (λ d after hx ns. class_escape (four_digits hx ns)) k) (λ z k. no_reading s k))) (λ n117 x4.
+        if_else (c == 120) _ _ s P x2 (λ y g. at_char f 120 y (if_else (can_end f 0xff) _ _ s (InEscape f r (120 ∷ w) t) g (λ z k. hexed f 2 120 (λ d after hx ns. class_escape (two_digits hx)) k) (λ z k. no_some s k))) (λ n120 x3.
+        if_else (c == 117) _ _ s P x3 (λ y g. at_char f 117 y (if_else (can_end f 0xffff) _ _ s (InEscape f r (117 ∷ w) t) g (λ z k. hexed f 4 117 (λ d after hx ns. class_escape (four_digits hx ns)) k) (λ z k. no_some s k))) (λ n117 x4.
         if_else (c == 48) _ _ s P x4 (λ y g. at_char f 48 y (zero_step f g)) (λ n48 x5. by_char f (escaped c) refl x5))))
 
     by_set : (o : Option (List CharRange)) (f : Option ℕ) → set_of c ≡ o → class_set o f c r ≡ Some s → InEscape f r (c ∷ w) t
     by_set (Some ranges) None here x = let i = completes_at (with_ranges ranges r) s w t x h in (i.0, i.1, escape_set here i.2, i.3)
-    by_set (Some ranges) (Some k) here x = no_reading s x
+    by_set (Some ranges) (Some k) here x = no_some s x
     by_set None f here x = rest_step f x
 
-pub class_hex_step : (first : Option ℕ) (value left c : ℕ) (r s : Reading) (w : List ℕ) (t : Tree) → class_hex_by (hex_value c) first value left r ≡ Some s → Completes s w t → CompletesIn (modes.ClassHex first value left) r (c ∷ w) t
+class_hex_step : (first : Option ℕ) (value left c : ℕ) (r s : Reading) (w : List ℕ) (t : Tree) → class_hex_by (hex_value c) first value left r ≡ Some s → Completes s w t → CompletesIn (modes.ClassHex first value left) r (c ∷ w) t
 class_hex_step first value left c r s w t e h = by_digit (hex_value c) refl e
   where
     P : Type 0
     P = CompletesIn (modes.ClassHex first value left) r (c ∷ w) t
 
     by_left : (d l : ℕ) → hex_value c ≡ Some d → left ≡ suc l → (o : Option ℕ) → greatest_from (value * 16 + d) l ≡ o → class_hex_to o first (value * 16 + d) l r ≡ Some s → P
-    by_left d l here is None g x = no_reading s x
+    by_left d l here is None g x = no_some s x
     by_left d l here is (Some top_char) g x =
         if_else (can_end first top_char) _ _ s P x
         (λ ok x2. if_else (l == 0) _ _ s P x2
         (λ z y.
-        let l0 : l ≡ 0 = is_char l 0 z in
+        let l0 : l ≡ 0 = eqb-true l 0 z in
         let last = last_digit (value * 16 + d) top_char (subst (λ (k : ℕ). greatest_from (value * 16 + d) k ≡ Some top_char) l0 g) in
         let i = class_char_step first top_char r s w t y h in
         subst (λ (k : ℕ). CompletesIn (modes.ClassHex first value k) r (c ∷ w) t) (sym is)
@@ -546,10 +527,10 @@ class_hex_step first value left c r s w t e h = by_digit (hex_value c) refl e
         (λ z y.
         let i = completes_at (at (modes.ClassHex first (value * 16 + d) l) r) s w t y h in
         subst (λ (k : ℕ). CompletesIn (modes.ClassHex first value k) r (c ∷ w) t) (sym is) (i.0, i.1, i.2, i.3, hex_more value l c d i.2 w i.3 here i.4, i.5, i.6, i.7)))
-        (λ ok x2. no_reading s x2)
+        (λ ok x2. no_some s x2)
 
     by_digit : (o : Option ℕ) → hex_value c ≡ o → class_hex_by o first value left r ≡ Some s → P
-    by_digit None here x = no_reading s x
+    by_digit None here x = no_some s x
     by_digit (Some d) here x = hex_guard value left None (class_hex_to (greatest_from (value * 16 + d) (left - 1)) first (value * 16 + d) (left - 1) r) s P x
         (λ l is y. let same : left - 1 ≡ l = omega (arith, is) in by_left d l here is (greatest_from (value * 16 + d) l) refl
         (subst (λ (k : ℕ). class_hex_to (greatest_from (value * 16 + d) k) first (value * 16 + d) k r ≡ Some s) same y))
@@ -563,42 +544,39 @@ step_completes Quantified c r s w t m e h = by_lazy (plain_step false true c r s
     by_lazy : InTerm r.trees r.groups (c ∷ w) t ⊎ ((true ≡ true) × (c ≡ 63) × InTerm r.trees r.groups w t) → InTerm r.trees r.groups (c ∷ w) t ⊎ ((v : List ℕ) × (c ∷ w ≡ 63 ∷ v) × InTerm r.trees r.groups v t)
     by_lazy (inl i) = inl i
     by_lazy (inr l) = inr (w, ap (λ (d : ℕ). d ∷ w) l.1, l.2)
-step_completes Zero c r s w t m e h = if_else (is_digit c) _ _ s (CompletesIn Zero r (c ∷ w) t) e (λ y x. no_reading s x) (λ n x. ((λ d. false≢true (sym n ∙ d)), base_step true c r s w t x h))
+step_completes Zero c r s w t m e h = if_else (is_digit c) _ _ s (CompletesIn Zero r (c ∷ w) t) e (λ y x. no_some s x) (λ n x. ((λ d. false≢true (sym n ∙ d)), base_step true c r s w t x h))
 step_completes (Braces after_atom) c r s w t m e h = braces_step after_atom c r s w t m e h
 step_completes Escape c r s w t m e h = escape_step c r s w t e h
 step_completes (modes.Hex value left) c r s w t m e h = hex_step value left c r s w t e h
 step_completes Paren c r s w t m e h = if_else (c == 63) _ _ s (InTerm r.trees r.groups (40 ∷ c ∷ w) t) e
-    (λ y x. subst (λ (d : ℕ). InTerm r.trees r.groups (40 ∷ d ∷ w) t) (sym (is_char c 63 y)) (completes_at (at ParenQuestion r) s w t x h))
+    (λ y x. subst (λ (d : ℕ). InTerm r.trees r.groups (40 ∷ d ∷ w) t) (sym (eqb-true c 63 y)) (completes_at (at ParenQuestion r) s w t x h))
     (λ n x. opened_next r.trees r.groups t (40 ∷ c ∷ w) (c ∷ w) (λ g rest body. group body) (base_step false c (opened Group r) s w t x h))
 step_completes ParenQuestion c r s w t m e h =
     let P : Type 0 = InTerm r.trees r.groups (40 ∷ 63 ∷ c ∷ w) t in
-    let at_char : (k : ℕ) → c == k ≡ true → InTerm r.trees r.groups (40 ∷ 63 ∷ k ∷ w) t → P = λ k y i. subst (λ (d : ℕ). InTerm r.trees r.groups (40 ∷ 63 ∷ d ∷ w) t) (sym (is_char c k y)) i in
+    let at_char : (k : ℕ) → c == k ≡ true → InTerm r.trees r.groups (40 ∷ 63 ∷ k ∷ w) t → P = λ k y i. subst (λ (d : ℕ). InTerm r.trees r.groups (40 ∷ 63 ∷ d ∷ w) t) (sym (eqb-true c k y)) i in
     if_else (c == 58) _ _ s P e (λ y x. at_char 58 y (opened_next r.trees r.groups t (40 ∷ 63 ∷ 58 ∷ w) w (λ g rest body. bare_group body) (completes_at (opened Group r) s w t x h))) (λ n58 e2.
     if_else (c == 61) _ _ s P e2 (λ y x. at_char 61 y (ahead_next r.trees r.groups t false (40 ∷ 63 ∷ 61 ∷ w) w (λ g rest body. ahead body) (completes_at (opened (Ahead false) r) s w t x h))) (λ n61 e3.
-    if_else (c == 33) _ _ s P e3 (λ y x. at_char 33 y (ahead_next r.trees r.groups t true (40 ∷ 63 ∷ 33 ∷ w) w (λ g rest body. not_ahead body) (completes_at (opened (Ahead true) r) s w t x h))) (λ n33 x. no_reading s x)))
+    if_else (c == 33) _ _ s P e3 (λ y x. at_char 33 y (ahead_next r.trees r.groups t true (40 ∷ 63 ∷ 33 ∷ w) w (λ g rest body. not_ahead body) (completes_at (opened (Ahead true) r) s w t x h))) (λ n33 x. no_some s x)))
 step_completes ClassOpen c r s w t m e h = if_else (c == 94) _ _ s (CompletesIn ClassOpen r (c ∷ w) t) e
-    (λ y x. inr (w, ap (λ (d : ℕ). d ∷ w) (is_char c 94 y), completes_at (at ClassFirst (record r { negated = true })) s w t x h))
-    (λ n x. inl (is_no_char c 94 n, item_step true c r s w t (λ y. refl) x h))
+    (λ y x. inr (w, ap (λ (d : ℕ). d ∷ w) (eqb-true c 94 y), completes_at (at ClassFirst (record r { negated = true })) s w t x h))
+    (λ n x. inl (eqb-false c 94 n, item_step true c r s w t (λ y. refl) x h))
 step_completes ClassFirst c r s w t m e h = item_step true c r s w t (λ y. refl) e h
 step_completes ClassNext c r s w t m e h = next_item_step c r s w t e h
 step_completes ClassLast c r s w t m e h = if_else (c == 93) _ _ s (CompletesIn ClassLast r (c ∷ w) t) e
-    (λ y x. (w, ap (λ (d : ℕ). d ∷ w) (is_char c 93 y), completes_at (class_end r) s w t x h)) (λ n x. no_reading s x)
+    (λ y x. (w, ap (λ (d : ℕ). d ∷ w) (eqb-true c 93 y), completes_at (class_end r) s w t x h)) (λ n x. no_some s x)
 step_completes (modes.ClassChar first) c r s w t m e h = after_char_step first c r s w t e h
 step_completes (modes.ClassDash first) c r s w t m e h = after_dash_step first c r s w t e h
-step_completes (modes.ClassZero true) c r s w t m e h = if_else (is_digit c) _ _ s (CompletesIn (modes.ClassZero true) r (c ∷ w) t) e (λ y x. no_reading s x) (λ n x. ((λ d. false≢true (sym n ∙ d)), next_item_step c r s w t x h))
-step_completes (modes.ClassZero false) c r s w t m e h = if_else (is_digit c) _ _ s (CompletesIn (modes.ClassZero false) r (c ∷ w) t) e (λ y x. no_reading s x) (λ n x. ((λ d. false≢true (sym n ∙ d)), after_char_step 0 c r s w t x h))
+step_completes (modes.ClassZero true) c r s w t m e h = if_else (is_digit c) _ _ s (CompletesIn (modes.ClassZero true) r (c ∷ w) t) e (λ y x. no_some s x) (λ n x. ((λ d. false≢true (sym n ∙ d)), next_item_step c r s w t x h))
+step_completes (modes.ClassZero false) c r s w t m e h = if_else (is_digit c) _ _ s (CompletesIn (modes.ClassZero false) r (c ∷ w) t) e (λ y x. no_some s x) (λ n x. ((λ d. false≢true (sym n ∙ d)), after_char_step 0 c r s w t x h))
 step_completes (modes.ClassEscape first) c r s w t m e h = class_escape_step first c r s w t e h
 step_completes (modes.ClassHex first value left) c r s w t m e h = class_hex_step first value left c r s w t e h
 
 -- the end of the text
-pub no_tree : {P : Type 0} (t : Tree) → ◌≡◌ {A = Option Tree} None (Some t) → P
-no_tree t e = cc
-
-pub ended_completes : (gs : List Open) (r : Reading) (t : Tree) → r.groups ≡ gs → ended gs r ≡ Some t → InTerm r.trees gs [] t
+ended_completes : (gs : List Open) (r : Reading) (t : Tree) → r.groups ≡ gs → ended gs r ≡ Some t → InTerm r.trees gs [] t
 ended_completes [] r t g e = ([], top (chosen r).trees, ends, (refl, same_Some (top (chosen r).trees) t e))
-ended_completes (k ∷ gs) r t g e = no_tree t e
+ended_completes (k ∷ gs) r t g e = no_some t e
 
-pub end_completes : (m : Mode) (r : Reading) (t : Tree) → r.mode ≡ m → finished_in m r ≡ Some t → CompletesIn m r [] t
+end_completes : (m : Mode) (r : Reading) (t : Tree) → r.mode ≡ m → finished_in m r ≡ Some t → CompletesIn m r [] t
 end_completes Term r t m e = ended_completes r.groups r t refl e
 end_completes Atom r t m e = unsuffixed (below r.trees) r.groups t (top r.trees) [] (ended_completes r.groups (with_term r) t refl e)
 end_completes Quantified r t m e = inl (ended_completes r.groups r t refl e)
@@ -606,28 +584,28 @@ end_completes Zero r t m e = ((λ d. d), unsuffixed (below r.trees) r.groups t (
 end_completes (Braces after_atom) r t m e = λ inner.
     let f = flushed after_atom r in
     flushed_next after_atom r [] t inner (breaks_at_end r.braces inner) (unsuffixed (below f.trees) f.groups t (top f.trees) [] (ended_completes f.groups (with_term f) t refl e))
-end_completes Escape r t m e = no_tree t e
-end_completes (modes.Hex value left) r t m e = no_tree t e
-end_completes Paren r t m e = no_tree t e
-end_completes ParenQuestion r t m e = no_tree t e
-end_completes ClassOpen r t m e = no_tree t e
-end_completes ClassFirst r t m e = no_tree t e
-end_completes ClassNext r t m e = no_tree t e
-end_completes ClassLast r t m e = no_tree t e
-end_completes (modes.ClassChar first) r t m e = no_tree t e
-end_completes (modes.ClassDash first) r t m e = no_tree t e
-end_completes (modes.ClassZero true) r t m e = no_tree t e
-end_completes (modes.ClassZero false) r t m e = no_tree t e
-end_completes (modes.ClassEscape first) r t m e = no_tree t e
-end_completes (modes.ClassHex first value left) r t m e = no_tree t e
+end_completes Escape r t m e = no_some t e
+end_completes (modes.Hex value left) r t m e = no_some t e
+end_completes Paren r t m e = no_some t e
+end_completes ParenQuestion r t m e = no_some t e
+end_completes ClassOpen r t m e = no_some t e
+end_completes ClassFirst r t m e = no_some t e
+end_completes ClassNext r t m e = no_some t e
+end_completes ClassLast r t m e = no_some t e
+end_completes (modes.ClassChar first) r t m e = no_some t e
+end_completes (modes.ClassDash first) r t m e = no_some t e
+end_completes (modes.ClassZero true) r t m e = no_some t e
+end_completes (modes.ClassZero false) r t m e = no_some t e
+end_completes (modes.ClassEscape first) r t m e = no_some t e
+end_completes (modes.ClassHex first value left) r t m e = no_some t e
 
 -- what is read to its end completes what was read before
-pub completed : (text : List ℕ) (r : Reading) (t : Tree) → option_and_then finished (reads text r) ≡ Some t → Completes r text t
+completed : (text : List ℕ) (r : Reading) (t : Tree) → option_and_then finished (reads text r) ≡ Some t → Completes r text t
 completed [] r t e = end_completes r.mode r t refl e
 completed (c ∷ text) r t e = by_step (step c r) refl (completed text) e
   where
     by_step : (o : Option Reading) → step c r ≡ o → ((s : Reading) (u : Tree) → option_and_then finished (reads text s) ≡ Some u → Completes s text u) → option_and_then finished (option_and_then (reads text) o) ≡ Some t → Completes r (c ∷ text) t
-    by_step None is again g = no_tree t g
+    by_step None is again g = no_some t g
     by_step (Some s) is again g = step_completes r.mode c r s text t refl is (again s t g)
 
 -- what is accepted is a pattern of its tree

@@ -1,8 +1,8 @@
 -- Within hexadecimal digits and classes, a text that completes what was read is taken: its first character is, and the rest completes the new state.
-use Rattle.std.proofs.Common.{◌≡◌, ℕ, zero, suc, ◌+◌, ◌-◌, ◌*◌, ◌<◌, ◌≤◌, Bool, true, false, cond, List, [], ◌∷◌, ◌++◌, inl, inr, Option, Some, None, refl, sym, ap, subst, ◌∙◌, arith}
+use Rattle.std.proofs.Common.{◌≡◌, ℕ, zero, suc, ◌+◌, ◌-◌, ◌*◌, ◌<◌, ◌≤◌, Bool, true, false, cond, List, [], ◌∷◌, ◌++◌, inl, inr, Option, Some, None, refl, sym, subst, ◌∙◌, arith}
 use Rattle.std.specs.Prelude.{◌==◌, ◌||◌, nat_le, nat_lt}
 use Rattle.std.proofs.lemmas.Option.{same_Some}
-use Rattle.std.proofs.lemmas.Bool.{false≢true}
+use Rattle.std.proofs.lemmas.Bool.{false≢true, eqb-true, eq-eqb, ne_eqb, le-leb, false_from_ne_true, or_parts}
 use Rattle.std.proofs.lemmas.Bool.Decides.{nat_tests}
 use Rattle.es_pattern.specs.Tree.{Tree, CharRange}
 use Rattle.es_pattern.specs.Escapes.{range, is_digit, is_punctuation, set_of, escaped, hex_value, is_surrogate}
@@ -12,45 +12,25 @@ use Rattle.es_pattern.specs.declared.mode.Mode.TheVariants.{ClassOpen, ClassFirs
 use Rattle.es_pattern.specs.declared.mode.Mode.TheVariants as modes
 use Rattle.es_pattern.specs.Reading.{Reading, at, with_atom, greatest_from, hex_to, hex_by, ranged, class_end, item, next_item, after_char, class_char, after_dash, class_char_if, can_end, class_zero, with_ranges, class_set, class_hex_to, class_hex_by, step_in}
 use Rattle.es_pattern.proofs.Sane.{IsPartial}
-use Rattle.es_pattern.proofs.Sound.{is_char, After, after_one, after_range, after_dash_end, EscapeItem, escape_set, escape_char, Ended, AfterAtom, AfterClass, InClass, AfterChar, InEscape, CompletesIn, Completes}
-use Rattle.es_pattern.proofs.HexDigits.{hex_digit, two_digits_more, four_digits_more, no_surrogate_below, greatest_last, greatest_of_one, greatest_of_two, greatest_of_three}
-
--- there is a next state, which the rest of the text completes
-abbrev pub Takes : Option Reading → List ℕ → Tree → Type 0
-Takes o w t = (s : Reading) × (o ≡ Some s) × Completes s w t
+use Rattle.es_pattern.proofs.Sound.{After, after_one, after_range, after_dash_end, EscapeItem, escape_set, escape_char, Ended, AfterAtom, AfterClass, InClass, AfterChar, InEscape, CompletesIn, Completes, Taken, AfterEnd}
+use Rattle.es_pattern.proofs.HexDigits.{hex_digit, two_digits_more, four_digits_more, greatest_last, greatest_with_one, greatest_with_two, greatest_with_three, two_small}
+use Rattle.es_pattern.proofs.TakingTerms.{no_escape}
 
 -- a test that holds, and one that doesn't
-pub takes_then : (b : Bool) (x y : Option Reading) (w : List ℕ) (t : Tree) → b ≡ true → Takes x w t → Takes (cond b x y) w t
-takes_then true x y w t e h = h
-takes_then false x y w t e h = absurd (false≢true e)
+taken_then : (b : Bool) (x y : Option Reading) (w : List ℕ) (t : Tree) → b ≡ true → Taken x w t → Taken (cond b x y) w t
+taken_then true x y w t e h = h
+taken_then false x y w t e h = absurd (false≢true e)
 
-pub takes_else : (b : Bool) (x y : Option Reading) (w : List ℕ) (t : Tree) → b ≡ false → Takes y w t → Takes (cond b x y) w t
-takes_else true x y w t e h = absurd (false≢true (sym e))
-takes_else false x y w t e h = h
-
--- the tests of numbers, from what they test
-pub is_same : (c k : ℕ) → c ≡ k → c == k ≡ true
-is_same c k e = grind (arith, nat_tests)
-
-pub is_other : (c k : ℕ) → (c ≡ k → ⊥) → c == k ≡ false
-is_other c k e = grind (arith, nat_tests)
-
-pub le_holds : (a b : ℕ) → a ≤ b → nat_le a b ≡ true
-le_holds a b h = grind (arith, nat_tests)
-
-pub is_false : (b : Bool) → (b ≡ true → ⊥) → b ≡ false
-is_false true h = absurd (h refl)
-is_false false h = refl
+taken_else : (b : Bool) (x y : Option Reading) (w : List ℕ) (t : Tree) → b ≡ false → Taken y w t → Taken (cond b x y) w t
+taken_else true x y w t e h = absurd (false≢true (sym e))
+taken_else false x y w t e h = h
 
 -- the test of a character that stands for itself in a class
 no_syntax : (c : ℕ) → (c == 93 || c == 92 || c == 45) ≡ false → (c == 93 ≡ false) × (c == 92 ≡ false) × (c == 45 ≡ false)
-no_syntax c h = by_tests (c == 93) (c == 92) (c == 45) h
-  where
-    by_tests : (a b d : Bool) → (a || b || d) ≡ false → (a ≡ false) × (b ≡ false) × (d ≡ false)
-    by_tests false false false h = (refl, refl, refl)
-    by_tests true b d h = absurd (false≢true (sym h))
-    by_tests false true d h = absurd (false≢true (sym h))
-    by_tests false false true h = absurd (false≢true (sym h))
+no_syntax c h =
+    let last = or_parts (c == 93 || c == 92) (c == 45) h in
+    let first = or_parts (c == 93) (c == 92) last.0 in
+    (first.0, first.1, last.1)
 
 -- a character of a class that begins with this one: an escape, or this one itself
 class_char_cases : (d k : ℕ) (text w mid : List ℕ) (P : Type 0) → ClassChar d text mid → text ≡ k ∷ w
@@ -70,7 +50,7 @@ first_char_cases : (f : Bool) (d k : ℕ) (text w mid : List ℕ) (P : Type 0) �
 first_char_cases f d k text w mid P (other_char r) e at_escape at_other =
     class_char_cases d k text w mid P r e at_escape (λ n93 n92 n45 same rest. at_other n93 n92 (λ y. absurd (false≢true (sym n45 ∙ y))) same rest)
 first_char_cases f d k text w mid P first_dash e at_escape at_other =
-    let same : k ≡ 45 = cc in at_other (is_other k 93 (λ g. omega (arith, same, g))) (is_other k 92 (λ g. omega (arith, same, g))) (λ y. refl) (sym same) (cc)
+    let same : k ≡ 45 = cc in at_other (ne_eqb k 93 (λ g. omega (arith, same, g))) (ne_eqb k 92 (λ g. omega (arith, same, g))) (λ y. refl) (sym same) (cc)
 
 -- a `-` before the end of a class
 abbrev LastDash : List CharRange → List ℕ → List ℕ → List CharRange → Type 0
@@ -98,8 +78,8 @@ item_cases f k ranges all text w rest P (to_dash {c = c} r le) e at_end at_escap
 -- after a character of a class, another character than `-` begins the next item
 after_other : (first k : ℕ) (ranges all : List CharRange) (text w rest : List ℕ) → After first ranges text rest all → text ≡ k ∷ w → k == 45 ≡ false → Items false (ranges ++ range first first ∷ []) text rest all
 after_other first k ranges all text w rest (after_one i) e n45 = i
-after_other first k ranges all text w rest (after_range last le i) e n45 = let same : k ≡ 45 = cc in absurd (false≢true (sym n45 ∙ is_same k 45 same))
-after_other first k ranges all text w rest (after_dash_end le) e n45 = let same : k ≡ 45 = cc in absurd (false≢true (sym n45 ∙ is_same k 45 same))
+after_other first k ranges all text w rest (after_range last le i) e n45 = let same : k ≡ 45 = cc in absurd (false≢true (sym n45 ∙ eq-eqb k 45 same))
+after_other first k ranges all text w rest (after_dash_end le) e n45 = let same : k ≡ 45 = cc in absurd (false≢true (sym n45 ∙ eq-eqb k 45 same))
 
 -- after a character of a class and `-`
 after_dash_cases : (first : ℕ) (ranges all : List CharRange) (text w rest : List ℕ) (P : Type 0) → After first ranges text rest all → text ≡ 45 ∷ w
@@ -113,20 +93,20 @@ after_dash_cases first ranges all text w rest P (after_range {d = d} {mid = mid}
 after_dash_cases first ranges all text w rest P (after_dash_end le) e at_last at_range at_dash = at_dash (cc) le refl
 
 -- the first character of what is left of a class
-taking_item : (f : Bool) (c : ℕ) (r : Reading) (w : List ℕ) (t : Tree) → (c ≡ 45 → f ≡ true) → InClass f r (c ∷ w) t → Takes (item c r) w t
+taking_item : (f : Bool) (c : ℕ) (r : Reading) (w : List ℕ) (t : Tree) → (c ≡ 45 → f ≡ true) → InClass f r (c ∷ w) t → Taken (item c r) w t
 taking_item f c r w t dash i =
-    item_cases f c r.ranges i.0 (c ∷ w) w i.1 (Takes (item c r) w t) i.2 refl
-    (λ y rest all. takes_then (c == 93) _ _ w t (is_same c 93 y)
+    item_cases f c r.ranges i.0 (c ∷ w) w i.1 (Taken (item c r) w t) i.2 refl
+    (λ y rest all. taken_then (c == 93) _ _ w t (eq-eqb c 93 y)
     (class_end r, refl, subst (λ (v : List ℕ). AfterClass r t r.ranges v) rest (subst (λ (a : List CharRange). AfterClass r t a i.1) all i.3)))
     (λ y h. in_escape y (i.0, i.1, h, i.3))
-    (λ y l. in_char (is_other c 93 (λ g. omega (arith, y, g))) (is_other c 92 (λ g. omega (arith, y, g))) (i.0, i.1, first_dash_ends y l, i.3))
+    (λ y l. in_char (ne_eqb c 93 (λ g. omega (arith, y, g))) (ne_eqb c 92 (λ g. omega (arith, y, g))) (i.0, i.1, first_dash_ends y l, i.3))
     (λ n93 n92 d h. in_char n93 n92 (i.0, i.1, h, i.3))
   where
-    in_escape : c ≡ 92 → InEscape None r w t → Takes (item c r) w t
-    in_escape y h = takes_else (c == 93) _ _ w t (is_other c 93 (λ g. omega (arith, y, g))) (takes_then (c == 92) _ _ w t (is_same c 92 y) (at (modes.ClassEscape None) r, refl, h))
+    in_escape : c ≡ 92 → InEscape None r w t → Taken (item c r) w t
+    in_escape y h = taken_else (c == 93) _ _ w t (ne_eqb c 93 (λ g. omega (arith, y, g))) (taken_then (c == 92) _ _ w t (eq-eqb c 92 y) (at (modes.ClassEscape None) r, refl, h))
 
-    in_char : c == 93 ≡ false → c == 92 ≡ false → AfterChar c r w t → Takes (item c r) w t
-    in_char n93 n92 h = takes_else (c == 93) _ _ w t n93 (takes_else (c == 92) _ _ w t n92 (at (modes.ClassChar c) r, refl, h))
+    in_char : c == 93 ≡ false → c == 92 ≡ false → AfterChar c r w t → Taken (item c r) w t
+    in_char n93 n92 h = taken_else (c == 93) _ _ w t n93 (taken_else (c == 92) _ _ w t n92 (at (modes.ClassChar c) r, refl, h))
 
     first_dash_ends : c ≡ 45 → LastDash r.ranges w i.1 i.0 → After c r.ranges w i.1 i.0
     first_dash_ends y l =
@@ -134,7 +114,7 @@ taking_item f c r w t dash i =
         (subst (λ (v : List ℕ). After 45 r.ranges v i.1 i.0) (sym l.0) (subst (λ (a : List CharRange). After 45 r.ranges (93 ∷ i.1) i.1 a) (sym l.1) (after_one no_item)))
 
 -- the same after another item
-taking_next_item : (c : ℕ) (r : Reading) (w : List ℕ) (t : Tree) → InClass false r (c ∷ w) t → Takes (next_item c r) w t
+taking_next_item : (c : ℕ) (r : Reading) (w : List ℕ) (t : Tree) → InClass false r (c ∷ w) t → Taken (next_item c r) w t
 taking_next_item c r w t i = by_test (c == 45) refl
   where
     ends_so : c ≡ 45 → Completes (at ClassLast (ranged 45 45 r)) w t
@@ -142,21 +122,21 @@ taking_next_item c r w t i = by_test (c == 45) refl
         item_cases false c r.ranges i.0 (c ∷ w) w i.1 (Completes (at ClassLast (ranged 45 45 r)) w t) i.2 refl
         (λ g rest all. absurd (omega (arith, y, g))) (λ g h. absurd (omega (arith, y, g)))
         (λ g l. (i.1, l.0, subst (λ (a : List CharRange). AfterClass r t a i.1) l.1 i.3))
-        (λ n93 n92 dash h. absurd (false≢true (dash (is_same c 45 y))))
+        (λ n93 n92 dash h. absurd (false≢true (dash (eq-eqb c 45 y))))
 
-    by_test : (b : Bool) → c == 45 ≡ b → Takes (next_item c r) w t
-    by_test true y = takes_then (c == 45) _ _ w t y (at ClassLast (ranged 45 45 r), refl, ends_so (is_char c 45 y))
-    by_test false n = takes_else (c == 45) _ _ w t n (taking_item false c r w t (λ y. absurd (false≢true (sym n ∙ is_same c 45 y))) i)
+    by_test : (b : Bool) → c == 45 ≡ b → Taken (next_item c r) w t
+    by_test true y = taken_then (c == 45) _ _ w t y (at ClassLast (ranged 45 45 r), refl, ends_so (eqb-true c 45 y))
+    by_test false n = taken_else (c == 45) _ _ w t n (taking_item false c r w t (λ y. absurd (false≢true (sym n ∙ eq-eqb c 45 y))) i)
 
 -- after a character of a class
-taking_after_char : (first c : ℕ) (r : Reading) (w : List ℕ) (t : Tree) → AfterChar first r (c ∷ w) t → Takes (after_char first c r) w t
+taking_after_char : (first c : ℕ) (r : Reading) (w : List ℕ) (t : Tree) → AfterChar first r (c ∷ w) t → Taken (after_char first c r) w t
 taking_after_char first c r w t i = by_test (c == 45) refl
   where
-    by_test : (b : Bool) → c == 45 ≡ b → Takes (after_char first c r) w t
-    by_test true y = takes_then (c == 45) _ _ w t y (at (modes.ClassDash first) r, refl, subst (λ (k : ℕ). AfterChar first r (k ∷ w) t) (is_char c 45 y) i)
+    by_test : (b : Bool) → c == 45 ≡ b → Taken (after_char first c r) w t
+    by_test true y = taken_then (c == 45) _ _ w t y (at (modes.ClassDash first) r, refl, subst (λ (k : ℕ). AfterChar first r (k ∷ w) t) (eqb-true c 45 y) i)
     by_test false n =
-        takes_else (c == 45) _ _ w t n
-        (taking_item false c (ranged first first r) w t (λ y. absurd (false≢true (sym n ∙ is_same c 45 y))) (i.0, i.1, after_other first c r.ranges i.0 (c ∷ w) w i.1 i.2 refl n, i.3))
+        taken_else (c == 45) _ _ w t n
+        (taking_item false c (ranged first first r) w t (λ y. absurd (false≢true (sym n ∙ eq-eqb c 45 y))) (i.0, i.1, after_other first c r.ranges i.0 (c ∷ w) w i.1 i.2 refl n, i.3))
 
 -- a character that a letter stands for in an escape is at most `~`
 escaped_small : (c d : ℕ) → escaped c ≡ Some d → d ≤ 126
@@ -184,140 +164,129 @@ class_escape_small d text w mid (itself tests) e =
 class_escape_small d text w mid (class_escape {text = v} r) e = escape_small d v mid r
 class_escape_small d text w mid backspace e = omega arith
 
--- what is left of a class, after a character of it that ends a range or begins an item
-abbrev pub Left : Option ℕ → ℕ → Reading → List ℕ → Tree → Type 0
-Left first d r after t = (all : List CharRange) × (mid : List ℕ) × Ended first d r.ranges after mid all × AfterClass r t all mid
-
 -- a character that ends a range, or begins an item
-taking_class_character : (first : Option ℕ) (d : ℕ) (r : Reading) (w : List ℕ) (t : Tree) → Left first d r w t → Takes (class_char first d r) w t
+taking_class_character : (first : Option ℕ) (d : ℕ) (r : Reading) (w : List ℕ) (t : Tree) → AfterEnd first d r w t → Taken (class_char first d r) w t
 taking_class_character None d r w t i = (at (modes.ClassChar d) r, refl, (i.0, i.1, i.2, i.3))
-taking_class_character (Some first) d r w t i = takes_then (nat_le first d) _ _ w t (le_holds first d i.2.0) (at ClassNext (ranged first d r), refl, (i.0, i.1, i.2.1, i.3))
+taking_class_character (Some first) d r w t i = taken_then (nat_le first d) _ _ w t (le-leb first d i.2.0) (at ClassNext (ranged first d r), refl, (i.0, i.1, i.2.1, i.3))
 
 -- after a character of a class and `-`
-taking_after_dash : (first c : ℕ) (r : Reading) (w : List ℕ) (t : Tree) → AfterChar first r (45 ∷ c ∷ w) t → Takes (after_dash first c r) w t
+taking_after_dash : (first c : ℕ) (r : Reading) (w : List ℕ) (t : Tree) → AfterChar first r (45 ∷ c ∷ w) t → Taken (after_dash first c r) w t
 taking_after_dash first c r w t i =
-    after_dash_cases first r.ranges i.0 (45 ∷ c ∷ w) (c ∷ w) i.1 (Takes (after_dash first c r) w t) i.2 refl ends_so ranges_so dash_so
+    after_dash_cases first r.ranges i.0 (45 ∷ c ∷ w) (c ∷ w) i.1 (Taken (after_dash first c r) w t) i.2 refl ends_so ranges_so dash_so
   where
-    ends_so : LastDash (r.ranges ++ range first first ∷ []) (c ∷ w) i.1 i.0 → Takes (after_dash first c r) w t
+    ends_so : LastDash (r.ranges ++ range first first ∷ []) (c ∷ w) i.1 i.0 → Taken (after_dash first c r) w t
     ends_so l =
         let tails : i.1 ≡ w = cc (l.0) in
-        takes_then (c == 93) _ _ w t (is_same c 93 (cc (l.0)))
+        taken_then (c == 93) _ _ w t (eq-eqb c 93 (cc (l.0)))
         (class_end (ranged 45 45 (ranged first first r)), refl, subst (λ (v : List ℕ). AfterClass r t (r.ranges ++ range first first ∷ [] ++ range 45 45 ∷ []) v) tails (subst (λ (a : List CharRange). AfterClass r t a i.1) l.1 i.3))
 
-    escape_so : (d : ℕ) (after : List ℕ) → c ≡ 92 → ClassChar d (92 ∷ w) after → first ≤ d → Items false (r.ranges ++ range first d ∷ []) after i.1 i.0 → Takes (after_dash first c r) w t
+    escape_so : (d : ℕ) (after : List ℕ) → c ≡ 92 → ClassChar d (92 ∷ w) after → first ≤ d → Items false (r.ranges ++ range first d ∷ []) after i.1 i.0 → Taken (after_dash first c r) w t
     escape_so d after y last le items =
         let small = class_escape_small d (92 ∷ w) w after last refl in
-        takes_else (c == 93) _ _ w t (is_other c 93 (λ g. omega (arith, y, g))) (takes_then (c == 92) _ _ w t (is_same c 92 y)
-        (takes_then (nat_le first 0xffff) _ _ w t (le_holds first 0xffff (omega (arith, small, le))) (at (modes.ClassEscape (Some first)) r, refl, (i.0, i.1, d, after, last, le, items, i.3))))
+        taken_else (c == 93) _ _ w t (ne_eqb c 93 (λ g. omega (arith, y, g))) (taken_then (c == 92) _ _ w t (eq-eqb c 92 y)
+        (taken_then (nat_le first 0xffff) _ _ w t (le-leb first 0xffff (omega (arith, small, le))) (at (modes.ClassEscape (Some first)) r, refl, (i.0, i.1, d, after, last, le, items, i.3))))
 
-    ranges_so : (d : ℕ) (after : List ℕ) → ClassChar d (c ∷ w) after → first ≤ d → Items false (r.ranges ++ range first d ∷ []) after i.1 i.0 → Takes (after_dash first c r) w t
+    ranges_so : (d : ℕ) (after : List ℕ) → ClassChar d (c ∷ w) after → first ≤ d → Items false (r.ranges ++ range first d ∷ []) after i.1 i.0 → Taken (after_dash first c r) w t
     ranges_so d after last le items =
-        class_char_cases d c (c ∷ w) w after (Takes (after_dash first c r) w t) last refl (λ y read. escape_so d after y read le items)
-        (λ n93 n92 n45 same tails. takes_else (c == 93) _ _ w t n93 (takes_else (c == 92) _ _ w t n92 (takes_else (c == 45) _ _ w t n45
+        class_char_cases d c (c ∷ w) w after (Taken (after_dash first c r) w t) last refl (λ y read. escape_so d after y read le items)
+        (λ n93 n92 n45 same tails. taken_else (c == 93) _ _ w t n93 (taken_else (c == 92) _ _ w t n92 (taken_else (c == 45) _ _ w t n45
         (taking_class_character (Some first) c r w t
-        (subst (λ (v : List ℕ). Left (Some first) c r v t) tails
-        (subst (λ (x : ℕ). Left (Some first) x r after t) same (i.0, i.1, (le, items), i.3)))))))
+        (subst (λ (v : List ℕ). AfterEnd (Some first) c r v t) tails
+        (subst (λ (x : ℕ). AfterEnd (Some first) x r after t) same (i.0, i.1, (le, items), i.3)))))))
 
-    dash_so : c ∷ w ≡ 45 ∷ 93 ∷ i.1 → first ≤ 45 → i.0 ≡ r.ranges ++ range first 45 ∷ [] → Takes (after_dash first c r) w t
+    dash_so : c ∷ w ≡ 45 ∷ 93 ∷ i.1 → first ≤ 45 → i.0 ≡ r.ranges ++ range first 45 ∷ [] → Taken (after_dash first c r) w t
     dash_so e le all =
         let y : c ≡ 45 = cc in
-        takes_else (c == 93) _ _ w t (is_other c 93 (λ g. omega (arith, y, g))) (takes_else (c == 92) _ _ w t (is_other c 92 (λ g. omega (arith, y, g))) (takes_then (c == 45) _ _ w t (is_same c 45 y)
-        (takes_then (nat_le first 45) _ _ w t (le_holds first 45 le) (at ClassLast (ranged first 45 r), refl, (i.1, cc, subst (λ (a : List CharRange). AfterClass r t a i.1) all i.3)))))
+        taken_else (c == 93) _ _ w t (ne_eqb c 93 (λ g. omega (arith, y, g))) (taken_else (c == 92) _ _ w t (ne_eqb c 92 (λ g. omega (arith, y, g))) (taken_then (c == 45) _ _ w t (eq-eqb c 45 y)
+        (taken_then (nat_le first 45) _ _ w t (le-leb first 45 le) (at ClassLast (ranged first 45 r), refl, (i.1, cc, subst (λ (a : List CharRange). AfterClass r t a i.1) all i.3)))))
 
 -- where the range, if one has begun, ends at a character, it can end at a greater one
 ended_can_end : (first : Option ℕ) (d g : ℕ) (ranges all : List CharRange) (after mid : List ℕ) → Ended first d ranges after mid all → d ≤ g → can_end first g ≡ true
 ended_can_end None d g ranges all after mid h le = refl
-ended_can_end (Some first) d g ranges all after mid h le = let low = h.0 in le_holds first g (omega (arith, low, le))
+ended_can_end (Some first) d g ranges all after mid h le = let low = h.0 in le-leb first g (omega (arith, low, le))
 
--- a letter that stands for a character is none of the other escapes' letters
-not_escaped : (c k d : ℕ) → escaped c ≡ Some d → escaped k ≡ None → c == k ≡ false
-not_escaped c k d here none = is_other c k (λ e. no_both (sym (ap escaped e) ∙ here) none)
-  where
-    no_both : escaped k ≡ Some d → escaped k ≡ None → ⊥
-    no_both x y = cc
-
--- nor of the sets'
+-- a letter that stands for a character is no letter of a set
 no_set : (c d : ℕ) → escaped c ≡ Some d → set_of c ≡ None
-no_set c d h = rw (not_escaped c 100 d h refl, not_escaped c 68 d h refl, not_escaped c 119 d h refl, not_escaped c 87 d h refl, not_escaped c 115 d h refl, not_escaped c 83 d h refl) refl
+no_set c d h = rw (no_escape c 100 d h refl, no_escape c 68 d h refl, no_escape c 119 d h refl, no_escape c 87 d h refl, no_escape c 115 d h refl, no_escape c 83 d h refl) refl
 
 module _ (first : Option ℕ) (r : Reading) (w : List ℕ) (t : Tree) where
-  abbrev TakesEscape : ℕ → Type 0
-  TakesEscape c = Takes (class_set (set_of c) first c r) w t
+  abbrev EscapeTaken : ℕ → Type 0
+  EscapeTaken c = Taken (class_set (set_of c) first c r) w t
 
   -- a letter that stands for a character, and hexadecimal digits
-  taking_named : (c d : ℕ) → escaped c ≡ Some d → Left first d r w t → TakesEscape c
+  taking_named : (c d : ℕ) → escaped c ≡ Some d → AfterEnd first d r w t → EscapeTaken c
   taking_named c d here i =
-      subst (λ (o : Option (List CharRange)). Takes (class_set o first c r) w t) (sym (no_set c d here))
-      (takes_else (c == 98) _ _ w t (not_escaped c 98 d here refl) (takes_else (c == 120) _ _ w t (not_escaped c 120 d here refl) (takes_else (c == 117) _ _ w t (not_escaped c 117 d here refl) (takes_else (c == 48) _ _ w t (not_escaped c 48 d here refl)
-      (subst (λ (o : Option ℕ). Takes (class_char_if first o r) w t) (sym here) (taking_class_character first d r w t i))))))
+      subst (λ (o : Option (List CharRange)). Taken (class_set o first c r) w t) (sym (no_set c d here))
+      (taken_else (c == 98) _ _ w t (no_escape c 98 d here refl) (taken_else (c == 120) _ _ w t (no_escape c 120 d here refl) (taken_else (c == 117) _ _ w t (no_escape c 117 d here refl) (taken_else (c == 48) _ _ w t (no_escape c 48 d here refl)
+      (subst (λ (o : Option ℕ). Taken (class_char_if first o r) w t) (sym here) (taking_class_character first d r w t i))))))
 
-  taking_two : (d : ℕ) (after : List ℕ) → Hex 2 0 w after d → Left first d r after t → TakesEscape 120
+  taking_two : (d : ℕ) (after : List ℕ) → Hex 2 0 w after d → AfterEnd first d r after t → EscapeTaken 120
   taking_two d after h i =
       let small = two_digits_more 0 w after d h in
-      takes_then (can_end first 0xff) _ _ w t (ended_can_end first d 0xff r.ranges i.0 after i.1 i.2 (omega (arith, small)))
-      (at (modes.ClassHex first 0 2) r, refl, (i.0, i.1, d, after, h, no_surrogate_below d (omega (arith, small)), i.2, i.3))
+      taken_then (can_end first 0xff) _ _ w t (ended_can_end first d 0xff r.ranges i.0 after i.1 i.2 (omega (arith, small)))
+      (at (modes.ClassHex first 0 2) r, refl, (i.0, i.1, d, after, h, two_small w after d h, i.2, i.3))
 
-  taking_four : (d : ℕ) (after : List ℕ) → Hex 4 0 w after d → is_surrogate d ≡ false → Left first d r after t → TakesEscape 117
+  taking_four : (d : ℕ) (after : List ℕ) → Hex 4 0 w after d → is_surrogate d ≡ false → AfterEnd first d r after t → EscapeTaken 117
   taking_four d after h none i =
       let small = four_digits_more 0 w after d h in
-      takes_then (can_end first 0xffff) _ _ w t (ended_can_end first d 0xffff r.ranges i.0 after i.1 i.2 (omega (arith, small)))
+      taken_then (can_end first 0xffff) _ _ w t (ended_can_end first d 0xffff r.ranges i.0 after i.1 i.2 (omega (arith, small)))
       (at (modes.ClassHex first 0 4) r, refl, (i.0, i.1, d, after, h, none, i.2, i.3))
 
 -- `\0`
-taking_zero : (first : Option ℕ) (r : Reading) (w : List ℕ) (t : Tree) → (BeginsDigit w → ⊥) → Left first 0 r w t → Takes (class_zero first r) w t
+taking_zero : (first : Option ℕ) (r : Reading) (w : List ℕ) (t : Tree) → (BeginsDigit w → ⊥) → AfterEnd first 0 r w t → Taken (class_zero first r) w t
 taking_zero None r w t no_digit i = (at (modes.ClassZero false) r, refl, (no_digit, (i.0, i.1, i.2, i.3)))
 taking_zero (Some first) r w t no_digit i =
     let le = i.2.0 in
     let zero_is : first ≡ 0 = omega (arith, le) in
-    takes_then (first == 0) _ _ w t (is_same first 0 zero_is)
+    taken_then (first == 0) _ _ w t (eq-eqb first 0 zero_is)
     (at (modes.ClassZero true) (ranged 0 0 r), refl, (no_digit, (i.0, i.1, subst (λ (k : ℕ). Items false (r.ranges ++ range k 0 ∷ []) w i.1 i.0) zero_is i.2.1, i.3)))
 
 module _ (first : Option ℕ) (r : Reading) (c : ℕ) (w : List ℕ) (t : Tree) where
   -- an escape that begins with this letter
-  taking_char_escape : (d : ℕ) (text after : List ℕ) → CharEscape d text after → text ≡ c ∷ w → Left first d r after t → TakesEscape first r w t c
+  taking_char_escape : (d : ℕ) (text after : List ℕ) → CharEscape d text after → text ≡ c ∷ w → AfterEnd first d r after t → EscapeTaken first r w t c
   taking_char_escape d text after (named {letter = letter} here) e i =
       let same : letter ≡ c = cc in
       let tails : after ≡ w = cc in
-      subst (λ (x : ℕ). TakesEscape first r w t x) same (taking_named first r w t letter d here (subst (λ (v : List ℕ). Left first d r v t) tails i))
+      subst (λ (x : ℕ). EscapeTaken first r w t x) same (taking_named first r w t letter d here (subst (λ (v : List ℕ). AfterEnd first d r v t) tails i))
   taking_char_escape d text after (zero_char no_digit) e i =
       let same : 48 ≡ c = cc in
       let tails : after ≡ w = cc in
-      subst (λ (x : ℕ). TakesEscape first r w t x) same (taking_zero first r w t (subst (λ (v : List ℕ). BeginsDigit v → ⊥) tails no_digit) (subst (λ (v : List ℕ). Left first 0 r v t) tails i))
+      subst (λ (x : ℕ). EscapeTaken first r w t x) same (taking_zero first r w t (subst (λ (v : List ℕ). BeginsDigit v → ⊥) tails no_digit) (subst (λ (v : List ℕ). AfterEnd first 0 r v t) tails i))
   taking_char_escape d text after (two_digits {text = v} h) e i =
       let same : 120 ≡ c = cc in
       let tails : v ≡ w = cc in
-      subst (λ (x : ℕ). TakesEscape first r w t x) same (taking_two first r w t d after (subst (λ (v : List ℕ). Hex 2 0 v after d) tails h) i)
+      subst (λ (x : ℕ). EscapeTaken first r w t x) same (taking_two first r w t d after (subst (λ (v : List ℕ). Hex 2 0 v after d) tails h) i)
   taking_char_escape d text after (four_digits {text = v} h none) e i =
       let same : 117 ≡ c = cc in
       let tails : v ≡ w = cc in
-      subst (λ (x : ℕ). TakesEscape first r w t x) same (taking_four first r w t d after (subst (λ (v : List ℕ). Hex 4 0 v after d) tails h) none i)
+      subst (λ (x : ℕ). EscapeTaken first r w t x) same (taking_four first r w t d after (subst (λ (v : List ℕ). Hex 4 0 v after d) tails h) none i)
 
   -- the same, with the backslash
-  taking_escaped : (d : ℕ) (text after : List ℕ) → ClassChar d text after → text ≡ 92 ∷ c ∷ w → Left first d r after t → TakesEscape first r w t c
+  taking_escaped : (d : ℕ) (text after : List ℕ) → ClassChar d text after → text ≡ 92 ∷ c ∷ w → AfterEnd first d r after t → EscapeTaken first r w t c
   taking_escaped d text after (itself tests) e i =
       let same : d ≡ 92 = cc in absurd (false≢true (sym (subst (λ (x : ℕ). (x == 93 || x == 92 || x == 45) ≡ false) same tests)))
   taking_escaped d text after (class_escape {text = v} read) e i = taking_char_escape d v after read (cc) i
   taking_escaped d text after backspace e i =
       let same : 98 ≡ c = cc in
       let tails : after ≡ w = cc in
-      subst (λ (x : ℕ). TakesEscape first r w t x) same (taking_class_character first 8 r w t (subst (λ (v : List ℕ). Left first 8 r v t) tails i))
+      subst (λ (x : ℕ). EscapeTaken first r w t x) same (taking_class_character first 8 r w t (subst (λ (v : List ℕ). AfterEnd first 8 r v t) tails i))
 
 -- an escape in a class
-taking_escape : (first : Option ℕ) (c : ℕ) (r : Reading) (w : List ℕ) (t : Tree) → InEscape first r (c ∷ w) t → Takes (class_set (set_of c) first c r) w t
+taking_escape : (first : Option ℕ) (c : ℕ) (r : Reading) (w : List ℕ) (t : Tree) → InEscape first r (c ∷ w) t → Taken (class_set (set_of c) first c r) w t
 taking_escape (Some first) c r w t i = taking_escaped (Some first) r c w t i.2 (92 ∷ c ∷ w) i.3 i.4 refl (i.0, i.1, (i.5, i.6), i.7)
 taking_escape None c r w t i = by_item (c ∷ w) i.2 refl
   where
-    by_item : (text : List ℕ) → EscapeItem r.ranges text i.1 i.0 → text ≡ c ∷ w → Takes (class_set (set_of c) None c r) w t
+    by_item : (text : List ℕ) → EscapeItem r.ranges text i.1 i.0 → text ≡ c ∷ w → Taken (class_set (set_of c) None c r) w t
     by_item text (escape_set {letter = letter} {more = more} {text = v} set items) e =
         let same : letter ≡ c = cc in
         let here : set_of c ≡ Some more = subst (λ (x : ℕ). set_of x ≡ Some more) same set in
         let tails : v ≡ w = cc in
-        subst (λ (o : Option (List CharRange)). Takes (class_set o None c r) w t) (sym here)
+        subst (λ (o : Option (List CharRange)). Taken (class_set o None c r) w t) (sym here)
         (with_ranges more r, refl, (i.0, i.1, subst (λ (v : List ℕ). Items false (r.ranges ++ more) v i.1 i.0) tails items, i.3))
     by_item text (escape_char {c = d} {mid = mid} read after) e = taking_escaped None r c w t d (92 ∷ text) mid read (cc) (i.0, i.1, after, i.3)
 
 -- a hexadecimal digit, of a number that can still become a character: what it makes of the number, and the greatest character that is left
-abbrev pub DigitTaken : ℕ → ℕ → ℕ → ℕ → List ℕ → List ℕ → Type 0
+abbrev DigitTaken : ℕ → ℕ → ℕ → ℕ → List ℕ → List ℕ → Type 0
 DigitTaken value left c ch w mid =
     (d : ℕ) × (g : ℕ) × (hex_value c ≡ Some d) × Hex left (value * 16 + d) w mid ch × (greatest_from (value * 16 + d) left ≡ Some g) × (ch ≤ g) × (left ≡ 0 → g ≡ ch) × (nat_lt 0xfff value ≡ false)
 
@@ -340,15 +309,15 @@ digit_taken first value (suc zero) c ch w mid p h none =
     (0, refl, (d.0, ch, d.1, d.2, greatest_last (value * 16 + d.0) ch none (omega (arith, d.3, p.0)) d.2.1, omega arith, λ y. refl, no_more value p.0))
 digit_taken first value (suc (suc zero)) c ch w mid p h none =
     let d = digit_first 1 value c ch w mid h in
-    let g = greatest_of_one (value * 16 + d.0) w mid ch none (omega (arith, d.3, p.0)) d.2 in
+    let g = greatest_with_one (value * 16 + d.0) w mid ch none (omega (arith, d.3, p.0)) d.2 in
     (1, refl, (d.0, g.0, d.1, d.2, g.1, g.2, λ y. absurd (omega (arith, y)), no_more value (omega (arith, p.0))))
 digit_taken first value (suc (suc (suc zero))) c ch w mid p h none =
     let d = digit_first 2 value c ch w mid h in
-    let g = greatest_of_two (value * 16 + d.0) w mid ch none (omega (arith, d.3, p.0)) d.2 in
+    let g = greatest_with_two (value * 16 + d.0) w mid ch none (omega (arith, d.3, p.0)) d.2 in
     (2, refl, (d.0, g.0, d.1, d.2, g.1, g.2, λ y. absurd (omega (arith, y)), no_more value (omega (arith, p.0))))
 digit_taken first value (suc (suc (suc (suc zero)))) c ch w mid p h none =
     let d = digit_first 3 value c ch w mid h in
-    let g = greatest_of_three (value * 16 + d.0) w mid ch none (omega (arith, d.3, p.0)) d.2 in
+    let g = greatest_with_three (value * 16 + d.0) w mid ch none (omega (arith, d.3, p.0)) d.2 in
     (3, refl, (d.0, g.0, d.1, d.2, g.1, g.2, λ y. absurd (omega (arith, y)), no_more value (omega (arith, p.0))))
 digit_taken first value (suc (suc (suc (suc (suc n))))) c ch w mid p h none = absurd p
 
@@ -358,78 +327,78 @@ one_less left = omega arith
 
 -- the guard on a number's digits
 hex_unguarded : (value left : ℕ) → nat_lt 0xfff value ≡ false → (nat_lt 0xfff value || (suc left == 0)) ≡ false
-hex_unguarded value left small = rw (small, is_other (suc left) 0 (λ e. absurd (omega (arith, e)))) refl
+hex_unguarded value left small = rw (small, ne_eqb (suc left) 0 (λ e. absurd (omega (arith, e)))) refl
 
 -- hexadecimal digits
 pub taking_hex : (value left c : ℕ) (r : Reading) (w : List ℕ) (t : Tree) → r.mode ≡ modes.Hex value left → IsPartial None value left → CompletesIn (modes.Hex value left) r (c ∷ w) t
-    → (s : Reading) × (step_in (modes.Hex value left) c r ≡ Some s) × Completes s w t
+    → Taken (step_in (modes.Hex value left) c r) w t
 taking_hex value left c r w t m p h = by_digit (digit_taken None value left c h.0 w h.1 p h.2 h.3)
   where
-    by_end : (l d g : ℕ) → Hex l (value * 16 + d) w h.1 h.0 → (l ≡ 0 → g ≡ h.0) → (b : Bool) → l == 0 ≡ b → Takes (cond b (Some (with_atom (char g) r)) (Some (at (modes.Hex (value * 16 + d) l) r))) w t
+    by_end : (l d g : ℕ) → Hex l (value * 16 + d) w h.1 h.0 → (l ≡ 0 → g ≡ h.0) → (b : Bool) → l == 0 ≡ b → Taken (cond b (Some (with_atom (char g) r)) (Some (at (modes.Hex (value * 16 + d) l) r))) w t
     by_end l d g more last true y =
-        let l0 : l ≡ 0 = is_char l 0 y in
+        let l0 : l ≡ 0 = eqb-true l 0 y in
         let ended = subst (λ (k : ℕ). Hex k (value * 16 + d) w h.1 h.0) l0 more in
         (with_atom (char g) r, refl, subst (λ (v : List ℕ). AfterAtom (char g) r.trees r.groups v t) (sym ended.0) (subst (λ (k : ℕ). AfterAtom (char k) r.trees r.groups h.1 t) (sym (last l0)) h.4))
     by_end l d g more last false y = (at (modes.Hex (value * 16 + d) l) r, refl, (h.0, h.1, more, h.3, h.4))
 
-    by_digit : (l : ℕ) × (left ≡ suc l) × DigitTaken value l c h.0 w h.1 → Takes (hex_by (hex_value c) value left r) w t
+    by_digit : (l : ℕ) × (left ≡ suc l) × DigitTaken value l c h.0 w h.1 → Taken (hex_by (hex_value c) value left r) w t
     by_digit (l, is, (d, g, here, more, greatest, within, last, small)) =
-        subst (λ (o : Option ℕ). Takes (hex_by o value left r) w t) (sym here)
-        (subst (λ (k : ℕ). Takes (hex_by (Some d) value k r) w t) (sym is)
-        (takes_else (nat_lt 0xfff value || (suc l == 0)) _ _ w t (hex_unguarded value l small)
-        (subst (λ (k : ℕ). Takes (hex_to (greatest_from (value * 16 + d) k) (value * 16 + d) k r) w t) (one_less l)
-        (subst (λ (o : Option ℕ). Takes (hex_to o (value * 16 + d) l r) w t) (sym greatest) (by_end l d g more last (l == 0) refl)))))
+        subst (λ (o : Option ℕ). Taken (hex_by o value left r) w t) (sym here)
+        (subst (λ (k : ℕ). Taken (hex_by (Some d) value k r) w t) (sym is)
+        (taken_else (nat_lt 0xfff value || (suc l == 0)) _ _ w t (hex_unguarded value l small)
+        (subst (λ (k : ℕ). Taken (hex_to (greatest_from (value * 16 + d) k) (value * 16 + d) k r) w t) (one_less l)
+        (subst (λ (o : Option ℕ). Taken (hex_to o (value * 16 + d) l r) w t) (sym greatest) (by_end l d g more last (l == 0) refl)))))
 
 -- the same in a class
 pub taking_class_hex : (first : Option ℕ) (value left c : ℕ) (r : Reading) (w : List ℕ) (t : Tree) → r.mode ≡ modes.ClassHex first value left → IsPartial first value left → CompletesIn (modes.ClassHex first value left) r (c ∷ w) t
-    → (s : Reading) × (step_in (modes.ClassHex first value left) c r ≡ Some s) × Completes s w t
+    → Taken (step_in (modes.ClassHex first value left) c r) w t
 taking_class_hex first value left c r w t m p h = by_digit (digit_taken first value left c h.2 w h.3 p h.4 h.5)
   where
-    by_end : (l d g : ℕ) → Hex l (value * 16 + d) w h.3 h.2 → (l ≡ 0 → g ≡ h.2) → (b : Bool) → l == 0 ≡ b → Takes (cond b (class_char first g r) (Some (at (modes.ClassHex first (value * 16 + d) l) r))) w t
+    by_end : (l d g : ℕ) → Hex l (value * 16 + d) w h.3 h.2 → (l ≡ 0 → g ≡ h.2) → (b : Bool) → l == 0 ≡ b → Taken (cond b (class_char first g r) (Some (at (modes.ClassHex first (value * 16 + d) l) r))) w t
     by_end l d g more last true y =
-        let l0 : l ≡ 0 = is_char l 0 y in
+        let l0 : l ≡ 0 = eqb-true l 0 y in
         let ended = subst (λ (k : ℕ). Hex k (value * 16 + d) w h.3 h.2) l0 more in
-        taking_class_character first g r w t (subst (λ (v : List ℕ). Left first g r v t) (sym ended.0) (subst (λ (k : ℕ). Left first k r h.3 t) (sym (last l0)) (h.0, h.1, h.6, h.7)))
+        taking_class_character first g r w t (subst (λ (v : List ℕ). AfterEnd first g r v t) (sym ended.0) (subst (λ (k : ℕ). AfterEnd first k r h.3 t) (sym (last l0)) (h.0, h.1, h.6, h.7)))
     by_end l d g more last false y = (at (modes.ClassHex first (value * 16 + d) l) r, refl, (h.0, h.1, h.2, h.3, more, h.5, h.6, h.7))
 
-    by_digit : (l : ℕ) × (left ≡ suc l) × DigitTaken value l c h.2 w h.3 → Takes (class_hex_by (hex_value c) first value left r) w t
+    by_digit : (l : ℕ) × (left ≡ suc l) × DigitTaken value l c h.2 w h.3 → Taken (class_hex_by (hex_value c) first value left r) w t
     by_digit (l, is, (d, g, here, more, greatest, within, last, small)) =
-        subst (λ (o : Option ℕ). Takes (class_hex_by o first value left r) w t) (sym here)
-        (subst (λ (k : ℕ). Takes (class_hex_by (Some d) first value k r) w t) (sym is)
-        (takes_else (nat_lt 0xfff value || (suc l == 0)) _ _ w t (hex_unguarded value l small)
-        (subst (λ (k : ℕ). Takes (class_hex_to (greatest_from (value * 16 + d) k) first (value * 16 + d) k r) w t) (one_less l)
-        (subst (λ (o : Option ℕ). Takes (class_hex_to o first (value * 16 + d) l r) w t) (sym greatest)
-        (takes_then (can_end first g) _ _ w t (ended_can_end first h.2 g r.ranges h.0 h.3 h.1 h.6 within) (by_end l d g more last (l == 0) refl))))))
+        subst (λ (o : Option ℕ). Taken (class_hex_by o first value left r) w t) (sym here)
+        (subst (λ (k : ℕ). Taken (class_hex_by (Some d) first value k r) w t) (sym is)
+        (taken_else (nat_lt 0xfff value || (suc l == 0)) _ _ w t (hex_unguarded value l small)
+        (subst (λ (k : ℕ). Taken (class_hex_to (greatest_from (value * 16 + d) k) first (value * 16 + d) k r) w t) (one_less l)
+        (subst (λ (o : Option ℕ). Taken (class_hex_to o first (value * 16 + d) l r) w t) (sym greatest)
+        (taken_then (can_end first g) _ _ w t (ended_can_end first h.2 g r.ranges h.0 h.3 h.1 h.6 within) (by_end l d g more last (l == 0) refl))))))
 
 -- what is taken of a class, in each of its states
-pub taking_class_open : (c : ℕ) (r : Reading) (w : List ℕ) (t : Tree) → r.mode ≡ ClassOpen → CompletesIn ClassOpen r (c ∷ w) t → (s : Reading) × (step_in ClassOpen c r ≡ Some s) × Completes s w t
-taking_class_open c r w t m (inl h) = takes_else (c == 94) _ _ w t (is_other c 94 h.0) (taking_item true c r w t (λ y. refl) h.1)
+pub taking_class_open : (c : ℕ) (r : Reading) (w : List ℕ) (t : Tree) → r.mode ≡ ClassOpen → CompletesIn ClassOpen r (c ∷ w) t → Taken (step_in ClassOpen c r) w t
+taking_class_open c r w t m (inl h) = taken_else (c == 94) _ _ w t (ne_eqb c 94 h.0) (taking_item true c r w t (λ y. refl) h.1)
 taking_class_open c r w t m (inr h) =
     let same : c ≡ 94 = cc (h.1) in
     let tails : h.0 ≡ w = cc (h.1) in
-    takes_then (c == 94) _ _ w t (is_same c 94 same) (at ClassFirst (record r { negated = true }), refl, subst (λ (v : List ℕ). InClass true (record r { negated = true }) v t) tails h.2)
+    taken_then (c == 94) _ _ w t (eq-eqb c 94 same) (at ClassFirst (record r { negated = true }), refl, subst (λ (v : List ℕ). InClass true (record r { negated = true }) v t) tails h.2)
 
-pub taking_class_first : (c : ℕ) (r : Reading) (w : List ℕ) (t : Tree) → r.mode ≡ ClassFirst → CompletesIn ClassFirst r (c ∷ w) t → (s : Reading) × (step_in ClassFirst c r ≡ Some s) × Completes s w t
+pub taking_class_first : (c : ℕ) (r : Reading) (w : List ℕ) (t : Tree) → r.mode ≡ ClassFirst → CompletesIn ClassFirst r (c ∷ w) t → Taken (step_in ClassFirst c r) w t
 taking_class_first c r w t m h = taking_item true c r w t (λ y. refl) h
 
-pub taking_class_next : (c : ℕ) (r : Reading) (w : List ℕ) (t : Tree) → r.mode ≡ ClassNext → CompletesIn ClassNext r (c ∷ w) t → (s : Reading) × (step_in ClassNext c r ≡ Some s) × Completes s w t
+pub taking_class_next : (c : ℕ) (r : Reading) (w : List ℕ) (t : Tree) → r.mode ≡ ClassNext → CompletesIn ClassNext r (c ∷ w) t → Taken (step_in ClassNext c r) w t
 taking_class_next c r w t m h = taking_next_item c r w t h
 
-pub taking_class_last : (c : ℕ) (r : Reading) (w : List ℕ) (t : Tree) → r.mode ≡ ClassLast → CompletesIn ClassLast r (c ∷ w) t → (s : Reading) × (step_in ClassLast c r ≡ Some s) × Completes s w t
+pub taking_class_last : (c : ℕ) (r : Reading) (w : List ℕ) (t : Tree) → r.mode ≡ ClassLast → CompletesIn ClassLast r (c ∷ w) t → Taken (step_in ClassLast c r) w t
 taking_class_last c r w t m h =
     let same : c ≡ 93 = cc (h.1) in
     let tails : h.0 ≡ w = cc (h.1) in
-    takes_then (c == 93) _ _ w t (is_same c 93 same) (class_end r, refl, subst (λ (v : List ℕ). AfterClass r t r.ranges v) tails h.2)
+    taken_then (c == 93) _ _ w t (eq-eqb c 93 same) (class_end r, refl, subst (λ (v : List ℕ). AfterClass r t r.ranges v) tails h.2)
 
-pub taking_class_char : (first c : ℕ) (r : Reading) (w : List ℕ) (t : Tree) → r.mode ≡ modes.ClassChar first → CompletesIn (modes.ClassChar first) r (c ∷ w) t → (s : Reading) × (step_in (modes.ClassChar first) c r ≡ Some s) × Completes s w t
+pub taking_class_char : (first c : ℕ) (r : Reading) (w : List ℕ) (t : Tree) → r.mode ≡ modes.ClassChar first → CompletesIn (modes.ClassChar first) r (c ∷ w) t → Taken (step_in (modes.ClassChar first) c r) w t
 taking_class_char first c r w t m h = taking_after_char first c r w t h
 
-pub taking_class_dash : (first c : ℕ) (r : Reading) (w : List ℕ) (t : Tree) → r.mode ≡ modes.ClassDash first → CompletesIn (modes.ClassDash first) r (c ∷ w) t → (s : Reading) × (step_in (modes.ClassDash first) c r ≡ Some s) × Completes s w t
+pub taking_class_dash : (first c : ℕ) (r : Reading) (w : List ℕ) (t : Tree) → r.mode ≡ modes.ClassDash first → CompletesIn (modes.ClassDash first) r (c ∷ w) t → Taken (step_in (modes.ClassDash first) c r) w t
 taking_class_dash first c r w t m h = taking_after_dash first c r w t h
 
-pub taking_class_zero : (is_last : Bool) (c : ℕ) (r : Reading) (w : List ℕ) (t : Tree) → r.mode ≡ modes.ClassZero is_last → CompletesIn (modes.ClassZero is_last) r (c ∷ w) t → (s : Reading) × (step_in (modes.ClassZero is_last) c r ≡ Some s) × Completes s w t
-taking_class_zero true c r w t m h = takes_else (is_digit c) _ _ w t (is_false (is_digit c) h.0) (taking_next_item c r w t h.1)
-taking_class_zero false c r w t m h = takes_else (is_digit c) _ _ w t (is_false (is_digit c) h.0) (taking_after_char 0 c r w t h.1)
+pub taking_class_zero : (is_last : Bool) (c : ℕ) (r : Reading) (w : List ℕ) (t : Tree) → r.mode ≡ modes.ClassZero is_last → CompletesIn (modes.ClassZero is_last) r (c ∷ w) t → Taken (step_in (modes.ClassZero is_last) c r) w t
+taking_class_zero true c r w t m h = taken_else (is_digit c) _ _ w t (false_from_ne_true (is_digit c) h.0) (taking_next_item c r w t h.1)
+taking_class_zero false c r w t m h = taken_else (is_digit c) _ _ w t (false_from_ne_true (is_digit c) h.0) (taking_after_char 0 c r w t h.1)
 
-pub taking_class_escape : (first : Option ℕ) (c : ℕ) (r : Reading) (w : List ℕ) (t : Tree) → r.mode ≡ modes.ClassEscape first → CompletesIn (modes.ClassEscape first) r (c ∷ w) t → (s : Reading) × (step_in (modes.ClassEscape first) c r ≡ Some s) × Completes s w t
+pub taking_class_escape : (first : Option ℕ) (c : ℕ) (r : Reading) (w : List ℕ) (t : Tree) → r.mode ≡ modes.ClassEscape first → CompletesIn (modes.ClassEscape first) r (c ∷ w) t → Taken (step_in (modes.ClassEscape first) c r) w t
 taking_class_escape first c r w t m h = taking_escape first c r w t h

@@ -1,6 +1,6 @@
 -- Each state that a text leads to is completed by some rest of a text, to a pattern that passes no limit by itself.
-use Rattle.std.proofs.Common.{◌≡◌, ℕ, zero, suc, ◌+◌, ◌*◌, ◌<◌, ◌≤◌, Bool, true, false, cond, List, [], ◌∷◌, ◌++◌, inl, inr, Option, Some, None, refl, sym, ap, subst, ◌∙◌, arith}
-use Rattle.std.specs.Prelude.{◌==◌, ◌⊎◌, max, nat_le}
+use Rattle.std.proofs.Common.{◌≡◌, ℕ, zero, suc, ◌+◌, ◌*◌, ◌<◌, ◌≤◌, Bool, true, false, cond, List, [], ◌∷◌, ◌++◌, inl, Option, Some, None, refl, subst, arith}
+use Rattle.std.specs.Prelude.{◌==◌}
 use Rattle.std.proofs.lemmas.Bool.Decides.{nat_tests}
 use Rattle.es_pattern.specs.Tree.{Tree, CharRange, nothing, one_of, word_boundary, sequence, choice, lookahead}
 use Rattle.es_pattern.specs.Pieces.{top, below}
@@ -18,7 +18,7 @@ use Rattle.es_pattern.proofs.Sound.{Closes, InTerm, AfterAtom, AfterClass, Compl
 use Rattle.es_pattern.proofs.Sane.{CanEnd, IsPartial, greatest_of_three, IsSaneIn, IsSane, Outer, MeasuredOpen, MeasuredBase, after_atom_in, IsMeasured}
 
 -- what closes the groups that are open
-abbrev pub closers : List Open → List ℕ
+abbrev closers : List Open → List ℕ
 closers [] = []
 closers (g ∷ gs) = 41 ∷ closers gs
 

@@ -1,25 +1,25 @@
 -- Programs of parts walk as the parts do.
 use Rattle.std.proofs.Common.{◌≡◌, ℕ, zero, suc, ◌+◌, ◌-◌, ◌≤◌, List, [], ◌∷◌, ◌++◌, ◌⊎◌, inl, inr, length, Some, None, Option, option_map, refl, sym, subst, ◌∙◌, arith, length-append, add-zero, add-one, append_assoc}
 use Rattle.std.specs.Prelude.{slice_get}
-use Rattle.std.proofs.lemmas.Option.{slice_get_within}
+use Rattle.std.proofs.lemmas.Option.{slice_get_within, same_Some}
 use Rattle.es_pattern.specs.declared.step.Step.{Step}
 use Rattle.es_pattern.specs.declared.step.Step.TheVariants.{Pass, Fork, Jump, Back}
 use Rattle.es_pattern.specs.Program.{Does, Runs, Stands, Walks, choice_steps, maybe_steps, star_steps, copies, further_steps, repetition_steps}
 use Rattle.es_pattern.specs.Spans.{Chain, IsUpTo}
 
 -- where two parts stand, each stands
-pub stands_within : (program : List Step) (at : ℕ) (steps : List Step) → Stands program at steps → at + length steps ≤ length program
+stands_within : (program : List Step) (at : ℕ) (steps : List Step) → Stands program at steps → at + length steps ≤ length program
 stands_within p at [] h = omega arith
 stands_within p at (s ∷ steps) h = omega (arith, stands_within p (suc at) steps h.1)
 
 stands_at : (p : List Step) (steps : List Step) (x y : ℕ) → x ≡ y → Stands p x steps → Stands p y steps
 stands_at p steps x y e h = subst (λ (z : ℕ). Stands p z steps) e h
 
-pub stands_first : (program : List Step) (at : ℕ) (a b : List Step) → Stands program at (a ++ b) → Stands program at a
+stands_first : (program : List Step) (at : ℕ) (a b : List Step) → Stands program at (a ++ b) → Stands program at a
 stands_first p at [] b h = omega (arith, stands_within p at b h)
 stands_first p at (s ∷ a) b h = (h.0, stands_first p (suc at) a b h.1)
 
-pub stands_second : (program : List Step) (at : ℕ) (a b : List Step) → Stands program at (a ++ b) → Stands program (at + length a) b
+stands_second : (program : List Step) (at : ℕ) (a b : List Step) → Stands program at (a ++ b) → Stands program (at + length a) b
 stands_second p at [] b h = rw add-zero h
 stands_second p at (s ∷ a) b h = stands_at p b (suc at + length a) (at + suc (length a)) (omega arith) (stands_second p (suc at) a b h.1)
 
@@ -28,16 +28,13 @@ module _ (passes : ℕ → ℕ → ℕ → Type 0) where
   no_end : (program : List Step) (at : ℕ) (s : Step) → slice_get program at ≡ Some s → at ≡ length program → ⊥
   no_end p at s h e = omega (arith, slice_get_within p at s h)
 
-  same_step : (s t : Step) → Some s ≡ Some t → s ≡ t
-  same_step s t e = cc
-
   -- what a step that stands does first
   first_step : (program : List Step) (at : ℕ) (s : Step) → slice_get program at ≡ Some s → (i n : ℕ) → Runs passes program n at i
       → (k : ℕ) × (n ≡ suc k) × (next : ℕ) × (j : ℕ) × Does passes s at i next j × Runs passes program k next j
   first_step p at s h i zero r = absurd (no_end p at s h r)
   first_step p at s h i (suc k) r =
       let goes = r.2 in
-      let e : goes.step ≡ s = same_step goes.step s (sym goes.stands ∙ h) in
+      let e : goes.step ≡ s = same_Some goes.step s (sym goes.stands ∙ h) in
       (k, refl, r.0, r.1, subst (λ (t : Step). Does passes t at i r.0 r.1) e goes.does, r.3)
 
   runs_at : (p : List Step) (n i x y : ℕ) → x ≡ y → Runs passes p n x i → Runs passes p n y i

@@ -1,10 +1,10 @@
-use Rattle.std.proofs.Common.{length, arith}
+use Rattle.std.proofs.Common.{length}
 use Rattle.std.proofs.lemmas.Result.{err_from_is_err_and}
 use Rattle.es_pattern.specs.Reading.{start}
 use Rattle.es_pattern.specs.ReaderView.{reading}
 use Rattle.es_pattern.proofs.Parsings.{reads_next}
 use Rattle.es_pattern.proofs.Readers.{same_depth}
-use Rattle.es_pattern.proofs.Refusing.{Reaches, reaches, refused_caused, passes_more, syntax_caused, braces_before, overcount_caused}
+use Rattle.es_pattern.proofs.Refusing.{reaches, refused_caused, passes_more, syntax_caused, braces_before, overcount_caused}
 use Rattle.es_pattern.proofs.parse.take_next.Goals as goal
 
 pub returns-in_err-refused-clause-fault : goal.returns-in_err-refused-clause-fault
