@@ -42,7 +42,12 @@ fn begins_surrogate(rest: &[char]) -> bool
     ensures { result ≡ begins_surrogate rest.now }
 {
     match rest {
-        [a, b, c, d, ..] => makes_surrogate(hex_value(*a), hex_value(*b), hex_value(*c), hex_value(*d)),
+        [a, b, c, d, ..] => makes_surrogate(
+            hex_value(*a),
+            hex_value(*b),
+            hex_value(*c),
+            hex_value(*d),
+        ),
         _ => false,
     }
 }
