@@ -6,7 +6,7 @@ use Rattle.std.proofs.lemmas.Option.{same_Some, option_and_then_some}
 use Rattle.std.proofs.lemmas.Bool.{false≢true, le-leb}
 use Rattle.es_pattern.specs.Escapes.{hex_value}
 use Rattle.es_pattern.specs.Grammar.{Hex, Bounds}
-use Rattle.es_pattern.specs.Places.{Stands, Within, groups, class_in_groups, is_structural, BeginsQuestion, Escaped, other_escape, two_digit_escape, four_digit_escape}
+use Rattle.es_pattern.specs.Places.{Stands, Within, groups, class_in_groups, is_structural, BeginsQuestion, AfterBackslash, other_escape, two_digit_escape, four_digit_escape}
 use Rattle.es_pattern.specs.Places.{at_front, past_symbol, past_escape, in_group, in_marked_group, past_group, in_class, in_negated_class, past_class_char, past_class_escape, past_class}
 use Rattle.es_pattern.specs.Refusals.{may_open, pending, is_unsupported, is_too_deep}
 use Rattle.es_pattern.specs.Forms.{begins_unsupported_escape, begins_named_group, begins_group}
@@ -220,7 +220,7 @@ u_moves in_a_class depth new e (by_x at_c at_k at_e) = absurd (omega (arith, at_
 u_moves in_a_class depth new e (by_u at_c at_k at_e) = (at_k, at_e)
 
 -- to the end of an escape
-escape_told : (in_a_class : Bool) (depth : ℕ) (text more rest : List ℕ) → Escaped more rest → Told text more (Exactly (behind in_a_class) depth) → Told text rest (Exactly (behind_escape in_a_class) depth)
+escape_told : (in_a_class : Bool) (depth : ℕ) (text more rest : List ℕ) → AfterBackslash more rest → Told text more (Exactly (behind in_a_class) depth) → Told text rest (Exactly (behind_escape in_a_class) depth)
 escape_told in_a_class depth text more rest (other_escape {c = c} apart) t =
     told_next text c rest (Exactly (behind in_a_class) depth) (Exactly (behind_escape in_a_class) depth) t (λ k d new e x m. letter_moves in_a_class depth c new e apart (exact_moves (behind in_a_class) depth k d c new e x m))
 escape_told in_a_class depth text more rest (two_digit_escape {text = digits} {c = c} h) t =

@@ -8,7 +8,7 @@ use Rattle.std.proofs.lemmas.Bool.{false≢true, leb-true, and_parts}
 use Rattle.std.proofs.Math.Bool.{or-false}
 use Rattle.es_pattern.specs.Escapes.{is_digit}
 use Rattle.es_pattern.specs.Grammar.{Hex, BeginsCaret, Bounds}
-use Rattle.es_pattern.specs.Places.{Stands, Within, groups, class_in_groups, is_structural, BeginsQuestion, Escaped, other_escape, two_digit_escape, four_digit_escape}
+use Rattle.es_pattern.specs.Places.{Stands, Within, groups, class_in_groups, is_structural, BeginsQuestion, AfterBackslash, other_escape, two_digit_escape, four_digit_escape}
 use Rattle.es_pattern.specs.Places.{at_front, past_symbol, past_escape, in_group, in_marked_group, past_group, in_class, in_negated_class, past_class_char, past_class_escape, past_class}
 use Rattle.es_pattern.specs.Refusals.{may_open, pending, is_unsupported, is_too_deep}
 use Rattle.es_pattern.specs.Forms.{begins_unsupported_escape, begins_named_group, begins_group}
@@ -39,7 +39,7 @@ Placed class_front d text rest = Stands text (groups d) (91 ∷ rest)
 Placed inside d text rest = Stands text (class_in_groups d) rest
 
 -- past an escape, in a class or not
-past_any_escape : (in_a_class : Bool) (d : ℕ) (text more rest : List ℕ) → Stands text (within in_a_class d) (92 ∷ more) → Escaped more rest → Stands text (within in_a_class d) rest
+past_any_escape : (in_a_class : Bool) (d : ℕ) (text more rest : List ℕ) → Stands text (within in_a_class d) (92 ∷ more) → AfterBackslash more rest → Stands text (within in_a_class d) rest
 past_any_escape false d text more rest h x = past_escape h x
 past_any_escape true d text more rest h x = past_class_escape h x
 
@@ -209,7 +209,7 @@ hex_ends : (left value : ℕ) (more rest : List ℕ) (ch : ℕ) → Hex left val
 hex_ends zero value more rest ch h = ([], h.0)
 hex_ends (suc left) value more rest ch h = let g = hex_ends left (value * 16 + h.1) h.2 rest ch h.5 in (h.0 ∷ g.0, h.3 ∙ ap (λ (xs : List ℕ). h.0 ∷ xs) g.1)
 
-escaped_ends : (more rest : List ℕ) → Escaped more rest → EndsWith more rest
+escaped_ends : (more rest : List ℕ) → AfterBackslash more rest → EndsWith more rest
 escaped_ends more rest (other_escape {c = c} apart) = (c ∷ [], refl)
 escaped_ends more rest (two_digit_escape {text = text} {c = c} h) = let g = hex_ends 2 0 text rest c h in (120 ∷ g.0, ap (λ (xs : List ℕ). 120 ∷ xs) g.1)
 escaped_ends more rest (four_digit_escape {text = text} {c = c} h) = let g = hex_ends 4 0 text rest c h in (117 ∷ g.0, ap (λ (xs : List ℕ). 117 ∷ xs) g.1)

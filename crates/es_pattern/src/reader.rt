@@ -615,7 +615,7 @@ impl Reader {
     /// Takes the next character of a class.
     fn take_in_class(&mut self, c: char) -> Result<Taken, AllocError>
         requires { IsClass self.old.mode }
-        ensures counted { overcounts_at c (reading self.old) ≡ false }
+        ensures no_bounds { overcounts_at c (reading self.old) ≡ false }
         ensures taken { IfOk result (λ taken. Steps (step c (reading self.old)) taken (reading self.new)) }
     {
         match self.mode {
