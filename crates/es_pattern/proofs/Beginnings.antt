@@ -14,7 +14,7 @@ use Rattle.es_pattern.proofs.Viable.{viable}
 use Rattle.es_pattern.proofs.Taking.{taking}
 use Rattle.es_pattern.proofs.TakingEnds.{taking_end}
 use Rattle.es_pattern.proofs.Kept.{sane_next, sane_reads}
-use Rattle.es_pattern.proofs.Tests.{no_some}
+use Rattle.es_pattern.proofs.NumberTests.{no_some}
 
 -- what completes the state that a text leads to completes the state before it, with the text in front
 pub completes_before : (xs : List ℕ) (r s : Reading) (w : List ℕ) (t : Tree) → reads xs r ≡ Some s → Completes s w t → Completes r (xs ++ w) t

@@ -18,7 +18,7 @@ use Rattle.es_pattern.specs.Reaching.{IsPassBelow, PassesBelow, Reaches}
 use Rattle.es_pattern.proofs.Walking.{walks_nothing, walks_piece, walks_sequence, walks_choice, walks_repetition, walks_same}
 use Rattle.es_pattern.proofs.Passings.{tree_at_is, with_more}
 use Rattle.es_pattern.specs.Compiled.{stack_of, top_code, code_below, with_code, AllWalk, Compiled, Tabulates}
-use Rattle.es_pattern.proofs.Tests.{lt_or_same}
+use Rattle.es_pattern.proofs.NumberTests.{lt_or_same}
 
 -- an element behind those in front of it
 slice_get_end : {X : Type 0} (front : List X) (x : X) (rest : List X) → slice_get (front ++ x ∷ rest) (length front) ≡ Some x

@@ -13,7 +13,7 @@ use Rattle.es_pattern.specs.Spans.{IsUpTo}
 use Rattle.es_pattern.specs.Escapes.{is_digit}
 use Rattle.es_pattern.specs.Grammar.{number, number_from}
 use Rattle.es_pattern.specs.Bounds.{padded, Counts, Bounded}
-use Rattle.es_pattern.proofs.Tests.{lt_from, within_bounds}
+use Rattle.es_pattern.proofs.NumberTests.{lt_from, within_bounds}
 
 -- a digit's number goes on only over a digit
 pub digit_only : (value c : ℕ) (cs : List ℕ) (n : ℕ) → number_from value (c ∷ cs) ≡ Some n → (is_digit c ≡ true) × (number_from (value * 10 + (c - 48)) cs ≡ Some n)

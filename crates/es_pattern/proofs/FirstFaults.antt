@@ -29,7 +29,7 @@ use Rattle.es_pattern.proofs.Beginnings.{completes_before, completes_pattern, pa
 use Rattle.es_pattern.proofs.Kept.{sane_reads, measured_reads}
 use Rattle.es_pattern.proofs.Placing.{unsupported_placed, deep_placed, quantifier_placed}
 use Rattle.es_pattern.proofs.Placed.{unsupported_reads, deep_reads, quantifier_reads, forms_within, deep_within, quantifier_within, inner_step}
-use Rattle.es_pattern.proofs.Tests.{lt_or_same, no_some}
+use Rattle.es_pattern.proofs.NumberTests.{lt_or_same, no_some}
 
 -- the heads of the forms that are refused
 head_of : (text rest : List ℕ) (n c : ℕ) → drop n text ≡ c ∷ rest → get_or text n 0 ≡ c

@@ -7,7 +7,7 @@ use Rattle.std.proofs.lemmas.Bool.Decides.{nat_tests}
 use Rattle.es_pattern.specs.Escapes.{hex_value, is_surrogate}
 use Rattle.es_pattern.specs.Grammar.{Hex}
 use Rattle.es_pattern.specs.Reading.{greatest_from, scalar}
-use Rattle.es_pattern.proofs.Tests.{within_bounds}
+use Rattle.es_pattern.proofs.NumberTests.{within_bounds}
 
 -- a hexadecimal digit is less than 16
 pub hex_digit : (c d : ℕ) → hex_value c ≡ Some d → d < 16

@@ -20,7 +20,7 @@ use Rattle.es_pattern.proofs.BracesRead.{inner-append}
 use Rattle.es_pattern.proofs.Sound.{if_else, inner_is, scalar_is, hex_guard}
 use Rattle.es_pattern.proofs.Parsings.{reads_last, passes_less}
 use Rattle.es_pattern.proofs.Sane.{CanEnd, greatest_of_three, IsPartial, IsSane, IsSaneIn, Outer, MeasuredBase, after_atom_in, IsMeasured}
-use Rattle.es_pattern.proofs.Tests.{no_some}
+use Rattle.es_pattern.proofs.NumberTests.{no_some}
 use Rattle.es_pattern.proofs.HexDigits.{hex_digit}
 
 -- what holds of the state that is made

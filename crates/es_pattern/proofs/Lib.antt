@@ -1,4 +1,4 @@
-pub mod Tests
+pub mod NumberTests
 pub mod Walking
 pub mod Passings
 pub mod Runnings

@@ -17,7 +17,7 @@ use Rattle.es_pattern.specs.declared.mode.Mode.TheVariants.{Term, Atom, Quantifi
 use Rattle.es_pattern.specs.declared.mode.Mode.TheVariants as modes
 use Rattle.es_pattern.specs.Reading.{Reading, charged, with_term, top_product, products_below, closed_by, quantified, marked, term_begun, plain, with_set, with_char, asserted, joined, settled, with_atom, opened, at, leaf, chosen, greatest_from, hex_to, hex_by, flushed, flushed_chars, bounds_of, in_braces_end, is_inner, in_braces, ranged, class_end, item, next_item, after_char, class_char, after_dash, class_char_if, can_end, class_zero, with_ranges, class_set, class_hex_to, class_hex_by, step_in, step}
 use Rattle.es_pattern.proofs.Sound.{if_else, hex_guard, inner_is}
-use Rattle.es_pattern.proofs.Tests.{no_some}
+use Rattle.es_pattern.proofs.NumberTests.{no_some}
 
 -- where the machine stands: outside classes, in braces of these characters, just after `(` and after `(?`, behind a backslash, in an escape's hexadecimal digits, just after `[`, and in a class; the Bool tells an escape in a class
 pub data Kind : Type 0 where

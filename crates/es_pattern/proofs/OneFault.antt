@@ -5,7 +5,7 @@ use Rattle.std.proofs.lemmas.Bool.{cases_lt}
 use Rattle.std.proofs.lemmas.List.{take-append-drop}
 use Rattle.es_pattern.specs.Tree.{Tree}
 use Rattle.es_pattern.specs.Grammar.{IsPattern}
-use Rattle.es_pattern.proofs.Tests.{lt_or_same}
+use Rattle.es_pattern.proofs.NumberTests.{lt_or_same}
 use Rattle.es_pattern.specs.declared.error.PatternError.{PatternError}
 use Rattle.es_pattern.specs.declared.error.PatternError.TheVariants.{Syntax, Unsupported, CountTooLarge, NoMemory}
 use Rattle.es_pattern.specs.Faults.{IsUnsupportedAt, IsTooLargeAt, IsSyntaxAt, IsClearBefore, IsFirstFault, IsCaused, IsClear, IsWithinLimits, byte_place}

@@ -7,7 +7,7 @@ use Rattle.std.proofs.lemmas.Str.{encodes-append, length-encode}
 use Rattle.std.proofs.lemmas.Option.{same_Some}
 use Rattle.es_pattern.specs.Reading.{Reading, reads, step, start}
 use Rattle.es_pattern.specs.Faults.{byte_place}
-use Rattle.es_pattern.proofs.Tests.{no_some}
+use Rattle.es_pattern.proofs.NumberTests.{no_some}
 use Rattle.es_pattern.specs.Parsing.{PassesBefore}
 
 pub reads-append : (xs ys : List ℕ) (r : Reading) → reads (xs ++ ys) r ≡ option_and_then (reads ys) (reads xs r)

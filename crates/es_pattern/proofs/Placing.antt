@@ -20,7 +20,7 @@ use Rattle.es_pattern.proofs.BracesRead.{AllInner, inner-append, bounds_sound}
 use Rattle.es_pattern.proofs.Moves.{Kind, outside, in_bounds, in_paren, in_question, behind, in_hex, class_front, inside, kind_in, kind, behind_escape, Moves, step_moves, may_open_at, may_escape_at, pending_at, modes_agree}
 use Rattle.es_pattern.proofs.Moves.{OutsideMoves, by_symbol, by_brace, by_paren, by_close, by_bracket, by_backslash, BoundsMoves, by_inner, by_other, ParenMoves, by_question, by_content, EscapeMoves, by_letter, by_x, by_u, HexMoves, by_last, by_more, InsideMoves, by_end, by_class_backslash, by_member, FrontMoves, by_caret, by_first}
 use Rattle.es_pattern.proofs.Digits.{digit_within}
-use Rattle.es_pattern.proofs.Tests.{below_apart, above_apart}
+use Rattle.es_pattern.proofs.NumberTests.{below_apart, above_apart}
 
 -- the place of an escape, in a class or not
 abbrev pub within : Bool → ℕ → Within

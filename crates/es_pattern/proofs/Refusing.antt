@@ -11,7 +11,7 @@ use Rattle.es_pattern.specs.Reading.{Reading, step, reads, start, finished, over
 use Rattle.es_pattern.specs.Parsing.{PassesBefore, Refuses}
 use Rattle.es_pattern.specs.Faults.{IsCaused, IsClear, IsFirstFault, byte_place}
 use Rattle.es_pattern.proofs.FirstFaults.{Comes, unsupported_first, deep_first, syntax_first, end_first, accepted_clear, braces_fit, overcounts_first}
-use Rattle.es_pattern.proofs.Tests.{lt_or_same}
+use Rattle.es_pattern.proofs.NumberTests.{lt_or_same}
 
 -- the machine stands before a character, and its groups and the character's byte are counted
 pub record Reaches (text : List ℕ) (n groups place : ℕ) (r : Reading) : Type 0 where

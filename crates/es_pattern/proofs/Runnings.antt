@@ -20,7 +20,7 @@ use Rattle.es_pattern.specs.Program.{Does, Goes, Runs}
 use Rattle.es_pattern.specs.Passing.{IsSingle, PassesPiece}
 use Rattle.es_pattern.specs.Reaching.{Advances, Ends, FromSome, IsPassBelow, PassesBelow, Reaches, Settles, if_within, same_place, next_place, with_start}
 use Rattle.es_pattern.proofs.Passings.{tree_at_is}
-use Rattle.es_pattern.proofs.Tests.{lt_from, lt_or_same}
+use Rattle.es_pattern.proofs.NumberTests.{lt_from, lt_or_same}
 
 pub below_at : (program : List Step) (count at : ℕ) (s : Step) → PassesBelow program count → slice_get program at ≡ Some s → IsPassBelow s count
 below_at [] count at s below h = cc

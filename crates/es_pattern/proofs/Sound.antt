@@ -18,7 +18,7 @@ use Rattle.es_pattern.specs.declared.mode.Mode.TheVariants as modes
 use Rattle.es_pattern.specs.Reading.{Reading, charged, with_term, top_product, products_below, closed_by, quantified, marked, term_begun, plain, with_set, with_char, asserted, joined, settled, with_atom, opened, at, leaf, chosen, greatest_from, scalar, hex_to, hex_by, flushed, flushed_chars, bounds_of, in_braces_end, is_inner, may_be_comma, in_braces, ranged, class_end, item, next_item, after_char, class_char, after_dash, class_char_if, can_end, class_zero, with_ranges, class_set, class_hex_to, class_hex_by, step_in, step, ended, finished_in, finished, start, reads, accepted}
 use Rattle.es_pattern.specs.Limits.{count_of}
 use Rattle.es_pattern.proofs.BracesRead.{AllInner, inner-append, bounds_sound, breaks, breaks_at_end}
-use Rattle.es_pattern.proofs.Tests.{no_some, below_apart, above_apart}
+use Rattle.es_pattern.proofs.NumberTests.{no_some, below_apart, above_apart}
 use Rattle.es_pattern.proofs.Digits.{digit_within}
 
 -- a test's two ways

@@ -20,7 +20,7 @@ use Rattle.es_pattern.specs.Limits.{count_of}
 use Rattle.es_pattern.proofs.BracesRead.{AllInner, bounds_complete, bounds_inner, bounds_sound, breaks, inner_no_end}
 use Rattle.es_pattern.proofs.Sound.{no_braces, completes_at, digit_plain, Suffix, no_suffix, greedy_suffix, lazy_suffix, Closes, InTerm, AfterAtom, Base, CompletesIn, Completes, term_next, atom_next, unsuffixed, Taken}
 use Rattle.es_pattern.proofs.HexDigits.{two_small}
-use Rattle.es_pattern.proofs.Tests.{apart_by}
+use Rattle.es_pattern.proofs.NumberTests.{apart_by}
 
 -- the character marks no quantifier
 abbrev NoMark : ℕ → Type 0

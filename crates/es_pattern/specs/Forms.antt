@@ -1,5 +1,5 @@
 -- The text that forms begin with which are refused: those of ECMAScript that aren't supported, and groups.
-use Rattle.std.specs.Prelude.{ℕ, ◌+◌, ◌*◌, ◌==◌, ◌&&◌, ◌||◌, Bool, false, nat_le, List, [], ◌∷◌, Option, Some, None}
+use Rattle.std.specs.Prelude.{ℕ, ◌+◌, ◌*◌, ◌==◌, ◌&&◌, ◌||◌, Bool, false, nat_le, List, [], ◌∷◌, Option, Some}
 use Rattle.es_pattern.specs.Escapes.{hex_value, is_surrogate}
 
 -- the values of four hexadecimal digits make a surrogate

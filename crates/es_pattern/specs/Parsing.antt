@@ -1,5 +1,5 @@
 -- How far a text is read without a refusal.
-use Rattle.std.specs.Prelude.{◌≡◌, ℕ, ◌<◌, List, length, take, drop, slice_index, Some, None, Result, Ok, Err, true, false}
+use Rattle.std.specs.Prelude.{◌≡◌, ℕ, ◌<◌, List, length, take, drop, slice_index, Some, Result, Ok, Err, true, false}
 use Rattle.es_pattern.specs.declared.error.PatternError.{PatternError}
 use Rattle.es_pattern.specs.declared.error.PatternError.TheVariants.{Syntax, Unsupported, CountTooLarge, NoMemory}
 use Rattle.es_pattern.specs.declared.mode.Mode.{Mode}

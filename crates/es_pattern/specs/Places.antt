@@ -1,5 +1,5 @@
 -- Where in a pattern's text something begins: its tokens, read from the front, after ECMAScript's. A place is told by what is left of the text.
-use Rattle.std.specs.Prelude.{◌≡◌, ℕ, zero, suc, ◌||◌, ◌==◌, Bool, true, false, List, [], ◌∷◌}
+use Rattle.std.specs.Prelude.{◌≡◌, ℕ, suc, ◌||◌, ◌==◌, Bool, true, false, List, [], ◌∷◌}
 use Rattle.es_pattern.specs.Grammar.{Hex, BeginsCaret}
 
 -- what stands behind a backslash, and what is left after it: `x` and two hexadecimal digits, `u` and four, or any other character

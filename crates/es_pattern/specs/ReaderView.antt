@@ -1,5 +1,5 @@
 -- What a reader has read.
-use Rattle.std.specs.Prelude.{◌≡◌, ℕ, Bool, true, false, [], map, reverse, Option, Some, None}
+use Rattle.std.specs.Prelude.{◌≡◌, Bool, true, false, [], map, reverse, Option, Some, None}
 use Rattle.es_pattern.specs.declared.reader.Reader.{Reader}
 use Rattle.es_pattern.specs.declared.reader.Taken.{Taken}
 use Rattle.es_pattern.specs.declared.reader.Taken.TheVariants.{Yes, No, TooLarge}
