@@ -7,12 +7,12 @@ use crate::memory_sources::{BytesSource, PlainSource};
 use crate::run::run;
 use crate::sink::Sink;
 use crate::source::{Source, SourceFault};
-use resolve_stack::{FileName, ImportError, Project, Settings, Verdict, resolve_import};
+use resolve_stack::{FileName, ImportError, Outcome, Project, Settings, Verdict, resolve_import};
 use std::alloc::{AllocError, Global};
 use std::process::Abort;
 use std::test::Fail;
 use sugar_path::{Bytes, List, Text};
-use tree_core::{MemoryTree, Tree};
+use tree_core::{MemoryTree, Question, Reply, Tree};
 
 // A file that its manifest's top-level package owns imports a package by its bare name.
 fn bare_name() -> &'static str {
@@ -35,7 +35,12 @@ fn documents() -> &'static str {
 {"cwd":"/w","files":[{"path":"/w/a","text":"","hex":""}],"requests":[]}|1|refused: bad-field files
 {"cwd":"/w","files":[],"requests":[{"specifier":"a"}]}|1|refused: bad-field requests
 {"cwd":"/w","files":[],"requests":[]}|1|refused: not-built target
+{"cwd":"/w","target":"node","preserve_symlinks":true,"files":[],"requests":[]}|1|refused: not-built preserve_symlinks
+{"cwd":"/w","target":"node","node_modules":false,"files":[],"requests":[]}|1|refused: not-built node_modules
+{"cwd":"/w","target":"node","alias":{"a":"b"},"files":[],"requests":[]}|1|refused: not-built alias
+{"cwd":"/w","target":"node","ts":{"base_url":"/w","paths":[]},"files":[],"requests":[]}|1|refused: not-built ts
 {"cwd":"/w","target":"node","lock":"","files":[],"requests":[]}|1|refused: not-built lock
+{"cwd":"/w","target":"node","lock":"","files":[{"path":"a","text":""}],"requests":[]}|1|refused: not-built lock
 {"cwd":"w","target":"node","files":[{"path":"a","text":""}],"requests":[]}|1|refused: bad-tree "a"
 {"cwd":"w","target":"node","files":[{"path":"/a","text":"","canonical":"/"}],"requests":[]}|1|refused: bad-tree "/a"
 {"cwd":"w","target":"node","files":[{"path":"/a/b","text":""},{"path":"/a","text":""}],"requests":[]}|1|refused: bad-tree "/a" "/a/b"
@@ -100,7 +105,25 @@ fn each_cause_has_its_line(rt: HostRuntime) -> Result<(), Fail> {
         );
         tried = tried.saturating_add(1);
     }
-    assert_eq!(rt; tried, 16);
+    assert_eq!(rt; tried, 21);
+    Ok(())
+}
+
+// Whatever the byte behind which the document of the bare name ends, it isn't JSON.
+#[test]
+fn a_document_is_cut(rt: HostRuntime) -> Result<(), Fail> {
+    let alloc = rt.alloc();
+    let document = bare_name().as_bytes();
+    for end in 0..document.len() {
+        let mut source = PlainSource::new(Bytes::of(alloc, &document[..end])?);
+        let mut sink = PlainSink::new(alloc, 4096)?;
+        let code = code_of(alloc, "resolve", &mut source, &mut sink)?;
+        assert_eq!(rt; code, 1, "at {end}");
+        assert!(rt;
+            sink.written() == "refused: not-json\n".as_bytes(),
+            "at {end}"
+        );
+    }
     Ok(())
 }
 
@@ -155,6 +178,22 @@ fn a_sink_fails_at_each_write(rt: HostRuntime) -> Result<(), Fail> {
     Ok(())
 }
 
+// With room for the whole line there is one write, so that a second can't be refused.
+#[test]
+fn a_sink_with_room_fails_at_the_first_write(rt: HostRuntime) -> Result<(), Fail> {
+    let alloc = rt.alloc();
+    for (room, refused) in [(0, 1), (0, 2), (1, 1), (1, 2)] {
+        let mut source = source_of(alloc, bare_name())?;
+        let room = its_line().len().saturating_add(room);
+        let mut sink = BytesSink::new(alloc, room, number(alloc, refused)?)?;
+        let code = code_of(alloc, "resolve", &mut source, &mut sink)?;
+        assert_eq!(rt; code, if refused == 1 { 4 } else { 0 }, "at room {room}");
+        let line = if refused == 1 { "" } else { its_line() };
+        assert!(rt; sink.written() == line.as_bytes(), "at room {room}");
+    }
+    Ok(())
+}
+
 // A source without an end.
 #[derive(Drop)]
 struct Endless;
@@ -187,23 +226,29 @@ fn its_tree(alloc: Global) -> Result<MemoryTree, Fail> {
     Ok(tree_of(alloc, fields.files.as_slice())?)
 }
 
+// What the bare name comes to, or nothing where the tree refused a question.
+fn its_outcome<T: Tree>(alloc: Global, tree: &mut T) -> Result<Option<Outcome>, Fail> {
+    let cwd = Text::of(alloc, "/w")?;
+    let project = Project::new(alloc, Settings { cwd })?;
+    let importer = FileName::Real(Text::of(alloc, "/w/a.js")?);
+    match resolve_import(alloc, tree, &project, &importer, "foo") {
+        Ok(outcome) => Ok(Some(outcome)),
+        Err(ImportError::TreeFault) => Ok(None),
+        Err(ImportError::NoMemory) => Err(Fail::from("no memory")),
+    }
+}
+
 // How many questions the bare name's answer takes, or none where the tree refused one.
 fn questions_of_answer<T: Tree>(
     rt: &impl Abort,
     alloc: Global,
     tree: &mut T,
 ) -> Result<Option<usize>, Fail> {
-    let cwd = Text::of(alloc, "/w")?;
-    let project = Project::new(alloc, Settings { cwd })?;
-    let importer = FileName::Real(Text::of(alloc, "/w/a.js")?);
-    match resolve_import(alloc, tree, &project, &importer, "foo") {
-        Ok(outcome) => {
-            assert!(rt; matches!(outcome.verdict, Verdict::Answered(_)));
-            Ok(Some(outcome.trail.len()))
-        }
-        Err(ImportError::TreeFault) => Ok(None),
-        Err(ImportError::NoMemory) => Err(Fail::from("no memory")),
-    }
+    let Some(outcome) = its_outcome(alloc, tree)? else {
+        return Ok(None);
+    };
+    assert!(rt; matches!(outcome.verdict, Verdict::Answered(_)));
+    Ok(Some(outcome.trail.len()))
 }
 
 // A tree that fails at one of the eight questions gives no verdict, and the answer when it is asked again.
@@ -217,12 +262,80 @@ fn a_tree_fails_at_each_question(rt: HostRuntime) -> Result<(), Fail> {
             None,
             "at {question}"
         );
-        assert_eq!(rt; tree.faults(), 1, "at {question}");
+        assert_eq!(rt; (tree.questions(), tree.faults()), (question, 1));
         assert_eq!(rt;
             questions_of_answer(&rt, alloc, &mut tree)?,
             Some(8),
             "at {question}"
         );
+        assert_eq!(rt; (tree.questions(), tree.faults()), (question + 8, 1));
     }
+    Ok(())
+}
+
+// A ninth question isn't put, so that a tree that would refuse it answers.
+#[test]
+fn no_ninth_question_is_put(rt: HostRuntime) -> Result<(), Fail> {
+    let alloc = rt.alloc();
+    let mut tree = its_tree(alloc)?.fail_at(number(alloc, 9)?);
+    assert_eq!(rt; questions_of_answer(&rt, alloc, &mut tree)?, Some(8));
+    assert_eq!(rt; (tree.questions(), tree.faults()), (8, 0));
+    Ok(())
+}
+
+// The manifest of the bare name.
+fn its_manifest() -> &'static str {
+    r#"const RAW_RUNTIME_STATE =
+'{"dependencyTreeRoots":[{"name":"app","reference":"workspace:."}],"enableTopLevelFallback":true,"ignorePatternData":null,"fallbackExclusionList":[["app",["workspace:."]]],"fallbackPool":[],"packageRegistryData":[[null,[[null,{"packageLocation":"./","packageDependencies":[["foo","npm:1.0.0"]]}]]],["app",[["workspace:.",{"packageLocation":"./","packageDependencies":[["foo","npm:1.0.0"]]}]]],["foo",[["npm:1.0.0",{"packageLocation":"./.yarn/foo/","packageDependencies":[["foo","npm:1.0.0"]]}]]]]}';
+"#
+}
+
+// The questions of the bare name's answer, each with its reply.
+fn its_questions() -> &'static str {
+    "exists /w/a.js/.pnp.cjs no
+exists /w/.pnp.cjs yes
+read /w/.pnp.cjs manifest
+file /w/.yarn/foo/package.json no
+file /w/.yarn/foo/index.ts no
+file /w/.yarn/foo/index.tsx no
+file /w/.yarn/foo/index.js yes
+canon /w/.yarn/foo/index.js /w/.yarn/foo/index.js"
+}
+
+fn kind_of(question: &Question) -> &'static str {
+    match question {
+        Question::File(_) => "file",
+        Question::Dir(_) => "dir",
+        Question::Exists(_) => "exists",
+        Question::Read(_) => "read",
+        Question::Canon(_) => "canon",
+    }
+}
+
+// A reply in a word: a name is its text.
+fn word_of(reply: &Reply) -> &str {
+    match reply {
+        Reply::Flag(true) => "yes",
+        Reply::Flag(false) => "no",
+        Reply::Bytes(Some(bytes)) if bytes.as_slice() == its_manifest().as_bytes() => "manifest",
+        Reply::Name(Some(name)) => name.as_str(),
+        _ => "another",
+    }
+}
+
+#[test]
+fn the_trail_has_its_questions_in_order(rt: HostRuntime) -> Result<(), Fail> {
+    let outcome = its_outcome(rt.alloc(), &mut its_tree(rt.alloc())?)?.ok_or("an outcome")?;
+    let mut tried = 0usize;
+    for row in its_questions().lines() {
+        let (kind, rest) = row.split_once(' ').ok_or("a kind")?;
+        let (path, reply) = rest.split_once(' ').ok_or("a path")?;
+        let (question, told) = outcome.trail.get(tried).ok_or("a question")?;
+        assert_eq!(rt; kind_of(question), kind, "at {row}");
+        assert_eq!(rt; question.path(), path, "at {row}");
+        assert_eq!(rt; word_of(told), reply, "at {row}");
+        tried = tried.saturating_add(1);
+    }
+    assert_eq!(rt; (tried, outcome.trail.len()), (8, 8));
     Ok(())
 }
