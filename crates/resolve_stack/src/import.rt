@@ -1,7 +1,7 @@
 // The top call: the verdict of a request over any tree, with the trail that decides it.
-ghost use Rattle.std.specs.Prelude.{◌≡◌, IsTrue, IfOk, IsErrOf, IfSome};
-ghost use Rattle.tree_core.specs.Tree.{Files, HasCause};
-ghost use Rattle.tree_core.specs.Asks.{Settles, IsNext};
+ghost use Rattle.std.specs.Prelude.{◌≡◌, IsTrue, IfOk, IsErrOf, IfSome, length};
+ghost use Rattle.tree_core.specs.Tree.{Files, HasCause, put_times};
+ghost use Rattle.tree_core.specs.Asks.{Settles, IsNext, FailsAt};
 ghost use Rattle.resolve_stack.specs.Verdict.{verdict};
 ghost use Rattle.resolve_stack.specs.Through.{IsFound};
 ghost use Rattle.resolve_stack.specs.ImportFault.{as_read};
@@ -55,6 +55,12 @@ pub fn resolve_import<T: Tree>(
     ensures stands { T.stands_for tree.new ≡ T.stands_for tree.old }
     ensures cause { HasCause (T.faults tree.old) (T.faults tree.new) (as_read result) }
     ensures told { IsErrOf result TreeFault → IfSome (T.told tree.new) (λ q. IsNext (T.stands_for tree.old) q (verdict project.now.cwd importer.now specifier.now)) }
+
+    // The tree was asked once for each question of the trail.
+    ensures put { IfOk result (λ o. T.questions tree.new ≡ put_times (length o.trail) (T.questions tree.old)) }
+
+    // The tree was asked once for each question before the refused one, and once for that one.
+    ensures fails { IsErrOf result TreeFault → FailsAt (T.stands_for tree.old) (T.questions tree.old) (T.questions tree.new) (verdict project.now.cwd importer.now specifier.now) }
 {
     let mut recorder = Recorder::new(alloc, tree);
     let decided = decide(alloc, &mut recorder, project.cwd(), importer, specifier);

@@ -36,6 +36,7 @@ impl<'t, T: Tree> Asker for Recorder<'t, T> {
       name = r.tree.ghost_name;
       stands_for = T.stands_for r.tree.now;
       faults = T.faults r.tree.now;
+      questions = T.questions r.tree.now;
       told = T.told r.tree.now;
       trail = r.trail;
     } };

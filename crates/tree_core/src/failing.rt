@@ -2,7 +2,7 @@
 ghost use Rattle.std.specs.Prelude.{◌≡◌, ◌==◌, ◌↔◌, if◌then◌else◌, Err, IfOk, IsTrue, IsErrOf, None};
 ghost use Rattle.std.specs.List.{list_any};
 ghost use Rattle.sugar_path.specs.Path.{IsCleanPath};
-ghost use Rattle.tree_core.specs.Memory.{same_files, refuses_next};
+ghost use Rattle.tree_core.specs.Memory.{same_files, refuses_next, after_question};
 ghost use Rattle.tree_core.specs.Tree.{Files, reply, HasCause, Tells, one_more};
 ghost use Rattle.tree_core.specs.declared.tree.ReadError.TheVariants.{Fault};
 ghost use Rattle.tree_core.specs.declared.question.Question.TheVariants.{File, Dir, Exists, Read, Canon};
@@ -92,7 +92,7 @@ impl Tree for FailingTree {
         ensures counted { self.new.memory.questions ≡ one_more self.old.memory.questions }
         ensures told { Tells (File p.now) result None }
         ensures refused { (result ≡ Err Fault) ↔ IsTrue (refuses_next self.old) }
-        ensures calls { self.new.calls ≡ self.old.calls }
+        ensures after { self.new ≡ after_question self.old }
     {
         if self.refuses() {
             return Err(ReadError::Fault);
@@ -108,7 +108,7 @@ impl Tree for FailingTree {
         ensures counted { self.new.memory.questions ≡ one_more self.old.memory.questions }
         ensures told { Tells (Dir p.now) result None }
         ensures refused { (result ≡ Err Fault) ↔ IsTrue (refuses_next self.old) }
-        ensures calls { self.new.calls ≡ self.old.calls }
+        ensures after { self.new ≡ after_question self.old }
     {
         if self.refuses() {
             return Err(ReadError::Fault);
@@ -124,7 +124,7 @@ impl Tree for FailingTree {
         ensures counted { self.new.memory.questions ≡ one_more self.old.memory.questions }
         ensures told { Tells (Exists p.now) result None }
         ensures refused { (result ≡ Err Fault) ↔ IsTrue (refuses_next self.old) }
-        ensures calls { self.new.calls ≡ self.old.calls }
+        ensures after { self.new ≡ after_question self.old }
     {
         if self.refuses() {
             return Err(ReadError::Fault);
@@ -140,7 +140,7 @@ impl Tree for FailingTree {
         ensures counted { self.new.memory.questions ≡ one_more self.old.memory.questions }
         ensures told { Tells (Read p.now) result None }
         ensures refused { (result ≡ Err Fault) ↔ IsTrue (refuses_next self.old) }
-        ensures calls { self.new.calls ≡ self.old.calls }
+        ensures after { self.new ≡ after_question self.old }
     {
         if self.refuses() {
             return Err(ReadError::Fault);
@@ -156,7 +156,7 @@ impl Tree for FailingTree {
         ensures counted { self.new.memory.questions ≡ one_more self.old.memory.questions }
         ensures told { Tells (Canon p.now) result None }
         ensures refused { (result ≡ Err Fault) ↔ IsTrue (refuses_next self.old) }
-        ensures calls { self.new.calls ≡ self.old.calls }
+        ensures after { self.new ≡ after_question self.old }
     {
         if self.refuses() {
             return Err(ReadError::Fault);

@@ -48,6 +48,7 @@ impl<'t, T: Tree> Recorder<'t, T> {
         ensures unasked { IsErrOf result Fault → reply_in self.new.trail (File p.now) ≡ None }
         ensures repeated { IsSome (reply_in self.old.trail (File p.now)) → self.new.tree.now ≡ self.old.tree.now }
         ensures put { OnOk result (reply_in self.old.trail (File p.now) ≡ None → T.questions self.new.tree.now ≡ one_more (T.questions self.old.tree.now)) }
+        ensures refused_once { IsErrOf result Fault → T.questions self.new.tree.now ≡ one_more (T.questions self.old.tree.now) }
     {
         self.flag(FlagQuestion::File, p)
     }
@@ -66,6 +67,7 @@ impl<'t, T: Tree> Recorder<'t, T> {
         ensures unasked { IsErrOf result Fault → reply_in self.new.trail (Dir p.now) ≡ None }
         ensures repeated { IsSome (reply_in self.old.trail (Dir p.now)) → self.new.tree.now ≡ self.old.tree.now }
         ensures put { OnOk result (reply_in self.old.trail (Dir p.now) ≡ None → T.questions self.new.tree.now ≡ one_more (T.questions self.old.tree.now)) }
+        ensures refused_once { IsErrOf result Fault → T.questions self.new.tree.now ≡ one_more (T.questions self.old.tree.now) }
     {
         self.flag(FlagQuestion::Dir, p)
     }
@@ -84,6 +86,7 @@ impl<'t, T: Tree> Recorder<'t, T> {
         ensures unasked { IsErrOf result Fault → reply_in self.new.trail (Exists p.now) ≡ None }
         ensures repeated { IsSome (reply_in self.old.trail (Exists p.now)) → self.new.tree.now ≡ self.old.tree.now }
         ensures put { OnOk result (reply_in self.old.trail (Exists p.now) ≡ None → T.questions self.new.tree.now ≡ one_more (T.questions self.old.tree.now)) }
+        ensures refused_once { IsErrOf result Fault → T.questions self.new.tree.now ≡ one_more (T.questions self.old.tree.now) }
     {
         self.flag(FlagQuestion::Exists, p)
     }
@@ -102,6 +105,7 @@ impl<'t, T: Tree> Recorder<'t, T> {
         ensures unasked { IsErrOf result Fault → reply_in self.new.trail (Read p.now) ≡ None }
         ensures repeated { IsSome (reply_in self.old.trail (Read p.now)) → self.new.tree.now ≡ self.old.tree.now }
         ensures put { OnOk result (reply_in self.old.trail (Read p.now) ≡ None → T.questions self.new.tree.now ≡ one_more (T.questions self.old.tree.now)) }
+        ensures refused_once { IsErrOf result Fault → T.questions self.new.tree.now ≡ one_more (T.questions self.old.tree.now) }
     {
         let question = Question::Read(Text::of(self.alloc, p)?);
         if let Some(reply) = self.trail.reply_to(&question) {
@@ -130,6 +134,7 @@ impl<'t, T: Tree> Recorder<'t, T> {
         ensures unasked { IsErrOf result Fault → reply_in self.new.trail (Canon p.now) ≡ None }
         ensures repeated { IsSome (reply_in self.old.trail (Canon p.now)) → self.new.tree.now ≡ self.old.tree.now }
         ensures put { OnOk result (reply_in self.old.trail (Canon p.now) ≡ None → T.questions self.new.tree.now ≡ one_more (T.questions self.old.tree.now)) }
+        ensures refused_once { IsErrOf result Fault → T.questions self.new.tree.now ≡ one_more (T.questions self.old.tree.now) }
     {
         let question = Question::Canon(Text::of(self.alloc, p)?);
         if let Some(reply) = self.trail.reply_to(&question) {
@@ -158,6 +163,7 @@ impl<'t, T: Tree> Recorder<'t, T> {
         ensures unasked { IsErrOf result Fault → reply_in self.new.trail (flag_question kind p.now) ≡ None }
         ensures repeated { IsSome (reply_in self.old.trail (flag_question kind p.now)) → self.new.tree.now ≡ self.old.tree.now }
         ensures put { OnOk result (reply_in self.old.trail (flag_question kind p.now) ≡ None → T.questions self.new.tree.now ≡ one_more (T.questions self.old.tree.now)) }
+        ensures refused_once { IsErrOf result Fault → T.questions self.new.tree.now ≡ one_more (T.questions self.old.tree.now) }
     {
         let question = question_on(kind, Text::of(self.alloc, p)?);
         if let Some(reply) = self.trail.reply_to(&question) {
