@@ -27,9 +27,9 @@ number (c ∷ cs) = number_from 0 (c ∷ cs)
 
 -- what stands in the braces of a quantifier: `n`, `n,` or `n,m` with n at most m
 pub data Bounds : List ℕ → ℕ → Option ℕ → Type 0 where
-  exactly : (ds : List ℕ) {n : ℕ} → number ds ≡ Some n → Bounds ds n (Some n)
-  at_least : (ds : List ℕ) {n : ℕ} → number ds ≡ Some n → Bounds (ds ++ 44 ∷ []) n None
-  between : (ds es : List ℕ) {n m : ℕ} → number ds ≡ Some n → number es ≡ Some m → n ≤ m → Bounds (ds ++ 44 ∷ es) n (Some m)
+  exactly : (digits : List ℕ) {n : ℕ} → number digits ≡ Some n → Bounds digits n (Some n)
+  at_least : (digits : List ℕ) {n : ℕ} → number digits ≡ Some n → Bounds (digits ++ 44 ∷ []) n None
+  between : (digits further : List ℕ) {n m : ℕ} → number digits ≡ Some n → number further ≡ Some m → n ≤ m → Bounds (digits ++ 44 ∷ further) n (Some m)
 
 -- a quantifier without what makes it lazy
 pub data Mark : ℕ → Option ℕ → List ℕ → List ℕ → Type 0 where

@@ -351,7 +351,7 @@ fn accepted() -> &'static [(&'static str, &'static str)] {
             "a{99999999999999999999,9999999999999999999}",
         ),
         ("a{0002}", "aa"),
-        ("^a{1000}{", "{"),
+        ("^a{1000}{|b", "b"),
         ("a{,5}", "a{,5}"),
         ("{", "{"),
         ("}]", "}]"),
@@ -379,10 +379,8 @@ fn accepted() -> &'static [(&'static str, &'static str)] {
 #[test]
 fn accepts_the_edges(rt: HostRuntime) -> Result<(), Fail> {
     for (pattern, text) in accepted() {
-        let found = Pattern::parse(rt.alloc(), pattern)?.is_found(rt.alloc(), text);
-        if *pattern != "^a{1000}{" {
-            assert!(rt; found?, "{pattern}");
-        }
+        let found = Pattern::parse(rt.alloc(), pattern)?.is_found(rt.alloc(), text)?;
+        assert!(rt; found, "{pattern}");
     }
     Ok(())
 }
