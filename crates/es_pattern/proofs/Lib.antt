@@ -1,8 +1,10 @@
 pub mod NumberTests
 pub mod Walking
 pub mod Passings
-pub mod Runnings
+pub mod NumberSets
+pub mod Alives
 pub mod Compiling
+pub mod Searching
 pub mod Readers
 pub mod Digits
 pub mod Parsings

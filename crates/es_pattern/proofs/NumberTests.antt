@@ -1,7 +1,7 @@
 -- Facts about tests of numbers, and about their order.
-use Rattle.std.proofs.Common.{◌≡◌, ℕ, ◌<◌, ◌≤◌, Bool, true, false, inl, inr, Option, None, Some, sym, ap, ◌∙◌, arith}
-use Rattle.std.specs.Prelude.{◌==◌, ◌&&◌, ◌⊎◌, nat_le}
-use Rattle.std.proofs.lemmas.Bool.{false≢true, cases_eq, and_parts, leb-true, ne_eqb}
+use Rattle.std.proofs.Common.{◌≡◌, ℕ, ◌<◌, ◌≤◌, Bool, true, false, inl, inr, Option, None, Some, refl, sym, ap, ◌∙◌, arith}
+use Rattle.std.specs.Prelude.{◌==◌, ◌&&◌, ◌⊎◌, nat_le, nat_lt}
+use Rattle.std.proofs.lemmas.Bool.{false≢true, cases_eq, and_parts, leb-true, ltb-true, ltb-false, ne_eqb}
 use Rattle.std.proofs.lemmas.Option.{none-some}
 
 -- a test of a number against two bounds
@@ -29,6 +29,14 @@ lt_or_same a b le = by_order (cases_eq a b)
     by_order : (a ≡ b) ⊎ (a ≡ b → ⊥) → (a < b) ⊎ (a ≡ b)
     by_order (inl e) = inr e
     by_order (inr apart) = inl (lt_from a b le apart)
+
+-- a number is less than another, or at least as much
+pub lt_or_le : (a b : ℕ) → (a < b) ⊎ (b ≤ a)
+lt_or_le a b = by_test (nat_lt a b) refl
+  where
+    by_test : (t : Bool) → nat_lt a b ≡ t → (a < b) ⊎ (b ≤ a)
+    by_test true h = inl (ltb-true a b h)
+    by_test false h = inr (ltb-false a b h)
 
 -- nothing is no value
 pub no_some : {A P : Type 0} (x : A) → ◌≡◌ {A = Option A} None (Some x) → P

@@ -1,14 +1,18 @@
 -- What single pieces pass.
 use Rattle.std.proofs.Common.{inl, inr, get_or, ◌≡◌, ℕ, zero, suc, ◌+◌, ◌<◌, ◌≤◌, Bool, true, false, cond, List, [], ◌∷◌, ◌++◌, add-one, length, take, Option, Some, None, refl, sym, ap, subst, ◌∙◌, arith}
-use Rattle.std.specs.Prelude.{slice_get, slice_index, unwrap_or, MatchBool, ◌==◌, ◌&&◌, nat_lt, ◌⊎◌}
+use Rattle.std.specs.Prelude.{slice_get, slice_index, ◌-◌, unwrap_or, MatchBool, ◌==◌, ◌&&◌, nat_lt, ◌⊎◌}
 use Rattle.std.specs.Global.{Vec}
-use Rattle.std.proofs.lemmas.Option.{slice_get_cases, slice_get_read, same_Some}
-use Rattle.std.proofs.lemmas.Bool.{eqb-true, eqb-false, and_parts, ltb-true, lt-ltb, and_from, both_ways}
+use Rattle.std.proofs.lemmas.Option.{slice_get_read, slice_get_within, slice_get-get_or, same_Some}
+use Rattle.std.proofs.lemmas.Bool.{eqb-true, eqb-false, both_ways}
 use mathlib.Core.Bool.{not, beq}
-use Rattle.es_pattern.specs.Tree.{Tree, one_of, text_start, text_end, word_boundary, lookahead}
+use Rattle.es_pattern.specs.Tree.{Tree, CharRange, one_of, text_start, text_end, word_boundary, lookahead}
 use Rattle.es_pattern.specs.Spans.{differs, is_boundary, fits, Spans}
 use Rattle.es_pattern.specs.Pieces.{top, with_piece, with_pieces, tree_at}
-use Rattle.es_pattern.specs.Passing.{IsSingle, PassesTo, Tells, AllTell, passed_by}
+use Rattle.es_pattern.specs.Passing.{IsSingle, PassesPiece, PassesAs, Answers, Tells, stays, class_passing, ahead_of}
+use Rattle.es_pattern.specs.declared.step.Direction.{Direction}
+use Rattle.es_pattern.specs.declared.step.Direction.TheVariants.{Forward, Backward}
+use Rattle.es_pattern.specs.declared.alive.Passing.TheVariants.{Stops, Stays, Moves}
+use Rattle.es_pattern.proofs.NumberTests.{no_some}
 use Rattle.es_pattern.specs.declared.piece.Piece.{Piece}
 use Rattle.es_pattern.specs.declared.piece.Piece.TheVariants.{Nothing, OneOf, TextStart, TextEnd, WordBoundary, Sequence, Choice, Repetition, Lookahead}
 use Rattle.es_pattern.proofs.Readers.{push_piece}
@@ -28,30 +32,30 @@ with_more (q ∷ pieces) (suc number) p ts h = with_more pieces number p (with_p
 pub tree_at_is : (pieces : List Piece) (number : ℕ) (p : Piece) → slice_get pieces number ≡ Some p → tree_at pieces number ≡ top (with_piece p (with_pieces (take number pieces) []))
 tree_at_is pieces number p h = ap top (with_more pieces number p [] h)
 
+-- the character at a place
+index_is : (text : List ℕ) (i c : ℕ) → slice_get text i ≡ Some c → slice_index text i ≡ c
+index_is text i c h = same_Some (slice_index text i) c (sym (slice_get-get_or text i 0 (slice_get_within text i c h)) ∙ h)
+
+-- what single pieces do at a place, on a walk in either direction
 module _ (pieces : List Piece) (text : List ℕ) (number i : ℕ) (p : Piece) (stands : slice_get pieces number ≡ Some p) where
+  piece_is : (j k : ℕ) (h : PassesPiece pieces text number j k) → h.piece ≡ p
+  piece_is j k h = same_Some h.piece p (sym h.stands ∙ stands)
+
   -- a piece that is not single passes nothing
-  no_single : (IsSingle p → ⊥) → PassesTo pieces text number i None
-  no_single none = λ j h. none (subst (λ (q : Piece). IsSingle q) (same_Some h.piece p (sym h.stands ∙ stands)) h.single)
+  no_single : (d : Direction) → (IsSingle p → ⊥) → PassesAs d pieces text number i Stops
+  no_single Forward none = λ j h. none (subst (λ (q : Piece). IsSingle q) (piece_is i j h) h.single)
+  no_single Backward none = λ j h. none (subst (λ (q : Piece). IsSingle q) (piece_is j i h) h.single)
+
+  single_spans : IsSingle p → (j k : ℕ) → Spans (tree_at pieces number) text j k → PassesPiece pieces text number j k
+  single_spans single j k s = record { piece = p; stands = stands; single = single; spans = s }
 
   -- one that spans the empty part where a test holds
-  by_test : (b : Bool) → IsSingle p → (b ≡ true → Spans (tree_at pieces number) text i i) → (b ≡ false → (j : ℕ) → Spans (tree_at pieces number) text i j → ⊥) → ((j : ℕ) → Spans (tree_at pieces number) text i j → i ≡ j)
-      → PassesTo pieces text number i (cond b (Some i) None)
-  by_test true single holds fails empty = (record { piece = p; stands = stands; single = single; spans = holds refl }, λ j h. sym (empty j h.spans))
-  by_test false single holds fails empty = λ j h. fails refl j h.spans
-
-  -- one that spans a character where a test holds
-  by_char : (b : Bool) → IsSingle p → (b ≡ true → Spans (tree_at pieces number) text i (i + 1)) → (b ≡ false → (j : ℕ) → Spans (tree_at pieces number) text i j → ⊥) → ((j : ℕ) → Spans (tree_at pieces number) text i j → j ≡ i + 1)
-      → PassesTo pieces text number i (cond b (Some (i + 1)) None)
-  by_char true single holds fails one = (record { piece = p; stands = stands; single = single; spans = holds refl }, λ j h. one j h.spans)
-  by_char false single holds fails one = λ j h. fails refl j h.spans
-
-  -- what the piece's tree is, told of spans
-  module _ (t : Tree) (e : tree_at pieces number ≡ t) where
-    to_tree : (j : ℕ) → Spans (tree_at pieces number) text i j → Spans t text i j
-    to_tree j h = subst (λ (u : Tree). Spans u text i j) e h
-
-    from_tree : (j : ℕ) → Spans t text i j → Spans (tree_at pieces number) text i j
-    from_tree j h = subst (λ (u : Tree). Spans u text i j) (sym e) h
+  by_test : (d : Direction) (b : Bool) → IsSingle p → (b ≡ true → Spans (tree_at pieces number) text i i) → (b ≡ false → Spans (tree_at pieces number) text i i → ⊥)
+      → ((j k : ℕ) → Spans (tree_at pieces number) text j k → j ≡ k) → PassesAs d pieces text number i (stays b)
+  by_test Forward true single holds fails empty = (single_spans single i i (holds refl), λ j h. sym (empty i j h.spans))
+  by_test Backward true single holds fails empty = (single_spans single i i (holds refl), λ j h. empty j i h.spans)
+  by_test Forward false single holds fails empty = λ j h. fails refl (subst (λ (x : ℕ). Spans (tree_at pieces number) text i x) (sym (empty i j h.spans)) h.spans)
+  by_test Backward false single holds fails empty = λ j h. fails refl (subst (λ (x : ℕ). Spans (tree_at pieces number) text x i) (empty j i h.spans) h.spans)
 
 differs_not : (a b : Bool) → differs a b ≡ true → a ≡ not b
 differs_not true true h = cc
@@ -65,70 +69,110 @@ not_differs true false h e = cc
 not_differs false true h e = cc
 not_differs false false h e = cc
 
--- what a lookahead's answer says
-abbrev pub Answers : List Piece → List ℕ → ℕ → ℕ → Bool → Type 0
-Answers pieces text number i told = MatchBool told (Spans (tree_at pieces number) text i i) (Spans (tree_at pieces number) text i i → ⊥)
+stays_at : (negated : Bool) (t : Tree) (text : List ℕ) (i j : ℕ) → Spans (lookahead negated t) text i j → i ≡ j
+stays_at true t text i j s = s.0
+stays_at false t text i j s = s.0
 
-passes_right : (pieces : List Piece) (text : List ℕ) (number i : ℕ) (p : Piece) (told : Bool) → slice_get pieces number ≡ Some p → ((negated : Bool) → p ≡ Lookahead negated → Answers pieces text number i told)
-    → PassesTo pieces text number i (passed_by p told text i)
-passes_right pieces text number i Nothing told h a = no_single pieces text number i Nothing h (λ s. s)
-passes_right pieces text number i Sequence told h a = no_single pieces text number i Sequence h (λ s. s)
-passes_right pieces text number i Choice told h a = no_single pieces text number i Choice h (λ s. s)
-passes_right pieces text number i (Repetition least more) told h a = no_single pieces text number i (Repetition least more) h (λ s. s)
-passes_right pieces text number i TextStart told h a =
-    let e : tree_at pieces number ≡ text_start = tree_at_is pieces number TextStart h in
-    let to = to_tree pieces text number i TextStart h text_start e in
-    by_test pieces text number i TextStart h (i == 0) tt
-    (λ b. from_tree pieces text number i TextStart h text_start e i (refl, eqb-true i 0 b))
-    (λ b j s. eqb-false i 0 b (to j s).1) (λ j s. (to j s).0)
-passes_right pieces text number i TextEnd told h a =
-    let e : tree_at pieces number ≡ text_end = tree_at_is pieces number TextEnd h in
-    let to = to_tree pieces text number i TextEnd h text_end e in
-    by_test pieces text number i TextEnd h (i == length text) tt
-    (λ b. from_tree pieces text number i TextEnd h text_end e i (refl, eqb-true i (length text) b))
-    (λ b j s. eqb-false i (length text) b (to j s).1) (λ j s. (to j s).0)
-passes_right pieces text number i (WordBoundary negated) told h a =
-    let e : tree_at pieces number ≡ word_boundary negated = tree_at_is pieces number (WordBoundary negated) h in
-    let to = to_tree pieces text number i (WordBoundary negated) h (word_boundary negated) e in
-    by_test pieces text number i (WordBoundary negated) h (differs (is_boundary text i) negated) tt
-    (λ b. from_tree pieces text number i (WordBoundary negated) h (word_boundary negated) e i (refl, differs_not (is_boundary text i) negated b))
-    (λ b j s. not_differs (is_boundary text i) negated b (to j s).1) (λ j s. (to j s).0)
-passes_right pieces text number i (OneOf negated ranges) told h a =
-    let t : Tree = one_of negated ranges.items in
-    let e : tree_at pieces number ≡ t = tree_at_is pieces number (OneOf negated ranges) h in
-    let to = to_tree pieces text number i (OneOf negated ranges) h t e in
-    let fit = fits negated ranges.items (slice_index text i) in
-    by_char pieces text number i (OneOf negated ranges) h (nat_lt i (length text) && fit) tt
-    (λ b. let both = and_parts (nat_lt i (length text)) fit b in from_tree pieces text number i (OneOf negated ranges) h t e (i + 1) (ltb-true i (length text) both.0, refl, both.1))
-    (λ b j s. both_ways (nat_lt i (length text) && fit) b (and_from (nat_lt i (length text)) fit (lt-ltb i (length text) (to j s).0) (to j s).2)) (λ j s. (to j s).1)
-passes_right pieces text number i (Lookahead negated) told h a =
-    let t = with_piece (Lookahead negated) (with_pieces (take number pieces) []) in
-    let e : tree_at pieces number ≡ lookahead negated (top (with_pieces (take number pieces) [])) = tree_at_is pieces number (Lookahead negated) h in
-    by_test pieces text number i (Lookahead negated) h told tt
-    (λ b. let at_true : Answers pieces text number i true = subst (λ (v : Bool). Answers pieces text number i v) b (a negated refl) in at_true)
-    (λ b j s.
-    let at_false : Answers pieces text number i false = subst (λ (v : Bool). Answers pieces text number i v) b (a negated refl) in
-    at_false (subst (λ (x : ℕ). Spans (tree_at pieces number) text i x) (sym (stays negated (top (with_pieces (take number pieces) [])) text i j (subst (λ (u : Tree). Spans u text i j) e s))) s))
-    (λ j s. stays negated (top (with_pieces (take number pieces) [])) text i j (subst (λ (u : Tree). Spans u text i j) e s))
-  where
-    stays : (negated : Bool) (t : Tree) (text : List ℕ) (i j : ℕ) → Spans (lookahead negated t) text i j → i ≡ j
-    stays true t text i j s = s.0
-    stays false t text i j s = s.0
+module _ (pieces : List Piece) (text : List ℕ) (number i : ℕ) where
+  -- a piece of another kind passes nothing
+  pub passes_other : (d : Direction) (p : Piece) → slice_get pieces number ≡ Some p → ((negated : Bool) (ranges : Vec CharRange) → p ≡ OneOf negated ranges → ⊥) → (p ≡ TextStart → ⊥) → (p ≡ TextEnd → ⊥) → ((negated : Bool) → p ≡ WordBoundary negated → ⊥)
+      → ((negated : Bool) → p ≡ Lookahead negated → ⊥) → PassesAs d pieces text number i Stops
+  passes_other d Nothing h a b c e f = no_single pieces text number i Nothing h d (λ s. s)
+  passes_other d Sequence h a b c e f = no_single pieces text number i Sequence h d (λ s. s)
+  passes_other d Choice h a b c e f = no_single pieces text number i Choice h d (λ s. s)
+  passes_other d (Repetition least more) h a b c e f = no_single pieces text number i (Repetition least more) h d (λ s. s)
+  passes_other d (OneOf negated ranges) h a b c e f = absurd (a negated ranges refl)
+  passes_other d TextStart h a b c e f = absurd (b refl)
+  passes_other d TextEnd h a b c e f = absurd (c refl)
+  passes_other d (WordBoundary negated) h a b c e f = absurd (e negated refl)
+  passes_other d (Lookahead negated) h a b c e f = absurd (f negated refl)
+
+  -- an assertion, whose tree is this one
+  module _ (p : Piece) (t : Tree) (stands : slice_get pieces number ≡ Some p) (e : tree_at pieces number ≡ t) where
+    by_tree : (d : Direction) (b : Bool) → IsSingle p → (b ≡ true → Spans t text i i) → (b ≡ false → Spans t text i i → ⊥) → ((j k : ℕ) → Spans t text j k → j ≡ k) → PassesAs d pieces text number i (stays b)
+    by_tree d b single holds fails empty = by_test pieces text number i p stands d b single
+        (λ y. subst (λ (u : Tree). Spans u text i i) (sym e) (holds y)) (λ n s. fails n (subst (λ (u : Tree). Spans u text i i) e s))
+        (λ j k s. empty j k (subst (λ (u : Tree). Spans u text j k) e s))
+
+  pub passes_start : (d : Direction) → slice_get pieces number ≡ Some TextStart → PassesAs d pieces text number i (stays (i == 0))
+  passes_start d h = by_tree TextStart text_start h (tree_at_is pieces number TextStart h) d (i == 0) tt (λ b. (refl, eqb-true i 0 b)) (λ b s. eqb-false i 0 b s.1) (λ j k s. s.0)
+
+  pub passes_end : (d : Direction) → slice_get pieces number ≡ Some TextEnd → PassesAs d pieces text number i (stays (i == length text))
+  passes_end d h = by_tree TextEnd text_end h (tree_at_is pieces number TextEnd h) d (i == length text) tt (λ b. (refl, eqb-true i (length text) b)) (λ b s. eqb-false i (length text) b s.1) (λ j k s. s.0)
+
+  pub passes_boundary : (d : Direction) (negated : Bool) → slice_get pieces number ≡ Some (WordBoundary negated) → PassesAs d pieces text number i (stays (differs (is_boundary text i) negated))
+  passes_boundary d negated h = by_tree (WordBoundary negated) (word_boundary negated) h (tree_at_is pieces number (WordBoundary negated) h) d (differs (is_boundary text i) negated) tt
+      (λ b. (refl, differs_not (is_boundary text i) negated b)) (λ b s. not_differs (is_boundary text i) negated b s.1) (λ j k s. s.0)
+
+  pub passes_lookahead : (d : Direction) (negated holds : Bool) → slice_get pieces number ≡ Some (Lookahead negated) → Answers pieces text number i holds → PassesAs d pieces text number i (stays holds)
+  passes_lookahead d negated holds h a = by_test pieces text number i (Lookahead negated) h d holds tt
+      (λ b. let at_true : Answers pieces text number i true = subst (λ (v : Bool). Answers pieces text number i v) b a in at_true)
+      (λ b. let at_false : Answers pieces text number i false = subst (λ (v : Bool). Answers pieces text number i v) b a in at_false)
+      (λ j k s. stays_at negated (top (with_pieces (take number pieces) [])) text j k
+      (subst (λ (u : Tree). Spans u text j k) (tree_at_is pieces number (Lookahead negated) h) s))
+
+  -- a class
+  module _ (negated : Bool) (ranges : Vec CharRange) (stands : slice_get pieces number ≡ Some (OneOf negated ranges)) where
+    class_spans : (j k : ℕ) → PassesPiece pieces text number j k → Spans (one_of negated ranges.items) text j k
+    class_spans j k h = subst (λ (u : Tree). Spans u text j k) (tree_at_is pieces number (OneOf negated ranges) stands) h.spans
+
+    class_passes : (j c : ℕ) → slice_get text j ≡ Some c → fits negated ranges.items c ≡ true → PassesPiece pieces text number j (j + 1)
+    class_passes j c at f = single_spans pieces text number i (OneOf negated ranges) stands tt j (j + 1)
+        (subst (λ (u : Tree). Spans u text j (j + 1)) (sym (tree_at_is pieces number (OneOf negated ranges) stands))
+        (slice_get_within text j c at, refl, subst (λ (x : ℕ). fits negated ranges.items x ≡ true) (sym (index_is text j c at)) f))
+
+    -- the character that is passed fits
+    class_fits : (j k c : ℕ) → slice_get text j ≡ Some c → fits negated ranges.items c ≡ false → PassesPiece pieces text number j k → ⊥
+    class_fits j k c at f h = both_ways (fits negated ranges.items c) f (subst (λ (x : ℕ). fits negated ranges.items x ≡ true) (index_is text j c at) (class_spans j k h).2)
+
+    by_fit : (d : Direction) (c : ℕ) (b : Bool) → ahead_of d text i ≡ Some c → fits negated ranges.items c ≡ b → PassesAs d pieces text number i (cond b Moves Stops)
+    by_fit Forward c true at f = (i + 1, refl, omega (arith, slice_get_within text i c at), class_passes i c at f, λ j h. (class_spans i j h).1)
+    by_fit Forward c false at f = λ j h. class_fits i j c at f h
+    by_fit Backward c b at f = by_place i refl
+      where
+        by_place : (k : ℕ) → i ≡ k → PassesAs Backward pieces text number i (cond b Moves Stops)
+        by_place zero e = no_some c (sym (ap (λ (x : ℕ). ahead_of Backward text x) e) ∙ at)
+        by_place (suc k) e = by_bool b refl
+          where
+            there : slice_get text k ≡ Some c
+            there = sym (ap (λ (x : ℕ). ahead_of Backward text x) e) ∙ at
+
+            from_there : (j : ℕ) → PassesPiece pieces text number j i → j ≡ k
+            from_there j h = omega (arith, (class_spans j i h).1, e)
+
+            by_bool : (v : Bool) → b ≡ v → PassesAs Backward pieces text number i (cond v Moves Stops)
+            by_bool true y = (
+              k,
+              omega (arith, e),
+              omega (arith, slice_get_within text k c there),
+              subst (λ (x : ℕ). PassesPiece pieces text number k x) (omega (arith, e)) (class_passes k c there (f ∙ y)),
+              λ j h. from_there j h,
+            )
+            by_bool false y = λ j h. class_fits k i c there (f ∙ y) (subst (λ (x : ℕ). PassesPiece pieces text number x i) (from_there j h) h)
+
+    by_ahead : (d : Direction) (o : Option ℕ) → ahead_of d text i ≡ o → PassesAs d pieces text number i (class_passing negated ranges.items o)
+    by_ahead d (Some c) at = by_fit d c (fits negated ranges.items c) at refl
+    by_ahead Forward None at = λ j h. no_some (slice_index text i) (sym at ∙ there (class_spans i j h).0)
+      where
+        there : i < length text → slice_get text i ≡ Some (slice_index text i)
+        there lt = slice_get-get_or text i 0 lt
+    by_ahead Backward None at = by_place i refl
+      where
+        by_place : (k : ℕ) → i ≡ k → PassesAs Backward pieces text number i Stops
+        by_place zero e = λ j h. omega (arith, e, (class_spans j i h).1)
+        by_place (suc k) e = λ j h.
+            let same : j ≡ k = omega (arith, e, (class_spans j i h).1) in
+            no_some (slice_index text k) (sym (sym (ap (λ (x : ℕ). ahead_of Backward text x) e) ∙ at) ∙ slice_get-get_or text k 0 (omega (arith, same, (class_spans j i h).0)))
+
+    pub passes_class : (d : Direction) → PassesAs d pieces text number i (class_passing negated ranges.items (ahead_of d text i))
+    passes_class d = by_ahead d (ahead_of d text i) refl
 
 -- what a table that tells has for a place
-told_right : (pieces : List Piece) (text : List ℕ) (number i : ℕ) (table : List Bool) (told : Bool) → Tells pieces text number table → i ≤ length text → told ≡ unwrap_or (slice_get table i) false → Answers pieces text number i told
+pub told_right : (pieces : List Piece) (text : List ℕ) (number i : ℕ) (table : List Bool) (told : Bool) → Tells pieces text number table → i ≤ length text → told ≡ unwrap_or (slice_get table (length text - i)) false → Answers pieces text number i told
 told_right pieces text number i table told tells le e =
     let t = tells.told i le in
     let same : t.0 ≡ told = cc (e, ap (λ (o : Option Bool). unwrap_or o false) t.1) in
     subst (λ (b : Bool). Answers pieces text number i b) same t.2
-
-pub passed_right : (pieces : List Piece) (text : List ℕ) (tables : List (Vec Bool)) (number i : ℕ) (p : Piece) (told : Bool) → AllTell pieces text tables → number < length tables → i ≤ length text → slice_get pieces number ≡ Some p
-    → ((table : Vec Bool) → slice_get tables number ≡ Some table → told ≡ unwrap_or (slice_get table.items i) false) → PassesTo pieces text number i (passed_by p told text i)
-passed_right pieces text tables number i p told all lt le h e = passes_right pieces text number i p told h (λ negated is. by_table negated is (slice_get_cases tables number).1)
-  where
-    by_table : (negated : Bool) → p ≡ Lookahead negated → ((table : Vec Bool) × (number < length tables) × (slice_get tables number ≡ Some table) × (get_or tables number table ≡ table)) ⊎ ((length tables ≤ number) × (slice_get tables number ≡ None)) → Answers pieces text number i told
-    by_table negated is (inl t) = told_right pieces text number i t.0.items told (all.each number negated t.0 (h ∙ ap (λ (q : Piece). Some q) is) t.2) le (e t.0 t.2)
-    by_table negated is (inr t) = absurd (omega (arith, lt, t.0))
 
 -- one piece more, the same in effect
 pub copied_more : (copies copies' pieces : List Piece) (i : ℕ) (piece copy : Piece) → copies' ≡ copies ++ copy ∷ [] → with_pieces copies [] ≡ with_pieces (take i pieces) [] → ((ts : List Tree) → with_piece copy ts ≡ with_piece piece ts)

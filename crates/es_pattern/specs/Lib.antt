@@ -1,10 +1,7 @@
+-- Public clauses cite Tree, Spans, Pieces, Grammar, Faults and Stored, with Places, Limits, Forms and Escapes, on which those stand. The other files are for contracts of private functions.
 pub mod Tree
 pub mod Spans
 pub mod Pieces
-pub mod Program
-pub mod Passing
-pub mod Reaching
-pub mod Compiled
 pub mod Stored
 pub mod Escapes
 pub mod Grammar
@@ -12,6 +9,12 @@ pub mod Limits
 pub mod Forms
 pub mod Places
 pub mod Faults
+-- for private functions
+pub mod Program
+pub mod Passing
+pub mod NumberSet
+pub mod Alive
+pub mod Compiled
 pub mod Reading
 pub mod ReaderView
 pub mod Bounds

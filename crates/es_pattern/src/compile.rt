@@ -1,189 +1,179 @@
-// From a pattern's pieces to a program.
-ghost use Rattle.std.specs.Prelude.{◌≡◌, Bool, ◌+◌, ◌++◌, ◌∷◌, [], ◌<◌, ◌≤◌, ◌↔◌, IfOk, IsTrue, OnOk, length, slice_get, Some};
-ghost use Rattle.std.specs.Str.{chars};
-ghost use Rattle.es_pattern.specs.Spans.{IsFound};
-ghost use Rattle.es_pattern.specs.Pieces.{tree_of};
-ghost use Rattle.es_pattern.specs.Passing.{AllTell, PassesPiece};
-ghost use Rattle.es_pattern.specs.Reaching.{PassesBelow};
+// From a pattern's pieces to what it is searched with.
+ghost use Rattle.std.specs.Prelude.{◌≡◌, Bool, ℕ, ◌<◌, ◌++◌, ◌∷◌, [], IfOk, OnOk, length, slice_get, take};
+ghost use Rattle.es_pattern.specs.Spans.{fits};
+ghost use Rattle.es_pattern.specs.Passing.{AllClassed};
 ghost use Rattle.es_pattern.specs.Compiled.{
-  Compiled,
-  Tabulates,
+  AllParts,
+  IsProgramOf,
   code_below,
   stack_of,
+  steps_of,
   top_code,
   with_code,
 };
 
-use crate::piece::Piece;
-use crate::program::{choice, repetition};
-use crate::run::reaches;
-use crate::step::Step;
+use crate::passing::fits;
+use crate::piece::{CharRange, Piece};
+use crate::program::{choice, repetition, sequence};
+use crate::step::{Direction, Step};
 use std::alloc::{AllocError, Global};
+use std::collections::VecDeque;
+
+/// What a pattern is searched with. It is made once, when the pattern is parsed.
+#[derive(Drop)]
+pub struct Program {
+    /// The steps of the whole pattern, forward.
+    pub steps: Vec<Step>,
+    /// For each piece that is a lookahead the steps of its part, backward.
+    pub lookaheads: Vec<Vec<Step>>,
+    /// For each piece that is one of some characters which of ASCII those are.
+    pub classes: Vec<Vec<bool>>,
+}
+
+impl Program {
+    /// The program of a pattern's pieces.
+    pub fn new(alloc: Global, pieces: &[Piece]) -> Result<Program, AllocError>
+        ensures { IfOk result (IsProgramOf pieces.now) }
+    {
+        Ok(Program {
+            steps: steps_of(alloc, pieces)?,
+            lookaheads: lookaheads_of(alloc, pieces)?,
+            classes: classes_of(alloc, pieces)?,
+        })
+    }
+}
+
+/// The steps of the whole, forward.
+fn steps_of(alloc: Global, pieces: &[Piece]) -> Result<Vec<Step>, AllocError>
+    ensures { IfOk result (λ steps. steps.items ≡ steps_of Direction.Forward pieces.now) }
+{
+    let mut programs = Vec::new(alloc);
+    for number in 0..pieces.len() {
+        let _part = take_piece(
+            alloc,
+            Direction::Forward,
+            &pieces[number],
+            number,
+            &mut programs,
+        )?;
+    }
+    Ok(pop_last(alloc, &mut programs).into_vec())
+}
+
+/// For each lookahead the steps of its part, backward.
+fn lookaheads_of(alloc: Global, pieces: &[Piece]) -> Result<Vec<Vec<Step>>, AllocError>
+    ensures { IfOk result (λ lookaheads. AllParts pieces.now lookaheads.items) }
+{
+    let mut programs = Vec::new(alloc);
+    let mut lookaheads = Vec::new(alloc);
+    for number in 0..pieces.len() {
+        let part = take_piece(
+            alloc,
+            Direction::Backward,
+            &pieces[number],
+            number,
+            &mut programs,
+        )?;
+        lookaheads.push(part)?;
+    }
+    Ok(lookaheads)
+}
+
+/// Takes a piece, and gives the steps of a lookahead's part.
+fn take_piece(
+    alloc: Global,
+    direction: Direction,
+    piece: &Piece,
+    number: usize,
+    programs: &mut Vec<VecDeque<Step>>,
+) -> Result<Vec<Step>, AllocError>
+    ensures taken { OnOk result (stack_of programs.new.items ≡ with_code direction piece.now number (stack_of programs.old.items)) }
+    ensures part { IfOk result (λ part. (negated : Bool) → piece.now ≡ Piece.Lookahead negated → part.items ≡ top_code (stack_of programs.old.items)) }
+{
+    if let Piece::Lookahead { .. } = piece {
+        let part = pop_last(alloc, programs);
+        programs.push(single(alloc, number)?)?;
+        return Ok(part.into_vec());
+    }
+    let steps = joined(alloc, direction, piece, number, programs)?;
+    programs.push(steps)?;
+    Ok(Vec::new(alloc))
+}
+
+/// The steps of a piece that is no lookahead, made of those that it joins.
+fn joined(
+    alloc: Global,
+    direction: Direction,
+    piece: &Piece,
+    number: usize,
+    programs: &mut Vec<VecDeque<Step>>,
+) -> Result<VecDeque<Step>, AllocError>
+    requires { (negated : Bool) → piece.now ≡ Piece.Lookahead negated → ⊥ }
+    ensures { IfOk result (λ steps. steps.items ∷ stack_of programs.new.items ≡ with_code direction piece.now number (stack_of programs.old.items)) }
+{
+    match piece {
+        Piece::Nothing => Ok(VecDeque::new(alloc)),
+        Piece::Sequence => {
+            let second = pop_last(alloc, programs);
+            let first = pop_last(alloc, programs);
+            sequence(direction, first, second)
+        }
+        Piece::Choice => {
+            let second = pop_last(alloc, programs);
+            let first = pop_last(alloc, programs);
+            choice(first, second)
+        }
+        Piece::Repetition { least, more } => {
+            let part = pop_last(alloc, programs);
+            repetition(alloc, part, *least, *more)
+        }
+        Piece::Lookahead { .. } => unreachable!(),
+        _ => single(alloc, number),
+    }
+}
 
 /// Takes the last program, which is empty where there is none.
-fn pop_last(alloc: Global, programs: &mut Vec<Vec<Step>>) -> Vec<Step>
+fn pop_last(alloc: Global, programs: &mut Vec<VecDeque<Step>>) -> VecDeque<Step>
     ensures program { result.items ≡ top_code (stack_of programs.old.items) }
     ensures others { stack_of programs.new.items ≡ code_below (stack_of programs.old.items) }
 {
     match programs.pop() {
         Some(program) => program,
-        None => Vec::new(alloc),
+        None => VecDeque::new(alloc),
     }
 }
 
-/// The program of a single piece.
-fn single(alloc: Global, number: usize) -> Result<Vec<Step>, AllocError>
+/// The steps of a single piece.
+fn single(alloc: Global, number: usize) -> Result<VecDeque<Step>, AllocError>
     ensures { IfOk result (λ steps. steps.items ≡ Step.Pass number ∷ []) }
 {
-    let mut steps = Vec::new(alloc);
-    steps.push(Step::Pass(number))?;
+    let mut steps = VecDeque::new(alloc);
+    steps.push_back(Step::Pass(number))?;
     Ok(steps)
 }
 
-/// The program of a piece, made of the programs that it joins.
-fn joined(
-    alloc: Global,
-    piece: &Piece,
-    number: usize,
-    programs: &mut Vec<Vec<Step>>,
-) -> Result<Vec<Step>, AllocError>
-    ensures { IfOk result (λ steps. steps.items ∷ stack_of programs.new.items ≡ with_code piece.now number (stack_of programs.old.items)) }
+/// For each piece that is one of some characters which of ASCII those are.
+fn classes_of(alloc: Global, pieces: &[Piece]) -> Result<Vec<Vec<bool>>, AllocError>
+    ensures { IfOk result (λ classes. AllClassed pieces.now classes.items) }
 {
-    match piece {
-        Piece::Nothing => Ok(Vec::new(alloc)),
-        Piece::Sequence => {
-            let second = pop_last(alloc, programs);
-            let mut first = pop_last(alloc, programs);
-            first.extend_from_slice(&second)?;
-            Ok(first)
-        }
-        Piece::Choice => {
-            let second = pop_last(alloc, programs);
-            let first = pop_last(alloc, programs);
-            choice(alloc, &first, &second)
-        }
-        Piece::Repetition { least, more } => {
-            let part = pop_last(alloc, programs);
-            repetition(alloc, &part, *least, *more)
-        }
-        Piece::Lookahead { .. } => {
-            let _part = pop_last(alloc, programs);
-            single(alloc, number)
-        }
-        _ => single(alloc, number),
+    let mut classes = Vec::new(alloc);
+    for piece in pieces {
+        let class = match piece {
+            Piece::OneOf { negated, ranges } => class_of(alloc, *negated, ranges)?,
+            _ => Vec::new(alloc),
+        };
+        classes.push(class)?;
     }
+    Ok(classes)
 }
 
-/// For each place of the text, whether a run from there comes to the program's end, or, where `negated`, whether none does.
-fn table_of(
-    alloc: Global,
-    program: &[Step],
-    negated: bool,
-    pieces: &[Piece],
-    tables: &[Vec<bool>],
-    text: &[char],
-) -> Result<Vec<bool>, AllocError>
-    requires told { AllTell pieces.now text.now tables.now }
-    requires below { PassesBelow program.now (length tables.now) }
-    ensures { IfOk result (λ table. Tabulates (PassesPiece pieces.now text.now) program.now negated (length text.now) table.items) }
+/// Which characters of ASCII fit.
+fn class_of(alloc: Global, negated: bool, ranges: &[CharRange]) -> Result<Vec<bool>, AllocError>
+    ensures { IfOk result (λ class. (c : ℕ) → c < 128 → slice_get class.items c ≡ Some (fits negated ranges.now c)) }
 {
-    let mut table = Vec::new(alloc);
-    for place in 0..text.len() + 1 {
-        let found = reaches(alloc, program, pieces, tables, text, place, place)?;
-        table.push(negated != found)?;
+    let mut class = Vec::new(alloc);
+    for code in 0..128u8 {
+        class.push(fits(negated, ranges, char::from(code)))?;
     }
-    Ok(table)
-}
-
-/// Takes a lookahead: its table, and the program that asks it.
-fn take_lookahead(
-    alloc: Global,
-    negated: bool,
-    pieces: &[Piece],
-    number: usize,
-    text: &[char],
-    programs: &mut Vec<Vec<Step>>,
-    tables: &mut Vec<Vec<bool>>,
-) -> Result<(), AllocError>
-    requires stands { slice_get pieces.now number ≡ Some (Piece.Lookahead negated) }
-    requires compiled { Compiled pieces.now text.now number (stack_of programs.old.items) tables.old.items }
-    ensures { OnOk result (Compiled pieces.now text.now (number + 1) (stack_of programs.new.items) tables.new.items) }
-{
-    let part = pop_last(alloc, programs);
-    let table = table_of(alloc, &part, negated, pieces, tables, text)?;
-    tables.push(table)?;
-    let program = single(alloc, number)?;
-    programs.push(program)?;
-    Ok(())
-}
-
-/// Takes a piece that is no lookahead.
-fn take_other(
-    alloc: Global,
-    piece: &Piece,
-    pieces: &[Piece],
-    number: usize,
-    text: &[char],
-    programs: &mut Vec<Vec<Step>>,
-    tables: &mut Vec<Vec<bool>>,
-) -> Result<(), AllocError>
-    requires stands { slice_get pieces.now number ≡ Some piece.now }
-    requires other { (negated : Bool) → piece.now ≡ Piece.Lookahead negated → ⊥ }
-    requires compiled { Compiled pieces.now text.now number (stack_of programs.old.items) tables.old.items }
-    ensures { OnOk result (Compiled pieces.now text.now (number + 1) (stack_of programs.new.items) tables.new.items) }
-{
-    tables.push(Vec::new(alloc))?;
-    let program = joined(alloc, piece, number, programs)?;
-    programs.push(program)?;
-    Ok(())
-}
-
-/// Takes the piece of that number.
-fn take_piece(
-    alloc: Global,
-    pieces: &[Piece],
-    number: usize,
-    text: &[char],
-    programs: &mut Vec<Vec<Step>>,
-    tables: &mut Vec<Vec<bool>>,
-) -> Result<(), AllocError>
-    requires number { number < length pieces.now }
-    requires compiled { Compiled pieces.now text.now number (stack_of programs.old.items) tables.old.items }
-    ensures { OnOk result (Compiled pieces.now text.now (number + 1) (stack_of programs.new.items) tables.new.items) }
-{
-    match &pieces[number] {
-        Piece::Lookahead { negated } => {
-            take_lookahead(alloc, *negated, pieces, number, text, programs, tables)
-        }
-        piece => take_other(alloc, piece, pieces, number, text, programs, tables),
-    }
-}
-
-/// Whether the pattern of these pieces is found in the text.
-pub fn is_found(alloc: Global, pieces: &[Piece], text: &str) -> Result<bool, AllocError>
-    ensures { IfOk result (λ found. IsTrue found ↔ IsFound (tree_of pieces.now) (chars text.now)) }
-{
-    let characters: Vec<char> = text.chars().collect(alloc)?;
-    let mut programs = Vec::new(alloc);
-    let mut tables = Vec::new(alloc);
-    for number in 0..pieces.len() {
-        take_piece(
-            alloc,
-            pieces,
-            number,
-            &characters,
-            &mut programs,
-            &mut tables,
-        )?;
-    }
-    let program = pop_last(alloc, &mut programs);
-    reaches(
-        alloc,
-        &program,
-        pieces,
-        &tables,
-        &characters,
-        0,
-        characters.len(),
-    )
+    Ok(class)
 }

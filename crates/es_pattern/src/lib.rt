@@ -1,18 +1,20 @@
 //! Patterns: regular expressions after ECMAScript without flags, and whether one is found in a text.
 #![tactic(auto)]
 
+mod alive;
 mod braces;
 mod compile;
 mod error;
 mod escape;
 mod mode;
+mod number_set;
 mod parse;
 mod passing;
 mod pattern;
 mod piece;
 mod program;
 mod reader;
-mod run;
+mod search;
 mod step;
 #[cfg(test)]
 mod tests;

@@ -8,10 +8,11 @@ ghost use Rattle.es_pattern.specs.declared.error.PatternError.{PatternError};
 ghost use Rattle.es_pattern.specs.Faults.{FailsBy, IsCaused, IsClear, IsFirstFault, IsWithinLimits, Succeeds};
 ghost use Rattle.es_pattern.specs.Grammar.{IsPattern};
 
-use crate::compile;
+use crate::compile::Program;
 use crate::error::PatternError;
 use crate::parse::pieces_of;
 use crate::piece::Piece;
+use crate::search;
 use std::alloc::{AllocError, Global};
 use std::marker::Model;
 
@@ -19,18 +20,23 @@ use std::marker::Model;
 #[derive(Drop)]
 pub struct Pattern {
     pieces: Vec<Piece>,
+    /// What the pattern is searched with, made of the pieces.
+    program: Program,
 }
 
 impl Model for Pattern {
     ghost use Rattle.es_pattern.specs.Tree.{Tree};
     ghost use Rattle.es_pattern.specs.Stored.{tree_code};
     ghost use Rattle.es_pattern.specs.Pieces.{tree_of};
+    ghost use Rattle.es_pattern.specs.Compiled.{IsProgramOf};
 
     ghost Value = { Tree };
 
     ghost coded = { tree_code };
 
     ghost view = { λ p. tree_of p.pieces.items };
+
+    ghost invariant = { λ p. IsProgramOf p.pieces.items p.program };
 }
 
 /// An equal piece.
@@ -80,24 +86,24 @@ impl Pattern {
         ensures fault { IfErr result (IsCaused (chars text.now)) }
         ensures refused { (e : PatternError) → IsFirstFault (chars text.now) e → FailsBy e result }
     {
-        Ok(Pattern {
-            pieces: pieces_of(alloc, text)?,
-        })
+        let pieces = pieces_of(alloc, text)?;
+        let program = Program::new(alloc, &pieces)?;
+        Ok(Pattern { pieces, program })
     }
 
     /// Whether the pattern spans a part of the text, wherever it stands. The part may be empty.
     pub fn is_found(&self, alloc: Global, text: &str) -> Result<bool, AllocError>
         ensures { IfOk result (λ found. IsTrue found ↔ IsFound self.now (chars text.now)) }
     {
-        compile::is_found(alloc, &self.pieces, text)
+        search::is_found(alloc, &self.pieces, &self.program, text)
     }
 
     /// An equal pattern.
     pub fn try_clone(&self, alloc: Global) -> Result<Pattern, AllocError>
         ensures { IfOk result (λ copy. copy ≡ self.now) }
     {
-        Ok(Pattern {
-            pieces: copied_pieces(alloc, &self.pieces)?,
-        })
+        let pieces = copied_pieces(alloc, &self.pieces)?;
+        let program = Program::new(alloc, &pieces)?;
+        Ok(Pattern { pieces, program })
     }
 }

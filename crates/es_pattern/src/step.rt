@@ -1,5 +1,14 @@
 // The steps of a program that walks over a text.
 
+/// The way that a walk goes over a text.
+#[derive(Clone, Copy, Debug, PartialEq, Eq)]
+pub enum Direction {
+    /// From the text's start to its end.
+    Forward,
+    /// From its end to its start.
+    Backward,
+}
+
 /// One step. Steps count from the one that they stand at, so a part of a program can be moved.
 #[derive(Clone, Copy, Debug)]
 pub enum Step {

@@ -8,21 +8,21 @@ use Rattle.es_pattern.proofs.Beginnings.{pattern_accepted}
 use Rattle.es_pattern.proofs.OneFault.{caused_as, caused_by_memory, no_fault}
 use Rattle.es_pattern.proofs.pattern.Pattern.parse.Goals as goal
 
-pub returns-in_err-pieces_of-clause-refused : goal.returns-in_err-pieces_of-clause-refused
-returns-in_err-pieces_of-clause-refused c = λ e h.
+pub returns-in_err-pieces-clause-refused : goal.returns-in_err-pieces-clause-refused
+returns-in_err-pieces-clause-refused c = λ e h.
     let p = err_from_is_err_and c.from_residual.result c.from_residual.ensures.1 in rw (p.1, p.2)
-    (caused_as (chars c.args.text.now) e c.in_err-pieces_of.field-0.0 h c.in_err-pieces_of.ensures.fault)
+    (caused_as (chars c.args.text.now) e c.in_err-pieces.field-0.0 h c.in_err-pieces.ensures.fault)
 
 pub returns-clause-ok : goal.returns-clause-ok
-returns-clause-ok c = accepted_is_pattern (chars c.args.text.now) (tree_of c.in_ok-pieces_of.field-0.items) c.in_ok-pieces_of.ensures.ok
+returns-clause-ok c = accepted_is_pattern (chars c.args.text.now) (tree_of c.in_ok-pieces.pieces.items) c.in_ok-pieces.ensures.ok
 
 pub returns-clause-one_tree : goal.returns-clause-one_tree
-returns-clause-one_tree c = λ tree h. same_Some (tree_of c.in_ok-pieces_of.field-0.items) tree (sym c.in_ok-pieces_of.ensures.ok ∙ pattern_accepted (chars c.args.text.now) tree h)
+returns-clause-one_tree c = λ tree h. same_Some (tree_of c.in_ok-pieces.pieces.items) tree (sym c.in_ok-pieces.ensures.ok ∙ pattern_accepted (chars c.args.text.now) tree h)
 
 pub returns-clause-refused : goal.returns-clause-refused
-returns-clause-refused c = λ e h. no_fault (chars c.args.text.now) e c.in_ok-pieces_of.ensures.clear h
+returns-clause-refused c = λ e h. no_fault (chars c.args.text.now) e c.in_ok-pieces.ensures.clear h
 
-pub returns-in_err-pieces_of-clause-accepts : goal.returns-in_err-pieces_of-clause-accepts
-returns-in_err-pieces_of-clause-accepts c = λ tree h limits.
+pub returns-in_err-pieces-clause-accepts : goal.returns-in_err-pieces-clause-accepts
+returns-in_err-pieces-clause-accepts c = λ tree h limits.
     let p = err_from_is_err_and c.from_residual.result c.from_residual.ensures.1 in rw (p.1, p.2)
-    (caused_by_memory (chars c.args.text.now) tree c.in_err-pieces_of.field-0.0 h limits c.in_err-pieces_of.ensures.fault)
+    (caused_by_memory (chars c.args.text.now) tree c.in_err-pieces.field-0.0 h limits c.in_err-pieces.ensures.fault)

@@ -1,0 +1,246 @@
+-- The passes over a text.
+use Rattle.std.proofs.Common.{◌≡◌, ℕ, zero, suc, ◌+◌, ◌-◌, ◌<◌, ◌≤◌, Bool, true, false, List, [], ◌∷◌, ◌++◌, ◌⊎◌, inl, inr, length, take, Option, Some, None, refl, sym, ap, subst, ◌∙◌, arith, length-append}
+use Rattle.std.specs.Prelude.{slice_get, nat_le, set, is_some, Result, IfOk, IsTrue, ◌↔◌, MatchBool, MatchOption}
+use Rattle.std.specs.Global.{Vec}
+use Rattle.std.proofs.lemmas.List.{length-set}
+use Rattle.es_pattern.specs.declared.number_set.NumberSet.{NumberSet}
+use Rattle.std.proofs.lemmas.Bool.{false≢true, leb-true, le-leb}
+use Rattle.std.proofs.lemmas.Option.{slice_get_within, same_Some}
+use Rattle.es_pattern.specs.declared.step.Step.{Step}
+use Rattle.es_pattern.specs.declared.step.Direction.{Direction}
+use Rattle.es_pattern.specs.declared.step.Direction.TheVariants.{Forward, Backward}
+use Rattle.es_pattern.specs.declared.alive.Alive.{Alive}
+use Rattle.es_pattern.specs.declared.piece.Piece.{Piece}
+use Rattle.es_pattern.specs.declared.piece.Piece.TheVariants.{Lookahead}
+use Rattle.es_pattern.specs.Tree.{Tree, nothing, one_of, text_start, text_end, word_boundary, sequence, choice, repetition, lookahead}
+use Rattle.es_pattern.specs.Spans.{Spans, Chain, IsFound, differs}
+use Rattle.es_pattern.specs.Pieces.{tree_of}
+use Rattle.es_pattern.specs.Program.{IsAlive}
+use Rattle.es_pattern.specs.Passing.{Passes, After, AllTell, Tells, Answers, IsTold, IsUntold, IsAsked, untold_count}
+use Rattle.es_pattern.specs.NumberSet.{has}
+use Rattle.es_pattern.specs.Alive.{Settled, Settling, ArrivesBy, SettlingBy, SettledBy}
+use Rattle.es_pattern.specs.Compiled.{AllParts, steps_of, part_steps}
+use Rattle.es_pattern.proofs.Passings.{tree_at_is}
+use Rattle.es_pattern.proofs.Alives.{alive_within, arrives_first, arrives_next, settling_begun}
+use Rattle.es_pattern.proofs.Compiling.{first_walks, whole_walks, ends_alive, alive_ends, slice_get_end, slice_get-append}
+use Rattle.es_pattern.proofs.NumberTests.{lt_or_same, no_some}
+
+-- a part that begins in the text ends there
+chain_within : (R : ℕ → ℕ → Type 0) (size n i j : ℕ) → ((k l : ℕ) → k ≤ size → R k l → l ≤ size) → i ≤ size → Chain R n i j → j ≤ size
+chain_within R size zero i j within le c = omega (arith, c, le)
+chain_within R size (suc n) i j within le c = chain_within R size n c.0 j within (within i c.0 le c.1) c.2
+
+pub spans_within : (t : Tree) (text : List ℕ) (i j : ℕ) → i ≤ length text → Spans t text i j → j ≤ length text
+spans_within nothing text i j le s = omega (arith, s, le)
+spans_within (one_of negated ranges) text i j le s = omega (arith, s.0, s.1)
+spans_within text_start text i j le s = omega (arith, s.0, le)
+spans_within text_end text i j le s = omega (arith, s.0, le)
+spans_within (word_boundary negated) text i j le s = omega (arith, s.0, le)
+spans_within (sequence a b) text i j le s = spans_within b text s.0 j (spans_within a text i s.0 le s.1) s.2
+spans_within (choice a b) text i j le (inl s) = spans_within a text i j le s
+spans_within (choice a b) text i j le (inr s) = spans_within b text i j le s
+spans_within (repetition least most a) text i j le s = chain_within (Spans a text) (length text) s.0 i j (λ k l within r. spans_within a text k l within r) le s.3
+spans_within (lookahead true a) text i j le s = omega (arith, s.0, le)
+spans_within (lookahead false a) text i j le s = omega (arith, s.0, le)
+
+-- walks begin at each place of the text
+abbrev pub in_text : List ℕ → ℕ → Bool
+in_text text b = nat_le b (length text)
+
+abbrev pub arrives_by : Direction → List Piece → List ℕ → List Step → ℕ → Alive → Type 0
+arrives_by d pieces text steps place alive = ArrivesBy d pieces text (in_text text) steps place alive
+
+-- no walk comes to the end before that place
+abbrev pub none_before : Direction → List Piece → List ℕ → List Step → ℕ → Type 0
+none_before d pieces text steps place = (k : ℕ) → k < place → IsAlive (Passes d pieces text) (in_text text) steps (length steps) k → ⊥
+
+pub first_backward : (pieces : List Piece) (text : List ℕ) (steps : List Step) (at j : ℕ) → IsAlive (Passes Backward pieces text) (in_text text) steps at j → After Backward j (length text) → ⊥
+first_backward pieces text steps at j a after = omega (arith, after, alive_within Backward pieces text (in_text text) steps (λ b h. leb-true b (length text) h) a.0 at j a.1)
+
+pub first_forward : (pieces : List Piece) (text : List ℕ) (steps : List Step) (at j : ℕ) → IsAlive (Passes Forward pieces text) (in_text text) steps at j → After Forward j 0 → ⊥
+first_forward pieces text steps at j a after = omega (arith, after)
+
+-- what a lookahead's answer is by what is alive
+abbrev elim_answer : Bool → Type 0 → Type 0
+elim_answer holds S = MatchBool holds S (S → ⊥)
+
+module _ (pieces : List Piece) (text : List ℕ) (number : ℕ) (negated : Bool) (stands : slice_get pieces number ≡ Some (Lookahead negated)) where
+  answer_by : (place : ℕ) (n found : Bool) → ((x : ℕ) × Spans (tree_of (take number pieces)) text place x → found ≡ true) → (found ≡ true → (x : ℕ) × Spans (tree_of (take number pieces)) text place x)
+      → elim_answer (differs n found) (Spans (lookahead n (tree_of (take number pieces))) text place place)
+  answer_by place true true to from = λ s. s.1 (from refl).0 (from refl).1
+  answer_by place true false to from = (refl, λ x s. false≢true (to (x, s)))
+  answer_by place false true to from = (refl, from refl)
+  answer_by place false false to from = λ s. false≢true (to s.1)
+
+  pub answers_here : (place : ℕ) (found : Bool) (waiting taken next : List ℕ) → place ≤ length text → Settled Backward (Passes Backward pieces text) (in_text text) (part_steps Backward pieces number) place waiting taken next
+      → found ≡ has taken (length (part_steps Backward pieces number)) → Answers pieces text number place (differs negated found)
+  answers_here place found waiting taken next le s is =
+      subst (λ (t : Tree). elim_answer (differs negated found) (Spans t text place place)) (sym (tree_at_is pieces number (Lookahead negated) stands)) (answer_by place negated found to from)
+    where
+      to : (x : ℕ) × Spans (tree_of (take number pieces)) text place x → found ≡ true
+      to h = is ∙ s.alive (length (part_steps Backward pieces number))
+          (ends_alive (Passes Backward pieces text) (in_text text) place (part_steps Backward pieces number) (λ i j. Spans (tree_of (take number pieces)) text j i)
+          (first_walks Backward pieces text place number (omega (arith, slice_get_within pieces number (Lookahead negated) stands))) h.0
+          (le-leb h.0 (length text) (spans_within (tree_of (take number pieces)) text place h.0 le h.1)) h.1) (omega arith)
+
+      from : found ≡ true → (x : ℕ) × Spans (tree_of (take number pieces)) text place x
+      from y =
+          let e = alive_ends (Passes Backward pieces text) (in_text text) place (part_steps Backward pieces number) (λ i j. Spans (tree_of (take number pieces)) text j i)
+          (first_walks Backward pieces text place number (omega (arith, slice_get_within pieces number (Lookahead negated) stands))) (s.taken_by (length (part_steps Backward pieces number)) (sym is ∙ y)) in
+          (e.0, e.2)
+
+-- a table so far
+pub record Tabling (pieces : List Piece) (text : List ℕ) (number count : ℕ) (table : List Bool) : Type 0 where
+  pub counted : length table ≡ count
+  pub told : (k : ℕ) → k < count → (holds : Bool) × (slice_get table k ≡ Some holds) × Answers pieces text number (length text - k) holds
+
+pub tabling_none : (pieces : List Piece) (text : List ℕ) (number : ℕ) (table : List Bool) → table ≡ [] → Tabling pieces text number 0 table
+tabling_none pieces text number table e = record { counted = ap length e; told = λ k lt. absurd (omega (arith, lt)) }
+
+pub tabling_more : (pieces : List Piece) (text : List ℕ) (number count : ℕ) (table new : List Bool) (holds : Bool) → Tabling pieces text number count table → new ≡ table ++ holds ∷ [] → Answers pieces text number (length text - count) holds → Tabling pieces text number (count + 1) new
+tabling_more pieces text number count table new holds t e a = subst (λ (u : List Bool). Tabling pieces text number (count + 1) u) (sym e) record {
+  counted = omega (arith, length-append table (holds ∷ []), t.counted);
+  told = λ k lt. by_order k (lt_or_same k count (omega (arith, lt)));
+}
+  where
+    by_order : (k : ℕ) → (k < count) ⊎ (k ≡ count) → (h : Bool) × (slice_get (table ++ holds ∷ []) k ≡ Some h) × Answers pieces text number (length text - k) h
+    by_order k (inl lt) = let old = t.told k lt in (old.0, slice_get-append table (holds ∷ []) k old.0 old.1, old.2)
+    by_order k (inr same) = (
+      holds,
+      subst (λ (x : ℕ). slice_get (table ++ holds ∷ []) x ≡ Some holds) (t.counted ∙ sym same) (slice_get_end table holds []),
+      subst (λ (x : ℕ). Answers pieces text number (length text - x) holds) (sym same) a,
+    )
+
+pub tabling_all : (pieces : List Piece) (text : List ℕ) (number count : ℕ) (table : List Bool) → length text < count → Tabling pieces text number count table → Tells pieces text number table
+tabling_all pieces text number count table lt t = record {
+  told = λ k le.
+      let h = t.told (length text - k) (omega (arith, lt)) in
+      let same : length text - (length text - k) ≡ k = omega (arith, le) in
+      (h.0, h.1, subst (λ (x : ℕ). Answers pieces text number x h.0) same h.2);
+}
+
+-- what is found by what is alive
+module _ (pieces : List Piece) (text : List ℕ) where
+  pub found_here : (place : ℕ) → IsAlive (Passes Forward pieces text) (in_text text) (steps_of Forward pieces) (length (steps_of Forward pieces)) place → IsFound (tree_of pieces) text
+  found_here place a =
+      let e = alive_ends (Passes Forward pieces text) (in_text text) place (steps_of Forward pieces) (Spans (tree_of pieces) text) (whole_walks Forward pieces text place) a in
+      (e.0, place, leb-true e.0 (length text) e.1, e.2)
+
+  pub found_nowhere : (place : ℕ) → length text < place → none_before Forward pieces text (steps_of Forward pieces) place → IsFound (tree_of pieces) text → ⊥
+  found_nowhere place lt none f =
+      none f.1 (omega (arith, lt, spans_within (tree_of pieces) text f.0 f.1 f.2 f.3))
+      (ends_alive (Passes Forward pieces text) (in_text text) f.1 (steps_of Forward pieces) (Spans (tree_of pieces) text) (whole_walks Forward pieces text f.1) f.0 (le-leb f.0 (length text) f.2) f.3)
+
+-- where more is told, less is left to tell
+no_more_untold : (old new : List (Option (Vec Bool))) → length new ≡ length old → ((k : ℕ) → IsTold old k → IsTold new k) → untold_count new ≤ untold_count old
+no_more_untold [] [] e kept = omega arith
+no_more_untold [] (y ∷ new) e kept = absurd (omega (arith, e))
+no_more_untold (x ∷ old) [] e kept = absurd (omega (arith, e))
+no_more_untold (None ∷ old) (None ∷ new) e kept = omega (arith, no_more_untold old new (omega (arith, e)) (λ k h. kept (suc k) h))
+no_more_untold (None ∷ old) (Some table ∷ new) e kept = omega (arith, no_more_untold old new (omega (arith, e)) (λ k h. kept (suc k) h))
+no_more_untold (Some table ∷ old) (None ∷ new) e kept = let h = kept 0 (table, refl) in no_some h.0 (same_Some None (Some h.0) h.1)
+no_more_untold (Some table ∷ old) (Some other ∷ new) e kept = no_more_untold old new (omega (arith, e)) (λ k h. kept (suc k) h)
+
+pub fewer_untold : (old new : List (Option (Vec Bool))) (number : ℕ) → length new ≡ length old → ((k : ℕ) → IsTold old k → IsTold new k) → slice_get old number ≡ Some None → IsTold new number → untold_count new < untold_count old
+fewer_untold [] new number e kept was now = cc
+fewer_untold (x ∷ old) [] number e kept was now = absurd (omega (arith, e))
+fewer_untold (Some table ∷ old) (y ∷ new) zero e kept was now = no_some table (same_Some None (Some table) (sym was))
+fewer_untold (None ∷ old) (None ∷ new) zero e kept was now = no_some now.0 (same_Some None (Some now.0) now.1)
+fewer_untold (None ∷ old) (Some table ∷ new) zero e kept was now = omega (arith, no_more_untold old new (omega (arith, e)) (λ k h. kept (suc k) h))
+fewer_untold (None ∷ old) (None ∷ new) (suc number) e kept was now = omega (arith, fewer_untold old new number (omega (arith, e)) (λ k h. kept (suc k) h) was now)
+fewer_untold (None ∷ old) (Some table ∷ new) (suc number) e kept was now = omega (arith, fewer_untold old new number (omega (arith, e)) (λ k h. kept (suc k) h) was now)
+fewer_untold (Some table ∷ old) (None ∷ new) (suc number) e kept was now = let h = kept 0 (table, refl) in no_some h.0 (same_Some None (Some h.0) h.1)
+fewer_untold (Some table ∷ old) (Some other ∷ new) (suc number) e kept was now = fewer_untold old new number (omega (arith, e)) (λ k h. kept (suc k) h) was now
+
+-- a table more
+set_cases : {X : Type 0} (xs : List X) (n : ℕ) (v : X) (k : ℕ) (y : X) → slice_get (set xs n v) k ≡ Some y → ((k ≡ n) × (v ≡ y)) ⊎ (slice_get xs k ≡ Some y)
+set_cases [] n v k y h = inr h
+set_cases (x ∷ xs) zero v zero y h = inl (refl, same_Some v y h)
+set_cases (x ∷ xs) zero v (suc k) y h = inr h
+set_cases (x ∷ xs) (suc n) v zero y h = inr h
+set_cases (x ∷ xs) (suc n) v (suc k) y h = by_cases (set_cases xs n v k y h)
+  where
+    by_cases : ((k ≡ n) × (v ≡ y)) ⊎ (slice_get xs k ≡ Some y) → ((suc k ≡ suc n) × (v ≡ y)) ⊎ (slice_get xs k ≡ Some y)
+    by_cases (inl e) = inl (ap suc e.0, e.1)
+    by_cases (inr g) = inr g
+
+set_here : {X : Type 0} (xs : List X) (n : ℕ) (v : X) → n < length xs → slice_get (set xs n v) n ≡ Some v
+set_here [] n v lt = absurd (omega (arith, lt))
+set_here (x ∷ xs) zero v lt = refl
+set_here (x ∷ xs) (suc n) v lt = set_here xs n v (omega (arith, lt))
+
+pub told_now : (tables : List (Option (Vec Bool))) (number : ℕ) (table : Vec Bool) → number < length tables → IsTold (set tables number (Some table)) number
+told_now tables number table lt = (table, set_here tables number (Some table) lt)
+
+pub told_kept : (tables : List (Option (Vec Bool))) (number : ℕ) (table : Vec Bool) (k : ℕ) → number < length tables → IsTold tables k → IsTold (set tables number (Some table)) k
+told_kept tables number table k lt h = by_number tables number k lt h.1
+  where
+    by_number : (xs : List (Option (Vec Bool))) (n k : ℕ) → n < length xs → slice_get xs k ≡ Some (Some h.0) → IsTold (set xs n (Some table)) k
+    by_number [] n k lt at = cc
+    by_number (x ∷ xs) zero zero lt at = (table, refl)
+    by_number (x ∷ xs) zero (suc k) lt at = (h.0, at)
+    by_number (x ∷ xs) (suc n) zero lt at = (h.0, at)
+    by_number (x ∷ xs) (suc n) (suc k) lt at = by_number xs n k (omega (arith, lt)) at
+
+pub told_more : (pieces : List Piece) (text : List ℕ) (tables : List (Option (Vec Bool))) (number : ℕ) (table : Vec Bool) → AllTell pieces text tables → Tells pieces text number table.items → AllTell pieces text (set tables number (Some table))
+told_more pieces text tables number table t tells = record {
+  counted = length-set tables number (Some table) ∙ t.counted;
+  each = λ k negated other at there. by_cases k negated other at (set_cases tables number (Some table) k (Some other) there);
+}
+  where
+    by_cases : (k : ℕ) (negated : Bool) (other : Vec Bool) → slice_get pieces k ≡ Some (Lookahead negated) → ((k ≡ number) × (◌≡◌ {A = Option (Vec Bool)} (Some table) (Some other))) ⊎ (slice_get tables k ≡ Some (Some other)) → Tells pieces text k other.items
+    by_cases k negated other at (inl e) = subst (λ (n : ℕ). Tells pieces text n other.items) (sym e.0) (subst (λ (v : Vec Bool). Tells pieces text number v.items) (same_Some table other e.1) tells)
+    by_cases k negated other at (inr there) = t.each k negated other at there
+
+-- a lookahead that is told isn't asked
+pub told_unasked : (pieces : List Piece) (tables : List (Option (Vec Bool))) (number : ℕ) → IsTold tables number → IsUntold pieces tables number → ⊥
+told_unasked pieces tables number h u = no_some h.0 (same_Some None (Some h.0) (sym u.untold ∙ h.1))
+
+-- where no lookahead is asked, the steps are settled
+pub none_asked : (pieces : List Piece) (tables : List (Option (Vec Bool))) (steps : List Step) (asked : Option ℕ) (P : Type 0) (Q : ℕ → Type 0) → MatchOption asked (Unit {0}) (IsAsked pieces tables steps) → ((k : ℕ) → IsAsked pieces tables steps k → ⊥) → MatchOption asked P Q → P
+none_asked pieces tables steps None P Q a none h = h
+none_asked pieces tables steps (Some k) P Q a none h = absurd (none k a)
+
+-- the sets, from place to place
+module _ (d : Direction) (pieces : List Piece) (text : List ℕ) (steps : List Step) where
+  pub first_by : (place : ℕ) (alive : Alive) → ((at j : ℕ) → IsAlive (Passes d pieces text) (in_text text) steps at j → After d j place → ⊥) → alive.waiting.items ≡ [] → alive.next.items ≡ [] → ((n : ℕ) → has alive.taken.words.items n ≡ false)
+      → arrives_by d pieces text steps place alive
+  first_by place alive first e f none = arrives_first d pieces text (in_text text) steps place alive.waiting.items alive.taken.words.items alive.next.items first e f none
+
+  pub begun_by : (place : ℕ) (old new : Alive) → new.waiting.items ≡ old.waiting.items ++ 0 ∷ [] → new.taken ≡ old.taken → new.next ≡ old.next → place ≤ length text → arrives_by d pieces text steps place old
+      → SettlingBy d pieces text (in_text text) steps place new
+  begun_by place old new e f g le a =
+      subst (λ (w : List ℕ). Settling d (Passes d pieces text) (in_text text) steps place w new.taken.words.items new.next.items) (sym e)
+      (subst (λ (t : NumberSet). Settling d (Passes d pieces text) (in_text text) steps place (old.waiting.items ++ 0 ∷ []) t.words.items new.next.items) (sym f)
+      (subst (λ (v : Vec ℕ). Settling d (Passes d pieces text) (in_text text) steps place (old.waiting.items ++ 0 ∷ []) old.taken.words.items v.items) (sym g)
+      (settling_begun d pieces text (in_text text) steps place old.waiting.items old.taken.words.items old.next.items (le-leb place (length text) le) a)))
+
+  pub next_by : (place after : ℕ) (old new : Alive) → After d place after → new.waiting ≡ old.next → new.next ≡ old.waiting → ((n : ℕ) → has new.taken.words.items n ≡ false) → SettledBy d pieces text (in_text text) steps place old
+      → arrives_by d pieces text steps after new
+  next_by place after old new a e f none s =
+      arrives_next d pieces text (in_text text) steps place after old.waiting.items old.taken.words.items old.next.items new.waiting.items new.taken.words.items new.next.items a s (ap (λ (v : Vec ℕ). v.items) e) (ap (λ (v : Vec ℕ). v.items) f) none
+
+  -- a program's end that was taken, or wasn't
+  pub end_taken : (place : ℕ) (alive : Alive) → SettledBy d pieces text (in_text text) steps place alive → has alive.taken.words.items (length steps) ≡ true → IsAlive (Passes d pieces text) (in_text text) steps (length steps) place
+  end_taken place alive s h = s.taken_by (length steps) h
+
+  pub none_further : (place : ℕ) (alive : Alive) → SettledBy d pieces text (in_text text) steps place alive → has alive.taken.words.items (length steps) ≡ false → none_before d pieces text steps place → none_before d pieces text steps (place + 1)
+  none_further place alive s h none k lt a = by_order (lt_or_same k place (omega (arith, lt)))
+    where
+      by_order : (k < place) ⊎ (k ≡ place) → ⊥
+      by_order (inl before) = none k before a
+      by_order (inr e) = false≢true (sym h ∙ s.alive (length steps) (subst (λ (x : ℕ). IsAlive (Passes d pieces text) (in_text text) steps (length steps) x) e a) (omega arith))
+
+-- the steps of a lookahead's part
+pub the_part : (pieces : List Piece) (lookaheads : List (Vec Step)) (number : ℕ) (negated : Bool) (steps : Vec Step) → AllParts pieces lookaheads → slice_get pieces number ≡ Some (Lookahead negated) → slice_get lookaheads number ≡ Some steps → steps.items ≡ part_steps Backward pieces number
+the_part pieces lookaheads number negated steps parts at there =
+    let p = parts number negated at in
+    ap (λ (v : Vec Step). v.items) (same_Some steps p.0 (sym there ∙ p.1)) ∙ p.2
+
+-- what isn't missing is there
+pub not_missing : {X : Type 0} (o : Option X) → is_some o ≡ true → (x : X) × (o ≡ Some x)
+not_missing None h = absurd (false≢true h)
+not_missing (Some x) h = (x, refl)
+
+pub found_if : {E : Type 0} (r : Result Bool E) (tree : Tree) (lent text : List ℕ) → lent ≡ text → IfOk r (λ found. IsTrue found ↔ IsFound tree lent) → IfOk r (λ found. IsTrue found ↔ IsFound tree text)
+found_if r tree lent text e h = subst (λ (t : List ℕ). IfOk r (λ found. IsTrue found ↔ IsFound tree t)) e h

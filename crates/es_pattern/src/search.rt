@@ -1,0 +1,399 @@
+// The search for a pattern: one pass over the text, and one for each lookahead that it comes to.
+ghost use Rattle.std.specs.Prelude.{◌≡◌, ◌≤◌, ℕ, Bool, IfOk, IsTrue, ◌↔◌, MatchOption, OnOk, OnSome, IfSome, length, slice_get, unwrap_or, slice_index};
+ghost use Rattle.std.specs.Str.{chars};
+ghost use Rattle.es_pattern.specs.Spans.{IsFound};
+ghost use Rattle.es_pattern.specs.Pieces.{tree_of};
+ghost use Rattle.es_pattern.specs.Passing.{stays};
+ghost use Rattle.es_pattern.specs.Compiled.{IsProgramOf};
+
+use crate::alive::{Alive, Passing};
+use crate::compile::Program;
+use crate::passing::{fits, is_boundary};
+use crate::piece::{CharRange, Piece};
+use crate::step::{Direction, Step};
+use std::alloc::{AllocError, Global};
+
+/// Whether the pattern of these pieces, with their program, is found in the text.
+pub fn is_found(
+    alloc: Global,
+    pieces: &[Piece],
+    program: &Program,
+    text: &str,
+) -> Result<bool, AllocError>
+    requires { IsProgramOf pieces.now program.now }
+    ensures { IfOk result (λ found. IsTrue found ↔ IsFound (tree_of pieces.now) (chars text.now)) }
+{
+    let characters: Vec<char> = text.chars().collect(alloc)?;
+    let search = Search {
+        alloc,
+        pieces,
+        program,
+        text: &characters,
+    };
+    search.is_found()
+}
+
+/// For each lookahead that was told whether it holds, by the number of characters behind the place.
+type Tables = Vec<Option<Vec<bool>>>;
+
+/// A text that is searched, and what it is searched with.
+#[derive(Drop)]
+struct Search<'a> {
+    alloc: Global,
+    pieces: &'a [Piece],
+    program: &'a Program,
+    text: &'a [char],
+}
+
+impl<'a> Search<'a> {
+    ghost use Rattle.std.specs.Prelude.{◌≡◌, ◌≤◌, ◌<◌, ◌/◌, ◌++◌, ◌∷◌, [], ℕ, Bool, false, IfOk, IsTrue, IsNone, ◌↔◌, MatchOption, OnOk, length, slice_get, Some};
+    ghost use Rattle.std.specs.Global.{Vec};
+    ghost use Rattle.es_pattern.specs.Tree.{CharRange};
+    ghost use Rattle.es_pattern.specs.Spans.{IsFound, fits};
+    ghost use Rattle.es_pattern.specs.Pieces.{tree_of};
+    ghost use Rattle.es_pattern.specs.Program.{Runs};
+    ghost use Rattle.es_pattern.specs.Passing.{
+      AllClassed,
+      AllTell,
+      IsAsked,
+      IsTold,
+      IsUntold,
+      Passes,
+      PassesAs,
+      Tells,
+      Answers,
+      ahead_of,
+      class_passing,
+      untold_count,
+    };
+    ghost use Rattle.es_pattern.specs.Alive.{SettledBy, Settling, SettlingBy, weight};
+    ghost use Rattle.es_pattern.specs.NumberSet.{has};
+    ghost use Rattle.es_pattern.specs.Compiled.{AllParts, IsProgramOf, part_steps};
+
+    /// Whether the pattern is found. All walks go on side by side, from each place where one may begin.
+    fn is_found(&self) -> Result<bool, AllocError>
+        requires { IsProgramOf self.now.pieces.now self.now.program.now }
+        ensures { IfOk result (λ found. IsTrue found ↔ IsFound (tree_of self.now.pieces.now) self.now.text.now) }
+    {
+        let steps = &self.program.steps;
+        let mut tables = self.no_tables()?;
+        let mut alive = Alive::new(self.alloc, steps.len())?;
+        for place in 0..self.text.len() + 1 {
+            alive.begin()?;
+            self.advance(&mut tables, place, &mut alive)?;
+            if alive.taken.contains(steps.len()) {
+                return Ok(true);
+            }
+            alive.go_on();
+        }
+        Ok(false)
+    }
+
+    /// Room for the tables, none of which is told.
+    fn no_tables(&self) -> Result<Tables, AllocError>
+        ensures { IfOk result (λ tables. AllTell self.now.pieces.now self.now.text.now tables.items) }
+    {
+        let mut tables = Vec::new(self.alloc);
+        for _piece in self.pieces {
+            tables.push(None)?;
+        }
+        Ok(tables)
+    }
+
+    /// Takes the steps of the whole that wait at a place and all that follow there, and tells the lookaheads that they come to.
+    fn advance(
+        &self,
+        tables: &mut Tables,
+        place: usize,
+        alive: &mut Alive,
+    ) -> Result<(), AllocError>
+        requires program { IsProgramOf self.now.pieces.now self.now.program.now }
+        requires told { AllTell self.now.pieces.now self.now.text.now tables.old.items }
+        requires place { place ≤ length self.now.text.now }
+        requires room { length self.now.program.now.steps.items / 64 < length alive.old.taken.words.items }
+        ensures told { OnOk result (AllTell self.now.pieces.now self.now.text.now tables.new.items) }
+        ensures room { length alive.new.taken.words.items ≡ length alive.old.taken.words.items }
+        ensures settled { OnOk result ((begins : ℕ → Bool) → SettlingBy Direction.Forward self.now.pieces.now self.now.text.now begins self.now.program.now.steps.items place alive.old
+            → SettledBy Direction.Forward self.now.pieces.now self.now.text.now begins self.now.program.now.steps.items place alive.new) }
+    {
+        while let Some(number) = self.settle(
+            Direction::Forward,
+            &self.program.steps,
+            tables,
+            place,
+            alive,
+        )? {
+            self.tell(tables, number)?;
+        }
+        Ok(())
+    }
+
+    /// Tells a lookahead, after those within it.
+    fn tell(&self, tables: &mut Tables, number: usize) -> Result<(), AllocError>
+        requires program { IsProgramOf self.now.pieces.now self.now.program.now }
+        requires told { AllTell self.now.pieces.now self.now.text.now tables.old.items }
+        requires untold { IsUntold self.now.pieces.now tables.old.items number }
+        ensures told { OnOk result (AllTell self.now.pieces.now self.now.text.now tables.new.items) }
+        ensures fewer { OnOk result (untold_count tables.new.items < untold_count tables.old.items) }
+    {
+        let first = self.first_within(number);
+        for inner in first..number + 1 {
+            self.tell_one(tables, inner)?;
+        }
+        Ok(())
+    }
+
+    /// A number from which on all pieces up to a lookahead stand within it, and none before stands there.
+    fn first_within(&self, number: usize) -> usize
+        requires parts { AllParts self.now.pieces.now self.now.program.now.lookaheads.items }
+        requires stands { number < length self.now.pieces.now }
+        ensures before { result ≤ number }
+        ensures all { (k at inner : ℕ) (negated : Bool) → result ≤ k → k ≤ number → slice_get self.now.pieces.now k ≡ Some (Piece.Lookahead negated)
+            → slice_get (part_steps Direction.Backward self.now.pieces.now k) at ≡ Some (Step.Pass inner) → result ≤ inner }
+    {
+        let mut first = number;
+        for passed in 0..number + 1 {
+            first = self.first_below(number - passed, first);
+        }
+        first
+    }
+
+    /// The least number of a piece that the piece `inner` asks, up to `first`; `first` itself where the piece stands before that.
+    fn first_below(&self, inner: usize, first: usize) -> usize
+        requires { AllParts self.now.pieces.now self.now.program.now.lookaheads.items }
+        ensures before { result ≤ first }
+        ensures outside { inner < first → result ≡ first }
+        ensures least { first ≤ inner → (at asked : ℕ) (negated : Bool) → slice_get self.now.pieces.now inner ≡ Some (Piece.Lookahead negated)
+            → slice_get (part_steps Direction.Backward self.now.pieces.now inner) at ≡ Some (Step.Pass asked) → result ≤ asked }
+    {
+        match self.program.lookaheads.get(inner) {
+            Some(steps) if first <= inner => first_passed(steps, first),
+            _ => first,
+        }
+    }
+
+    /// Tells the piece of this number, where it's a lookahead that isn't told yet.
+    fn tell_one(&self, tables: &mut Tables, number: usize) -> Result<(), AllocError>
+        requires program { IsProgramOf self.now.pieces.now self.now.program.now }
+        requires told { AllTell self.now.pieces.now self.now.text.now tables.old.items }
+        requires ready { (negated : Bool) → slice_get self.now.pieces.now number ≡ Some (Piece.Lookahead negated)
+            → (k : ℕ) → IsAsked self.now.pieces.now tables.old.items (part_steps Direction.Backward self.now.pieces.now number) k → ⊥ }
+        ensures told { OnOk result (AllTell self.now.pieces.now self.now.text.now tables.new.items) }
+        ensures kept { (k : ℕ) → IsTold tables.old.items k → IsTold tables.new.items k }
+        ensures now { OnOk result ((negated : Bool) → slice_get self.now.pieces.now number ≡ Some (Piece.Lookahead negated) → IsTold tables.new.items number) }
+    {
+        let Some(Piece::Lookahead { negated }) = self.pieces.get(number) else {
+            return Ok(());
+        };
+        if tables[number].is_none() {
+            let table = self.table_of(tables, *negated, number)?;
+            tables[number] = Some(table);
+        }
+        Ok(())
+    }
+
+    /// For each number of characters behind a place whether the lookahead holds there.
+    fn table_of(
+        &self,
+        tables: &[Option<Vec<bool>>],
+        negated: bool,
+        number: usize,
+    ) -> Result<Vec<bool>, AllocError>
+        requires program { IsProgramOf self.now.pieces.now self.now.program.now }
+        requires told { AllTell self.now.pieces.now self.now.text.now tables.now }
+        requires ready { (k : ℕ) → IsAsked self.now.pieces.now tables.now (part_steps Direction.Backward self.now.pieces.now number) k → ⊥ }
+        requires stands { slice_get self.now.pieces.now number ≡ Some (Piece.Lookahead negated) }
+        ensures { IfOk result (λ table. Tells self.now.pieces.now self.now.text.now number table.items) }
+    {
+        let steps = &self.program.lookaheads[number];
+        let mut alive = Alive::new(self.alloc, steps.len())?;
+        let mut table = Vec::new(self.alloc);
+        for behind in 0..self.text.len() + 1 {
+            let place = self.text.len() - behind;
+            alive.begin()?;
+            let _asked = self.settle(Direction::Backward, steps, tables, place, &mut alive)?;
+            table.push(negated != alive.taken.contains(steps.len()))?;
+            alive.go_on();
+        }
+        Ok(table)
+    }
+
+    /// Takes the steps that wait at a place and all that follow there, up to a lookahead that has to be told first.
+    fn settle(
+        &self,
+        direction: Direction,
+        steps: &[Step],
+        tables: &[Option<Vec<bool>>],
+        place: usize,
+        alive: &mut Alive,
+    ) -> Result<Option<usize>, AllocError>
+        requires told { AllTell self.now.pieces.now self.now.text.now tables.now }
+        requires classed { AllClassed self.now.pieces.now self.now.program.now.classes.items }
+        requires place { place ≤ length self.now.text.now }
+        requires room { length steps.now / 64 < length alive.old.taken.words.items }
+        ensures asked { IfOk result (λ asked. MatchOption asked (Unit {0}) (IsAsked self.now.pieces.now tables.now steps.now)) }
+        ensures room { length alive.new.taken.words.items ≡ length alive.old.taken.words.items }
+        ensures settled { IfOk result (λ asked. (begins : ℕ → Bool) → SettlingBy direction self.now.pieces.now self.now.text.now begins steps.now place alive.old
+            → MatchOption asked (SettledBy direction self.now.pieces.now self.now.text.now begins steps.now place alive.new) (λ _. SettlingBy direction self.now.pieces.now self.now.text.now begins steps.now place alive.new)) }
+    {
+        while let Some(at) = alive.waiting.pop() {
+            if !alive.taken.contains(at) {
+                let asked = self.take(direction, steps, tables, place, at, alive)?;
+                if asked.is_some() {
+                    return Ok(asked);
+                }
+            }
+        }
+        Ok(None)
+    }
+
+    /// Takes a step that waited, unless it passes a lookahead that has to be told first: it waits again then.
+    fn take(
+        &self,
+        direction: Direction,
+        steps: &[Step],
+        tables: &[Option<Vec<bool>>],
+        place: usize,
+        at: usize,
+        alive: &mut Alive,
+    ) -> Result<Option<usize>, AllocError>
+        requires told { AllTell self.now.pieces.now self.now.text.now tables.now }
+        requires classed { AllClassed self.now.pieces.now self.now.program.now.classes.items }
+        requires place { place ≤ length self.now.text.now }
+        requires room { length steps.now / 64 < length alive.old.taken.words.items }
+        requires fresh { has alive.old.taken.words.items at ≡ false }
+        ensures asked { IfOk result (λ asked. MatchOption asked (Unit {0}) (IsAsked self.now.pieces.now tables.now steps.now)) }
+        ensures room { length alive.new.taken.words.items ≡ length alive.old.taken.words.items }
+        ensures taken { OnOk result ((begins : ℕ → Bool) → Settling direction (Passes direction self.now.pieces.now self.now.text.now) begins steps.now place (alive.old.waiting.items ++ at ∷ []) alive.old.taken.words.items alive.old.next.items
+            → SettlingBy direction self.now.pieces.now self.now.text.now begins steps.now place alive.new) }
+        ensures lighter { IfOk result (λ asked. IsNone asked → weight (length steps.now) alive.new ≤ weight (length steps.now) alive.old) }
+    {
+        let Some(step) = steps.get(at) else {
+            alive.taken.insert(at);
+            return Ok(None);
+        };
+        let mut passing = Passing::Stops;
+        if let Step::Pass(number) = step {
+            let Some(told) = self.passing(direction, tables, *number, place) else {
+                alive.waiting.push(at)?;
+                return Ok(Some(*number));
+            };
+            passing = told;
+        }
+        alive.take(*step, passing, at, steps.len())?;
+        Ok(None)
+    }
+
+    /// What the piece of this number does at a place, unless it's a lookahead that has to be told first.
+    fn passing(
+        &self,
+        direction: Direction,
+        tables: &[Option<Vec<bool>>],
+        number: usize,
+        place: usize,
+    ) -> Option<Passing>
+        requires told { AllTell self.now.pieces.now self.now.text.now tables.now }
+        requires classed { AllClassed self.now.pieces.now self.now.program.now.classes.items }
+        requires place { place ≤ length self.now.text.now }
+        ensures { MatchOption result (IsUntold self.now.pieces.now tables.now number) (PassesAs direction self.now.pieces.now self.now.text.now number place) }
+    {
+        let Some(piece) = self.pieces.get(number) else {
+            return Some(Passing::Stops);
+        };
+        let holds = match piece {
+            Piece::OneOf { negated, ranges } => {
+                let next = self.ahead(direction, place);
+                return Some(self.passing_class(number, *negated, ranges, next));
+            }
+            Piece::TextStart => place == 0,
+            Piece::TextEnd => place == self.text.len(),
+            Piece::WordBoundary { negated } => is_boundary(self.text, place) != *negated,
+            Piece::Lookahead { .. } => self.told(tables, number, place)?,
+            _ => false,
+        };
+        Some(stays_if(holds))
+    }
+
+    /// What a lookahead's table has for a place, where there is one.
+    fn told(&self, tables: &[Option<Vec<bool>>], number: usize, place: usize) -> Option<bool>
+        requires told { AllTell self.now.pieces.now self.now.text.now tables.now }
+        requires place { place ≤ length self.now.text.now }
+        ensures { (negated : Bool) → slice_get self.now.pieces.now number ≡ Some (Piece.Lookahead negated)
+            → MatchOption result (slice_get tables.now number ≡ Some None) (Answers self.now.pieces.now self.now.text.now number place) }
+    {
+        let Some(table) = tables.get(number) else {
+            return None;
+        };
+        match table {
+            Some(table) => {
+                let behind = self.text.len() - place;
+                Some(table.get(behind).copied().unwrap_or(false))
+            }
+            None => None,
+        }
+    }
+
+    /// What a class does before a character, or before none.
+    fn passing_class(
+        &self,
+        number: usize,
+        negated: bool,
+        ranges: &[CharRange],
+        next: Option<char>,
+    ) -> Passing
+        requires classed { (c : ℕ) (class : Vec Bool) → slice_get self.now.program.now.classes.items number ≡ Some class → c < 128 → slice_get class.items c ≡ Some (fits negated ranges.now c) }
+        ensures { result ≡ class_passing negated ranges.now next }
+    {
+        match next {
+            Some(c) if self.fits(number, negated, ranges, c) => Passing::Moves,
+            _ => Passing::Stops,
+        }
+    }
+
+    /// Whether a character fits a class, by the table of ASCII where it's one of those.
+    fn fits(&self, number: usize, negated: bool, ranges: &[CharRange], c: char) -> bool
+        requires classed { (c : ℕ) (class : Vec Bool) → slice_get self.now.program.now.classes.items number ≡ Some class → c < 128 → slice_get class.items c ≡ Some (fits negated ranges.now c) }
+        ensures { result ≡ fits negated ranges.now c }
+    {
+        match self.program.classes.get(number) {
+            Some(class) if c.is_ascii() => class.get(c as usize).copied().unwrap_or(false),
+            _ => fits(negated, ranges, c),
+        }
+    }
+
+    /// The next character on the way.
+    fn ahead(&self, direction: Direction, place: usize) -> Option<char>
+        ensures { result ≡ ahead_of direction self.now.text.now place }
+    {
+        match direction {
+            Direction::Forward => self.text.get(place).copied(),
+            Direction::Backward if place == 0 => None,
+            Direction::Backward => self.text.get(place - 1).copied(),
+        }
+    }
+}
+
+/// The least number of a piece that the steps pass, up to `first`.
+fn first_passed(steps: &[Step], first: usize) -> usize
+    ensures before { result ≤ first }
+    ensures least { (at number : ℕ) → slice_get steps.now at ≡ Some (Step.Pass number) → result ≤ number }
+{
+    let mut least = first;
+    for step in steps {
+        if let Step::Pass(number) = step {
+            least = least.min(*number);
+        }
+    }
+    least
+}
+
+/// What a piece that spans the empty part does.
+fn stays_if(holds: bool) -> Passing
+    ensures { result ≡ stays holds }
+{
+    if holds {
+        Passing::Stays
+    } else {
+        Passing::Stops
+    }
+}
