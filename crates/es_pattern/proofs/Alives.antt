@@ -21,6 +21,7 @@ use Rattle.es_pattern.specs.Passing.{IsSingle, PassesPiece, Passes, PassesAs, Af
 use Rattle.es_pattern.specs.NumberSet.{Has, has}
 use Rattle.es_pattern.specs.Alive.{if_within, same_place, next_place, Settling, Settled, Arrives}
 use Rattle.es_pattern.proofs.Passings.{tree_at_is}
+use Rattle.es_pattern.proofs.NumberTests.{lt_or_le}
 
 contains_none : (q : ℕ) → Contains [] q → ⊥
 contains_none q h = omega (arith, h.1)
@@ -413,3 +414,21 @@ other_step d pieces text place (Pass number) passing apart = absurd (apart numbe
 other_step d pieces text place (Fork by) passing apart = tt
 other_step d pieces text place (Jump by) passing apart = tt
 other_step d pieces text place (Back by) passing apart = tt
+
+-- where none waits, none is alive further on, if no walk begins there
+module _ (pieces : List Piece) (text : List ℕ) (begins : ℕ → Bool) (program : List Step) (place : ℕ) (taken next : List ℕ) (a : Arrives Forward (Passes Forward pieces text) begins program place [] taken next) where
+  none_by : (q j k n : ℕ) → ((m : ℕ) → place ≤ m → begins m ≡ true → ⊥) → place ≤ k → q ≤ length program → (before : ℕ) → Comes (Passes Forward pieces text) begins program n before j → Goes (Passes Forward pieces text) program before j q k
+      → (place ≤ j → ⊥) → Near Forward (length text) j k → ⊥
+  none_by q j k n none le within before c g again (inl e) = again (omega (arith, le, e))
+  none_by q j k n none le within before c g again (inr near) = by_order (lt_or_le j place)
+    where
+      by_order : (j < place) ⊎ (place ≤ j) → ⊥
+      by_order (inr later) = again later
+      by_order (inl earlier) =
+          let here : k ≡ place = omega (arith, near.0, earlier, le) in
+          contains_none q (a.before before j q (n, c) (omega (arith, near.0, here)) (subst (λ (x : ℕ). Goes (Passes Forward pieces text) program before j q x) here g) within)
+
+  pub none_alive : ((m : ℕ) → place ≤ m → begins m ≡ true → ⊥) → (n q k : ℕ) → place ≤ k → q ≤ length program → Comes (Passes Forward pieces text) begins program n q k → ⊥
+  none_alive none zero q k le within c = none k le c.1
+  none_alive none (suc n) q k le within c =
+      none_by q c.1 k n none le within c.0 c.2 c.3 (λ later. none_alive none n c.0 c.1 later (goes_within Forward pieces text begins program c.0 c.1 q k c.3) c.2) (goes_near Forward pieces text begins program c.0 c.1 q k c.3)

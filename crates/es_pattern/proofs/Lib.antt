@@ -4,6 +4,7 @@ pub mod Passings
 pub mod NumberSets
 pub mod Alives
 pub mod Compiling
+pub mod Beginning
 pub mod Searching
 pub mod Readers
 pub mod Digits

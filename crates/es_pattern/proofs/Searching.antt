@@ -18,12 +18,14 @@ use Rattle.es_pattern.specs.Pieces.{tree_of}
 use Rattle.es_pattern.specs.Program.{IsAlive}
 use Rattle.es_pattern.specs.Passing.{Passes, After, AllTell, Tells, Answers, IsTold, IsUntold, IsAsked, untold_count}
 use Rattle.es_pattern.specs.NumberSet.{has}
-use Rattle.es_pattern.specs.Alive.{Settled, Settling, ArrivesBy, SettlingBy, SettledBy}
+use Rattle.es_pattern.specs.Alive.{Settled, Settling, Arrives, ArrivesBy, SettlingBy, SettledBy, PassedBy}
 use Rattle.es_pattern.specs.Compiled.{AllParts, steps_of, part_steps}
 use Rattle.es_pattern.proofs.Passings.{tree_at_is}
-use Rattle.es_pattern.proofs.Alives.{alive_within, arrives_first, arrives_next, settling_begun}
+use Rattle.es_pattern.proofs.Alives.{alive_within, arrives_first, arrives_next, none_alive, settled_by, settling_begun, settling_unbegun}
+use Rattle.es_pattern.specs.Begins.{may_begin}
+use Rattle.es_pattern.proofs.Beginning.{begins_right, begins_within}
 use Rattle.es_pattern.proofs.Compiling.{first_walks, whole_walks, ends_alive, alive_ends, slice_get_end, slice_get-append}
-use Rattle.es_pattern.proofs.NumberTests.{lt_or_same, no_some}
+use Rattle.es_pattern.proofs.NumberTests.{lt_or_le, lt_or_same, no_some}
 
 -- a part that begins in the text ends there
 chain_within : (R : ℕ → ℕ → Type 0) (size n i j : ℕ) → ((k l : ℕ) → k ≤ size → R k l → l ≤ size) → i ≤ size → Chain R n i j → j ≤ size
@@ -47,18 +49,15 @@ spans_within (lookahead false a) text i j le s = omega (arith, s.0, le)
 abbrev pub in_text : List ℕ → ℕ → Bool
 in_text text b = nat_le b (length text)
 
-abbrev pub arrives_by : Direction → List Piece → List ℕ → List Step → ℕ → Alive → Type 0
-arrives_by d pieces text steps place alive = ArrivesBy d pieces text (in_text text) steps place alive
-
 -- no walk comes to the end before that place
-abbrev pub none_before : Direction → List Piece → List ℕ → List Step → ℕ → Type 0
-none_before d pieces text steps place = (k : ℕ) → k < place → IsAlive (Passes d pieces text) (in_text text) steps (length steps) k → ⊥
+abbrev pub none_before : List Piece → List ℕ → (ℕ → Bool) → List Step → ℕ → Type 0
+none_before pieces text begins steps place = (k : ℕ) → k < place → IsAlive (Passes Forward pieces text) begins steps (length steps) k → ⊥
 
 pub first_backward : (pieces : List Piece) (text : List ℕ) (steps : List Step) (at j : ℕ) → IsAlive (Passes Backward pieces text) (in_text text) steps at j → After Backward j (length text) → ⊥
 first_backward pieces text steps at j a after = omega (arith, after, alive_within Backward pieces text (in_text text) steps (λ b h. leb-true b (length text) h) a.0 at j a.1)
 
-pub first_forward : (pieces : List Piece) (text : List ℕ) (steps : List Step) (at j : ℕ) → IsAlive (Passes Forward pieces text) (in_text text) steps at j → After Forward j 0 → ⊥
-first_forward pieces text steps at j a after = omega (arith, after)
+pub first_forward : (pieces : List Piece) (text : List ℕ) (begins : ℕ → Bool) (steps : List Step) (at j : ℕ) → IsAlive (Passes Forward pieces text) begins steps at j → After Forward j 0 → ⊥
+first_forward pieces text begins steps at j a after = omega (arith, after)
 
 -- what a lookahead's answer is by what is alive
 abbrev elim_answer : Bool → Type 0 → Type 0
@@ -121,15 +120,15 @@ tabling_all pieces text number count table lt t = record {
 
 -- what is found by what is alive
 module _ (pieces : List Piece) (text : List ℕ) where
-  pub found_here : (place : ℕ) → IsAlive (Passes Forward pieces text) (in_text text) (steps_of Forward pieces) (length (steps_of Forward pieces)) place → IsFound (tree_of pieces) text
+  pub found_here : (place : ℕ) → IsAlive (Passes Forward pieces text) (may_begin (tree_of pieces) text) (steps_of Forward pieces) (length (steps_of Forward pieces)) place → IsFound (tree_of pieces) text
   found_here place a =
-      let e = alive_ends (Passes Forward pieces text) (in_text text) place (steps_of Forward pieces) (Spans (tree_of pieces) text) (whole_walks Forward pieces text place) a in
-      (e.0, place, leb-true e.0 (length text) e.1, e.2)
+      let e = alive_ends (Passes Forward pieces text) (may_begin (tree_of pieces) text) place (steps_of Forward pieces) (Spans (tree_of pieces) text) (whole_walks Forward pieces text place) a in
+      (e.0, place, begins_within (tree_of pieces) text e.0 e.1, e.2)
 
-  pub found_nowhere : (place : ℕ) → length text < place → none_before Forward pieces text (steps_of Forward pieces) place → IsFound (tree_of pieces) text → ⊥
+  pub found_nowhere : (place : ℕ) → length text < place → none_before pieces text (may_begin (tree_of pieces) text) (steps_of Forward pieces) place → IsFound (tree_of pieces) text → ⊥
   found_nowhere place lt none f =
       none f.1 (omega (arith, lt, spans_within (tree_of pieces) text f.0 f.1 f.2 f.3))
-      (ends_alive (Passes Forward pieces text) (in_text text) f.1 (steps_of Forward pieces) (Spans (tree_of pieces) text) (whole_walks Forward pieces text f.1) f.0 (le-leb f.0 (length text) f.2) f.3)
+      (ends_alive (Passes Forward pieces text) (may_begin (tree_of pieces) text) f.1 (steps_of Forward pieces) (Spans (tree_of pieces) text) (whole_walks Forward pieces text f.1) f.0 (begins_right (tree_of pieces) text f.0 f.1 f.2 f.3) f.3)
 
 -- where more is told, less is left to tell
 no_more_untold : (old new : List (Option (Vec Bool))) → length new ≡ length old → ((k : ℕ) → IsTold old k → IsTold new k) → untold_count new ≤ untold_count old
@@ -202,34 +201,65 @@ none_asked pieces tables steps None P Q a none h = h
 none_asked pieces tables steps (Some k) P Q a none h = absurd (none k a)
 
 -- the sets, from place to place
-module _ (d : Direction) (pieces : List Piece) (text : List ℕ) (steps : List Step) where
-  pub first_by : (place : ℕ) (alive : Alive) → ((at j : ℕ) → IsAlive (Passes d pieces text) (in_text text) steps at j → After d j place → ⊥) → alive.waiting.items ≡ [] → alive.next.items ≡ [] → ((n : ℕ) → has alive.taken.words.items n ≡ false)
-      → arrives_by d pieces text steps place alive
-  first_by place alive first e f none = arrives_first d pieces text (in_text text) steps place alive.waiting.items alive.taken.words.items alive.next.items first e f none
+module _ (d : Direction) (pieces : List Piece) (text : List ℕ) (begins : ℕ → Bool) (steps : List Step) where
+  pub first_by : (place : ℕ) (alive : Alive) → ((at j : ℕ) → IsAlive (Passes d pieces text) begins steps at j → After d j place → ⊥) → alive.waiting.items ≡ [] → alive.next.items ≡ [] → ((n : ℕ) → has alive.taken.words.items n ≡ false)
+      → ArrivesBy d pieces text begins steps place alive
+  first_by place alive first e f none = arrives_first d pieces text begins steps place alive.waiting.items alive.taken.words.items alive.next.items first e f none
 
-  pub begun_by : (place : ℕ) (old new : Alive) → new.waiting.items ≡ old.waiting.items ++ 0 ∷ [] → new.taken ≡ old.taken → new.next ≡ old.next → place ≤ length text → arrives_by d pieces text steps place old
-      → SettlingBy d pieces text (in_text text) steps place new
-  begun_by place old new e f g le a =
-      subst (λ (w : List ℕ). Settling d (Passes d pieces text) (in_text text) steps place w new.taken.words.items new.next.items) (sym e)
-      (subst (λ (t : NumberSet). Settling d (Passes d pieces text) (in_text text) steps place (old.waiting.items ++ 0 ∷ []) t.words.items new.next.items) (sym f)
-      (subst (λ (v : Vec ℕ). Settling d (Passes d pieces text) (in_text text) steps place (old.waiting.items ++ 0 ∷ []) old.taken.words.items v.items) (sym g)
-      (settling_begun d pieces text (in_text text) steps place old.waiting.items old.taken.words.items old.next.items (le-leb place (length text) le) a)))
+  pub begun_by : (place : ℕ) (old new : Alive) → new.waiting.items ≡ old.waiting.items ++ 0 ∷ [] → new.taken ≡ old.taken → new.next ≡ old.next → begins place ≡ true → ArrivesBy d pieces text begins steps place old
+      → SettlingBy d pieces text begins steps place new
+  begun_by place old new e f g yes_ a =
+      subst (λ (w : List ℕ). Settling d (Passes d pieces text) begins steps place w new.taken.words.items new.next.items) (sym e)
+      (subst (λ (t : NumberSet). Settling d (Passes d pieces text) begins steps place (old.waiting.items ++ 0 ∷ []) t.words.items new.next.items) (sym f)
+      (subst (λ (v : Vec ℕ). Settling d (Passes d pieces text) begins steps place (old.waiting.items ++ 0 ∷ []) old.taken.words.items v.items) (sym g)
+      (settling_begun d pieces text begins steps place old.waiting.items old.taken.words.items old.next.items yes_ a)))
 
-  pub next_by : (place after : ℕ) (old new : Alive) → After d place after → new.waiting ≡ old.next → new.next ≡ old.waiting → ((n : ℕ) → has new.taken.words.items n ≡ false) → SettledBy d pieces text (in_text text) steps place old
-      → arrives_by d pieces text steps after new
+  pub next_by : (place after : ℕ) (old new : Alive) → After d place after → new.waiting ≡ old.next → new.next ≡ old.waiting → ((n : ℕ) → has new.taken.words.items n ≡ false) → SettledBy d pieces text begins steps place old
+      → ArrivesBy d pieces text begins steps after new
   next_by place after old new a e f none s =
-      arrives_next d pieces text (in_text text) steps place after old.waiting.items old.taken.words.items old.next.items new.waiting.items new.taken.words.items new.next.items a s (ap (λ (v : Vec ℕ). v.items) e) (ap (λ (v : Vec ℕ). v.items) f) none
+      arrives_next d pieces text begins steps place after old.waiting.items old.taken.words.items old.next.items new.waiting.items new.taken.words.items new.next.items a s (ap (λ (v : Vec ℕ). v.items) e) (ap (λ (v : Vec ℕ). v.items) f) none
 
-  -- a program's end that was taken, or wasn't
-  pub end_taken : (place : ℕ) (alive : Alive) → SettledBy d pieces text (in_text text) steps place alive → has alive.taken.words.items (length steps) ≡ true → IsAlive (Passes d pieces text) (in_text text) steps (length steps) place
-  end_taken place alive s h = s.taken_by (length steps) h
+-- a place that is passed
+module _ (pieces : List Piece) (text : List ℕ) (begins : ℕ → Bool) (steps : List Step) (place : ℕ) where
+  pub passed_by : (ended : Bool) (old new : Alive) → ended ≡ has old.taken.words.items (length steps) → new.waiting ≡ old.next → new.next ≡ old.waiting → ((n : ℕ) → has new.taken.words.items n ≡ false) → SettledBy Forward pieces text begins steps place old
+      → PassedBy pieces text begins steps place ended new
+  passed_by ended old new is e f none s = record {
+    ends = λ y. s.taken_by (length steps) (sym is ∙ y);
+    ends_not = λ n a. false≢true (sym n ∙ is ∙ s.alive (length steps) a (omega arith));
+    arrives = next_by Forward pieces text begins steps place (place + 1) old new refl e f none s;
+  }
 
-  pub none_further : (place : ℕ) (alive : Alive) → SettledBy d pieces text (in_text text) steps place alive → has alive.taken.words.items (length steps) ≡ false → none_before d pieces text steps place → none_before d pieces text steps (place + 1)
-  none_further place alive s h none k lt a = by_order (lt_or_same k place (omega (arith, lt)))
+  -- one at which nothing is alive
+  pub idle_by : (alive : Alive) → alive.waiting.items ≡ [] → begins place ≡ false → ArrivesBy Forward pieces text begins steps place alive → PassedBy pieces text begins steps place false alive
+  idle_by alive empty no_ a = record {
+    ends = λ y. absurd (false≢true y);
+    ends_not = λ n b. a.none_taken (length steps) (settled.alive (length steps) b (omega arith));
+    arrives = arrives_next Forward pieces text begins steps place (place + 1) alive.waiting.items alive.taken.words.items alive.next.items alive.waiting.items alive.taken.words.items alive.next.items refl settled
+        (empty ∙ sym a.none_next) (a.none_next ∙ sym empty) (λ n. not_true (has alive.taken.words.items n) (a.none_taken n));
+  }
+    where
+      settled : SettledBy Forward pieces text begins steps place alive
+      settled = settled_by Forward pieces text begins steps place alive.waiting.items alive.taken.words.items alive.next.items empty (settling_unbegun Forward pieces text begins steps place alive.waiting.items alive.taken.words.items alive.next.items no_ a)
+
+      not_true : (b : Bool) → (b ≡ true → ⊥) → b ≡ false
+      not_true true h = absurd (h refl)
+      not_true false h = refl
+
+  pub none_further : none_before pieces text begins steps place → (IsAlive (Passes Forward pieces text) begins steps (length steps) place → ⊥) → none_before pieces text begins steps (place + 1)
+  none_further none here k lt a = by_order (lt_or_same k place (omega (arith, lt)))
     where
       by_order : (k < place) ⊎ (k ≡ place) → ⊥
       by_order (inl before) = none k before a
-      by_order (inr e) = false≢true (sym h ∙ s.alive (length steps) (subst (λ (x : ℕ). IsAlive (Passes d pieces text) (in_text text) steps (length steps) x) e a) (omega arith))
+      by_order (inr e) = here (subst (λ (x : ℕ). IsAlive (Passes Forward pieces text) begins steps (length steps) x) e a)
+
+  -- one at which nothing is alive, where none begins from there on
+  pub none_at_all : (alive : Alive) → alive.waiting.items ≡ [] → ((m : ℕ) → place ≤ m → begins m ≡ true → ⊥) → ArrivesBy Forward pieces text begins steps place alive → none_before pieces text begins steps place → (size : ℕ) → none_before pieces text begins steps size
+  none_at_all alive empty none a before size k lt b = by_order (lt_or_le k place)
+    where
+      by_order : (k < place) ⊎ (place ≤ k) → ⊥
+      by_order (inl earlier) = before k earlier b
+      by_order (inr later) = none_alive pieces text begins steps place alive.taken.words.items alive.next.items
+          (subst (λ (w : List ℕ). Arrives Forward (Passes Forward pieces text) begins steps place w alive.taken.words.items alive.next.items) empty a) none b.0 (length steps) k later (omega arith) b.1
 
 -- the steps of a lookahead's part
 pub the_part : (pieces : List Piece) (lookaheads : List (Vec Step)) (number : ℕ) (negated : Bool) (steps : Vec Step) → AllParts pieces lookaheads → slice_get pieces number ≡ Some (Lookahead negated) → slice_get lookaheads number ≡ Some steps → steps.items ≡ part_steps Backward pieces number
@@ -244,3 +274,15 @@ not_missing (Some x) h = (x, refl)
 
 pub found_if : {E : Type 0} (r : Result Bool E) (tree : Tree) (lent text : List ℕ) → lent ≡ text → IfOk r (λ found. IsTrue found ↔ IsFound tree lent) → IfOk r (λ found. IsTrue found ↔ IsFound tree text)
 found_if r tree lent text e h = subst (λ (t : List ℕ). IfOk r (λ found. IsTrue found ↔ IsFound tree t)) e h
+
+-- a place at which a walk begins, or none does
+abbrev pub Started : List Piece → List ℕ → (ℕ → Bool) → List Step → ℕ → Alive → Type 0
+Started pieces text begins steps place alive = SettlingBy Forward pieces text begins steps place alive × (alive.waiting.items ≡ [] → (begins place ≡ false) × ArrivesBy Forward pieces text begins steps place alive)
+
+module _ (pieces : List Piece) (text : List ℕ) (begins : ℕ → Bool) (steps : List Step) (place : ℕ) where
+  pub started_begun : (old new : Alive) → new.waiting.items ≡ old.waiting.items ++ 0 ∷ [] → new.taken ≡ old.taken → new.next ≡ old.next → begins place ≡ true → ArrivesBy Forward pieces text begins steps place old → Started pieces text begins steps place new
+  started_begun old new e f g yes_ a =
+      (begun_by Forward pieces text begins steps place old new e f g yes_ a, λ empty. let l : 1 ≤ length new.waiting.items = omega (arith, ap length e, length-append old.waiting.items (0 ∷ [])) in absurd (omega (arith, l, ap length empty)))
+
+  pub started_unbegun : (alive : Alive) → begins place ≡ false → ArrivesBy Forward pieces text begins steps place alive → Started pieces text begins steps place alive
+  started_unbegun alive no_ a = (settling_unbegun Forward pieces text begins steps place alive.waiting.items alive.taken.words.items alive.next.items no_ a, λ empty. (no_, a))

@@ -1,8 +1,9 @@
 -- The steps of a program that are alive at a place. Contracts of private functions alone cite it.
-use Rattle.std.specs.Prelude.{◌≡◌, ℕ, zero, suc, ◌+◌, ◌-◌, ◌≤◌, nat_le, cond, Bool, true, List, [], ◌∷◌, ◌⊎◌, length, Contains}
+use Rattle.std.specs.Prelude.{◌≡◌, ℕ, zero, suc, ◌+◌, ◌-◌, ◌≤◌, nat_le, cond, Bool, true, false, List, [], ◌∷◌, ◌⊎◌, length, Contains}
 use Rattle.es_pattern.specs.declared.step.Step.{Step}
 use Rattle.es_pattern.specs.declared.step.Step.TheVariants.{Pass, Fork, Jump, Back}
 use Rattle.es_pattern.specs.declared.step.Direction.{Direction}
+use Rattle.es_pattern.specs.declared.step.Direction.TheVariants.{Forward}
 use Rattle.es_pattern.specs.declared.alive.Passing.{Passing}
 use Rattle.es_pattern.specs.declared.alive.Passing.TheVariants.{Stops, Stays, Moves}
 use Rattle.es_pattern.specs.declared.alive.Alive.{Alive}
@@ -74,3 +75,9 @@ SettledBy direction pieces text begins program place alive = Settled direction (
 
 abbrev pub ArrivesBy : Direction → List Piece → List ℕ → (ℕ → Bool) → List Step → ℕ → Alive → Type 0
 ArrivesBy direction pieces text begins program place alive = Arrives direction (Passes direction pieces text) begins program place alive.waiting.items alive.taken.words.items alive.next.items
+
+-- The end was alive at the place just where that is told, and the next place is come to.
+pub record PassedBy (pieces : List Piece) (text : List ℕ) (begins : ℕ → Bool) (program : List Step) (place : ℕ) (ended : Bool) (alive : Alive) : Type 0 where
+  pub ends : ended ≡ true → IsAlive (Passes Forward pieces text) begins program (length program) place
+  pub ends_not : ended ≡ false → IsAlive (Passes Forward pieces text) begins program (length program) place → ⊥
+  pub arrives : ArrivesBy Forward pieces text begins program (place + 1) alive

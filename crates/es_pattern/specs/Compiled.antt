@@ -1,5 +1,5 @@
 -- The programs of a pattern's parts: the program of the part that was built last, and of those before it. Contracts of private functions alone cite it.
-use Rattle.std.specs.Prelude.{◌≡◌, ℕ, suc, ◌<◌, Bool, List, [], ◌∷◌, map, reverse, slice_get, Some, take}
+use Rattle.std.specs.Prelude.{◌≡◌, ℕ, suc, ◌<◌, ◌≤◌, Bool, List, [], ◌∷◌, map, reverse, slice_get, Some, take}
 use Rattle.std.specs.Global.{Vec, Global}
 use Rattle.std.specs.declared.collections.VecDeque.{VecDeque}
 use Rattle.es_pattern.specs.declared.step.Step.{Step}
@@ -11,6 +11,8 @@ use Rattle.es_pattern.specs.declared.piece.Piece.TheVariants.{Nothing, OneOf, Te
 use Rattle.es_pattern.specs.declared.compile.Program.{Program}
 use Rattle.es_pattern.specs.Program.{sequence_steps, choice_steps, repetition_steps}
 use Rattle.es_pattern.specs.Passing.{AllClassed}
+use Rattle.es_pattern.specs.Pieces.{tree_of}
+use Rattle.es_pattern.specs.Begins.{may_take, may_stay}
 
 -- the programs, the last one first
 abbrev pub stack_of : List (VecDeque Step Global) → List (List Step)
@@ -60,3 +62,5 @@ pub record IsProgramOf (pieces : List Piece) (program : Program) : Type 0 where
   pub steps : program.steps.items ≡ steps_of Forward pieces
   pub lookaheads : AllParts pieces program.lookaheads.items
   pub classes : AllClassed pieces program.classes.items
+  pub begins : (c : ℕ) → c ≤ 128 → slice_get program.begins.items c ≡ Some (may_take (tree_of pieces) c)
+  pub stays : program.may_stay ≡ may_stay (tree_of pieces)

@@ -1,6 +1,8 @@
 // From a pattern's pieces to what it is searched with.
-ghost use Rattle.std.specs.Prelude.{◌≡◌, Bool, ℕ, ◌<◌, ◌++◌, ◌∷◌, [], IfOk, OnOk, length, slice_get, take};
+ghost use Rattle.std.specs.Prelude.{◌≡◌, Bool, ℕ, ◌<◌, ◌≤◌, ◌++◌, ◌∷◌, [], IfOk, OnOk, length, slice_get, take};
 ghost use Rattle.es_pattern.specs.Spans.{fits};
+ghost use Rattle.es_pattern.specs.Pieces.{tree_of};
+ghost use Rattle.es_pattern.specs.Begins.{may_take};
 ghost use Rattle.es_pattern.specs.Passing.{AllClassed};
 ghost use Rattle.es_pattern.specs.Compiled.{
   AllParts,
@@ -12,6 +14,7 @@ ghost use Rattle.es_pattern.specs.Compiled.{
   with_code,
 };
 
+use crate::begins::begin_of;
 use crate::passing::fits;
 use crate::piece::{CharRange, Piece};
 use crate::program::{choice, repetition, sequence};
@@ -28,6 +31,10 @@ pub struct Program {
     pub lookaheads: Vec<Vec<Step>>,
     /// For each piece that is one of some characters which of ASCII those are.
     pub classes: Vec<Vec<bool>>,
+    /// For each character of ASCII whether a walk may begin with it after the text's start, and, last, whether one may with some character.
+    pub begins: Vec<bool>,
+    /// Whether a walk that spans the empty part may begin there.
+    pub may_stay: bool,
 }
 
 impl Program {
@@ -39,6 +46,8 @@ impl Program {
             steps: steps_of(alloc, pieces)?,
             lookaheads: lookaheads_of(alloc, pieces)?,
             classes: classes_of(alloc, pieces)?,
+            begins: begins_of(alloc, pieces)?,
+            may_stay: begin_of(alloc, pieces, 128)?.stays,
         })
     }
 }
@@ -176,4 +185,15 @@ fn class_of(alloc: Global, negated: bool, ranges: &[CharRange]) -> Result<Vec<bo
         class.push(fits(negated, ranges, char::from(code)))?;
     }
     Ok(class)
+}
+
+/// For each character of ASCII whether the pattern may begin with it after the text's start, and, last, whether it may with some character.
+fn begins_of(alloc: Global, pieces: &[Piece]) -> Result<Vec<bool>, AllocError>
+    ensures { IfOk result (λ begins. (c : ℕ) → c ≤ 128 → slice_get begins.items c ≡ Some (may_take (tree_of pieces.now) c)) }
+{
+    let mut begins = Vec::new(alloc);
+    for code in 0..129u8 {
+        begins.push(begin_of(alloc, pieces, code)?.takes)?;
+    }
+    Ok(begins)
 }

@@ -2,6 +2,7 @@
 #![tactic(auto)]
 
 mod alive;
+mod begins;
 mod braces;
 mod compile;
 mod error;

@@ -46,7 +46,7 @@ struct Search<'a> {
 }
 
 impl<'a> Search<'a> {
-    ghost use Rattle.std.specs.Prelude.{◌≡◌, ◌≤◌, ◌<◌, ◌/◌, ◌++◌, ◌∷◌, [], ℕ, Bool, false, IfOk, IsTrue, IsNone, ◌↔◌, MatchOption, OnOk, length, slice_get, Some};
+    ghost use Rattle.std.specs.Prelude.{◌≡◌, ◌||◌, ◌≤◌, ◌<◌, ◌/◌, ◌++◌, ◌∷◌, [], ℕ, Bool, false, IfOk, IsTrue, IsNone, ◌↔◌, MatchOption, OnOk, length, slice_get, Some};
     ghost use Rattle.std.specs.Global.{Vec};
     ghost use Rattle.es_pattern.specs.Tree.{CharRange};
     ghost use Rattle.es_pattern.specs.Spans.{IsFound, fits};
@@ -66,8 +66,9 @@ impl<'a> Search<'a> {
       class_passing,
       untold_count,
     };
-    ghost use Rattle.es_pattern.specs.Alive.{SettledBy, Settling, SettlingBy, weight};
+    ghost use Rattle.es_pattern.specs.Alive.{PassedBy, SettledBy, Settling, SettlingBy, weight};
     ghost use Rattle.es_pattern.specs.NumberSet.{has};
+    ghost use Rattle.es_pattern.specs.Begins.{may_begin, may_stay, may_take, takes_at};
     ghost use Rattle.es_pattern.specs.Compiled.{AllParts, IsProgramOf, part_steps};
 
     /// Whether the pattern is found. All walks go on side by side, from each place where one may begin.
@@ -75,18 +76,75 @@ impl<'a> Search<'a> {
         requires { IsProgramOf self.now.pieces.now self.now.program.now }
         ensures { IfOk result (λ found. IsTrue found ↔ IsFound (tree_of self.now.pieces.now) self.now.text.now) }
     {
-        let steps = &self.program.steps;
         let mut tables = self.no_tables()?;
-        let mut alive = Alive::new(self.alloc, steps.len())?;
+        let mut alive = Alive::new(self.alloc, self.program.steps.len())?;
         for place in 0..self.text.len() + 1 {
-            alive.begin()?;
-            self.advance(&mut tables, place, &mut alive)?;
-            if alive.taken.contains(steps.len()) {
+            if self.begins_at(place) {
+                alive.begin()?;
+            }
+            if alive.waiting.is_empty() {
+                if !self.begins_later() {
+                    return Ok(false);
+                }
+            } else if self.pass(&mut tables, place, &mut alive)? {
                 return Ok(true);
             }
-            alive.go_on();
         }
         Ok(false)
+    }
+
+    /// Whether a walk may begin at a place.
+    fn begins_at(&self, place: usize) -> bool
+        requires program { IsProgramOf self.now.pieces.now self.now.program.now }
+        requires place { place ≤ length self.now.text.now }
+        ensures { result ≡ may_begin (tree_of self.now.pieces.now) self.now.text.now place }
+    {
+        place == 0 || self.program.may_stay || self.takes_at(place)
+    }
+
+    /// Whether a walk may begin with the character at a place.
+    fn takes_at(&self, place: usize) -> bool
+        requires { IsProgramOf self.now.pieces.now self.now.program.now }
+        ensures { result ≡ takes_at (may_take (tree_of self.now.pieces.now)) (slice_get self.now.text.now place) }
+    {
+        match self.text.get(place) {
+            Some(c) => self.takes((*c as usize).min(128)),
+            None => false,
+        }
+    }
+
+    fn takes(&self, code: usize) -> bool
+        requires program { IsProgramOf self.now.pieces.now self.now.program.now }
+        requires code { code ≤ 128 }
+        ensures { result ≡ may_take (tree_of self.now.pieces.now) code }
+    {
+        self.program.begins.get(code).copied().unwrap_or(false)
+    }
+
+    /// Whether a walk may begin after the text's start.
+    fn begins_later(&self) -> bool
+        requires { IsProgramOf self.now.pieces.now self.now.program.now }
+        ensures { result ≡ may_stay (tree_of self.now.pieces.now) || may_take (tree_of self.now.pieces.now) 128 }
+    {
+        self.program.may_stay || self.takes(128)
+    }
+
+    /// Takes all steps of the whole that are alive at a place, and goes on to the next; whether the end is among them.
+    fn pass(&self, tables: &mut Tables, place: usize, alive: &mut Alive) -> Result<bool, AllocError>
+        requires program { IsProgramOf self.now.pieces.now self.now.program.now }
+        requires told { AllTell self.now.pieces.now self.now.text.now tables.old.items }
+        requires place { place ≤ length self.now.text.now }
+        requires room { length self.now.program.now.steps.items / 64 < length alive.old.taken.words.items }
+        ensures told { OnOk result (AllTell self.now.pieces.now self.now.text.now tables.new.items) }
+        ensures room { length alive.new.taken.words.items ≡ length alive.old.taken.words.items }
+        ensures passed { IfOk result (λ ended. (begins : ℕ → Bool) → SettlingBy Direction.Forward self.now.pieces.now self.now.text.now begins self.now.program.now.steps.items place alive.old
+            → PassedBy self.now.pieces.now self.now.text.now begins self.now.program.now.steps.items place ended alive.new) }
+    {
+        let steps = &self.program.steps;
+        self.advance(tables, place, alive)?;
+        let ended = alive.taken.contains(steps.len());
+        alive.go_on();
+        Ok(ended)
     }
 
     /// Room for the tables, none of which is told.

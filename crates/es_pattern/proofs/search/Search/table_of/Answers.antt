@@ -1,6 +1,7 @@
 use Rattle.std.proofs.Common.{◌≡◌, ◌<◌, ◌≤◌, ◌+◌, ◌-◌, ◌/◌, ◌++◌, ◌∷◌, [], List, ℕ, Bool, length, refl, subst, sym, ap, ◌∙◌, arith}
 use Rattle.std.specs.Prelude.{slice_get, Some, MatchOption, Option}
 use Rattle.std.specs.Global.{Vec}
+use Rattle.std.proofs.lemmas.Bool.{le-leb}
 use Rattle.std.proofs.lemmas.Option.{gets}
 use Rattle.std.proofs.lemmas.Grind.{common_steps}
 use Rattle.es_pattern.specs.declared.step.Step.{Step}
@@ -25,7 +26,7 @@ loop-behind-init c =
     let size : length steps ≡ c.len.result = omega (arith, ap length part, c.len.ensures, c.index-steps.result.now.ok.0) in
     record {
       room = omega (arith, size, c.in_ok-alive.ensures.room);
-      arrives = λ le. first_by Backward pieces text steps (length text - 0) c.in_ok-alive.alive (λ at j a after. first_backward pieces text steps at j a (omega (arith, after))) c.in_ok-alive.ensures.waiting c.in_ok-alive.ensures.next c.in_ok-alive.ensures.taken;
+      arrives = λ le. first_by Backward pieces text (in_text text) steps (length text - 0) c.in_ok-alive.alive (λ at j a after. first_backward pieces text steps at j a (omega (arith, after))) c.in_ok-alive.ensures.waiting c.in_ok-alive.ensures.next c.in_ok-alive.ensures.taken;
       tabled = tabling_none pieces text c.args.number c.new-table.result.items c.new-table.ensures.items;
     }
 
@@ -45,7 +46,7 @@ loop-behind-preserved c =
     let stands : slice_get c.args.self.now.program.now.lookaheads.items c.args.number ≡ Some c.index-steps.result.now = grind (arith, common_steps, gets) in
     let part = the_part pieces c.args.self.now.program.now.lookaheads.items c.args.number c.args.negated c.index-steps.result.now c.requires.program.lookaheads c.requires.stands stands in
     let same : c.deref.result.now ≡ steps = c.deref.ensures.value ∙ part in
-    let begun = begun_by Backward pieces text steps place c.loop-behind.alive c.begin.new.self c.in_ok-begin.ensures.waiting c.in_ok-begin.ensures.taken c.in_ok-begin.ensures.next (omega arith) (c.loop-behind.invariant.arrives (omega arith)) in
+    let begun = begun_by Backward pieces text (in_text text) steps place c.loop-behind.alive c.begin.new.self c.in_ok-begin.ensures.waiting c.in_ok-begin.ensures.taken c.in_ok-begin.ensures.next (le-leb place (length text) (omega arith)) (c.loop-behind.invariant.arrives (omega arith)) in
     let asked : MatchOption c.in_ok-_asked._asked (Unit {0}) (IsAsked pieces c.args.tables.now steps)
     = subst (λ (s : List Step). MatchOption c.in_ok-_asked._asked (Unit {0}) (IsAsked pieces c.args.tables.now s)) same c.in_ok-_asked.ensures.asked in
     let comes : (begins : ℕ → Bool) → SettlingBy Backward pieces text begins steps place c.begin.new.self → MatchOption c.in_ok-_asked._asked (SettledBy Backward pieces text begins steps place c.settle.new.alive) (λ k. SettlingBy Backward pieces text begins steps place c.settle.new.alive)
@@ -56,7 +57,7 @@ loop-behind-preserved c =
     let answer = answers_here pieces text c.args.number c.args.negated c.requires.stands place c.contains.result c.settle.new.alive.waiting.items c.settle.new.alive.taken.words.items c.settle.new.alive.next.items (omega arith) settled found in
     record {
       room = omega (arith, c.go_on.ensures.room, c.settle.ensures.room, ap (λ (s : NumberSet). length s.words.items) c.in_ok-begin.ensures.taken, c.loop-behind.invariant.room);
-      arrives = λ le. next_by Backward pieces text steps place (length text - (c.loop-behind.behind + 1)) c.settle.new.alive c.go_on.new.self (omega arith) c.go_on.ensures.waiting c.go_on.ensures.next c.go_on.ensures.taken settled;
+      arrives = λ le. next_by Backward pieces text (in_text text) steps place (length text - (c.loop-behind.behind + 1)) c.settle.new.alive c.go_on.new.self (omega arith) c.go_on.ensures.waiting c.go_on.ensures.next c.go_on.ensures.taken settled;
       tabled = tabling_more pieces text c.args.number c.loop-behind.behind c.loop-behind.table.items c.push.new.self.items (differs c.args.negated c.contains.result) c.loop-behind.invariant.tabled
           (c.in_ok-push.ensures.items ∙ ap (λ (b : Bool). c.loop-behind.table.items ++ b ∷ []) (differs_is c.args.negated c.contains.result)) answer;
     }

@@ -2,13 +2,14 @@ use Rattle.std.proofs.Common.{◌≡◌, ◌≤◌, ◌<◌, ◌-◌, ◌/◌, �
 use Rattle.std.specs.Prelude.{slice_get}
 use Rattle.es_pattern.specs.declared.step.Direction.TheVariants.{Backward}
 use Rattle.es_pattern.specs.Passing.{Answers}
+use Rattle.es_pattern.specs.Alive.{ArrivesBy}
 use Rattle.es_pattern.specs.Compiled.{part_steps}
-use Rattle.es_pattern.proofs.Searching.{Tabling, arrives_by, in_text}
+use Rattle.es_pattern.proofs.Searching.{Tabling, in_text}
 use Rattle.es_pattern.proofs.search.Search.table_of.Given as goal
 
 abbrev pub invariant-loop-behind : goal.invariant-loop-behind
 invariant-loop-behind l = record {
   room : length (part_steps Backward l.self.pieces.now l.number) / 64 < length l.alive.taken.words.items;
-  arrives : l.behind ≤ length l.self.text.now → arrives_by Backward l.self.pieces.now l.self.text.now (part_steps Backward l.self.pieces.now l.number) (length l.self.text.now - l.behind) l.alive;
+  arrives : l.behind ≤ length l.self.text.now → ArrivesBy Backward l.self.pieces.now l.self.text.now (in_text l.self.text.now) (part_steps Backward l.self.pieces.now l.number) (length l.self.text.now - l.behind) l.alive;
   tabled : Tabling l.self.pieces.now l.self.text.now l.number l.behind l.table.items;
 }
