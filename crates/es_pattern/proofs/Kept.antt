@@ -473,7 +473,7 @@ after_dash_measured first c r s h e =
     let P : Type 0 = IsMeasured s in
     if_else (c == 93) _ _ s P e (λ y x. class_end_measured (ranged 45 45 (ranged first first r)) s h x) (λ n e2.
     if_else (c == 92) _ _ s P e2 (λ y x. if_else (nat_le first 0xffff) _ _ s P x (λ z g. measured_at (at (modes.ClassEscape (Some first)) r) s g h) (λ z g. no_some s g)) (λ n e3.
-    if_else (c == 45) _ _ s P e3 (λ y x. if_else (nat_le first 45) _ _ s P x (λ z g. measured_at (at ClassLast (ranged first 45 r)) s g h) (λ z g. no_some s g)) (λ n x. class_char_measured (Some first) c r s h x)))
+    if_else (c == 45) _ _ s P e3 (λ y x. if_else (nat_le first 45) _ _ s P x (λ z g. measured_at (at ClassNext (ranged first 45 r)) s g h) (λ z g. no_some s g)) (λ n x. class_char_measured (Some first) c r s h x)))
 
 class_zero_measured : (first : Option ℕ) (r s : Reading) → MeasuredBase false r → class_zero first r ≡ Some s → IsMeasured s
 class_zero_measured None r s h e = measured_at (at (modes.ClassZero false) r) s e h

@@ -5,6 +5,7 @@ pub mod NumberSets
 pub mod Alives
 pub mod Compiling
 pub mod Beginning
+pub mod Sizes
 pub mod Searching
 pub mod Readers
 pub mod Digits

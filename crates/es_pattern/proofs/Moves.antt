@@ -292,7 +292,7 @@ after_dash_moves first c r s e =
     let M : Kind → ℕ → Type 0 = InsideMoves (length r.groups) c in
     if_else (c == 93) _ _ s P e (λ y x. moved M (class_end (ranged 45 45 (ranged first first r))) s x (by_end (eqb-true c 93 y) refl refl)) (λ n93 e2.
     if_else (c == 92) _ _ s P e2 (λ y x. if_else (nat_le first 0xffff) _ _ s P x (λ le z. moved M (at (modes.ClassEscape (Some first)) r) s z (by_class_backslash (eqb-true c 92 y) refl refl)) (λ n z. no_some s z)) (λ n92 e3.
-    if_else (c == 45) _ _ s P e3 (λ y x. if_else (nat_le first 45) _ _ s P x (λ le z. moved M (at ClassLast (ranged first 45 r)) s z (by_member (member_at c 45 y refl) refl refl)) (λ n z. no_some s z)) (λ n45 x.
+    if_else (c == 45) _ _ s P e3 (λ y x. if_else (nat_le first 45) _ _ s P x (λ le z. moved M (at ClassNext (ranged first 45 r)) s z (by_member (member_at c 45 y refl) refl refl)) (λ n z. no_some s z)) (λ n45 x.
     class_char_inside M (Some first) c r s x (by_member (rw (n93, n92) refl) refl refl))))
 
 -- behind a backslash in a class

@@ -1,6 +1,6 @@
 -- What single pieces pass.
-use Rattle.std.proofs.Common.{inl, inr, get_or, ◌≡◌, ℕ, zero, suc, ◌+◌, ◌<◌, ◌≤◌, Bool, true, false, cond, List, [], ◌∷◌, ◌++◌, add-one, length, take, Option, Some, None, refl, sym, ap, subst, ◌∙◌, arith}
-use Rattle.std.specs.Prelude.{slice_get, slice_index, ◌-◌, unwrap_or, MatchBool, ◌==◌, ◌&&◌, nat_lt, ◌⊎◌}
+use Rattle.std.proofs.Common.{get_or, ◌≡◌, ℕ, zero, suc, ◌+◌, ◌<◌, ◌≤◌, Bool, true, false, cond, List, [], ◌∷◌, ◌++◌, add-one, length, take, Option, Some, None, refl, sym, ap, subst, ◌∙◌, arith}
+use Rattle.std.specs.Prelude.{slice_get, slice_index, ◌-◌, unwrap_or, ◌==◌}
 use Rattle.std.specs.Global.{Vec}
 use Rattle.std.proofs.lemmas.Option.{slice_get_read, slice_get_within, slice_get-get_or, same_Some}
 use Rattle.std.proofs.lemmas.Bool.{eqb-true, eqb-false, both_ways}
@@ -11,7 +11,7 @@ use Rattle.es_pattern.specs.Pieces.{top, with_piece, with_pieces, tree_at}
 use Rattle.es_pattern.specs.Passing.{IsSingle, PassesPiece, PassesAs, Answers, Tells, stays, class_passing, ahead_of}
 use Rattle.es_pattern.specs.declared.step.Direction.{Direction}
 use Rattle.es_pattern.specs.declared.step.Direction.TheVariants.{Forward, Backward}
-use Rattle.es_pattern.specs.declared.alive.Passing.TheVariants.{Stops, Stays, Moves}
+use Rattle.es_pattern.specs.declared.alive.Passing.TheVariants.{Stops, Moves}
 use Rattle.es_pattern.proofs.NumberTests.{no_some}
 use Rattle.es_pattern.specs.declared.piece.Piece.{Piece}
 use Rattle.es_pattern.specs.declared.piece.Piece.TheVariants.{Nothing, OneOf, TextStart, TextEnd, WordBoundary, Sequence, Choice, Repetition, Lookahead}

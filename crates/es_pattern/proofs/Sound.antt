@@ -56,12 +56,12 @@ AfterAtom a ts gs rest t = (u : Tree) × (after : List ℕ) × Suffix a u rest a
 pub data After : ℕ → List CharRange → List ℕ → List ℕ → List CharRange → Type 0 where
   after_one : {c : ℕ} {ranges all : List CharRange} {text rest : List ℕ} → Items false (ranges ++ range c c ∷ []) text rest all → After c ranges text rest all
   after_range : {c d : ℕ} {ranges all : List CharRange} {mid after rest : List ℕ} → ClassChar d mid after → c ≤ d → Items false (ranges ++ range c d ∷ []) after rest all → After c ranges (45 ∷ mid) rest all
-  after_dash_end : {c : ℕ} {ranges : List CharRange} {rest : List ℕ} → c ≤ 45 → After c ranges (45 ∷ 45 ∷ 93 ∷ rest) rest (ranges ++ range c 45 ∷ [])
+  after_dash_end : {c : ℕ} {ranges all : List CharRange} {after rest : List ℕ} → c ≤ 45 → Items false (ranges ++ range c 45 ∷ []) after rest all → After c ranges (45 ∷ 45 ∷ after) rest all
 
 first_after : {f : Bool} {c : ℕ} {ranges all : List CharRange} {text mid rest : List ℕ} → FirstChar f c text mid → After c ranges mid rest all → Items f ranges text rest all
 first_after r (after_one i) = one_char r i
 first_after r (after_range d le i) = from_to r d le i
-first_after r (after_dash_end le) = to_dash r le
+first_after r (after_dash_end le i) = to_dash r le i
 
 pub data EscapeItem : List CharRange → List ℕ → List ℕ → List CharRange → Type 0 where
   escape_set : {letter : ℕ} {ranges more all : List CharRange} {text rest : List ℕ} → set_of letter ≡ Some more → Items false (ranges ++ more) text rest all → EscapeItem ranges (letter ∷ text) rest all
@@ -460,11 +460,9 @@ after_dash_step first c r s w t e h =
     escaped_end y x = if_else (nat_le first 0xffff) _ _ s (AfterChar first r (45 ∷ 92 ∷ w) t) x
         (λ z g. let i = completes_at (at (modes.ClassEscape (Some first)) r) s w t g h in (i.0, i.1, after_range i.4 i.5 i.6, i.7)) (λ z g. no_some s g)
 
-    dash_end : cond (nat_le first 45) (Some (at ClassLast (ranged first 45 r))) None ≡ Some s → AfterChar first r (45 ∷ 45 ∷ w) t
+    dash_end : cond (nat_le first 45) (Some (at ClassNext (ranged first 45 r))) None ≡ Some s → AfterChar first r (45 ∷ 45 ∷ w) t
     dash_end x = if_else (nat_le first 45) _ _ s (AfterChar first r (45 ∷ 45 ∷ w) t) x
-        (λ z g.
-        let i = completes_at (at ClassLast (ranged first 45 r)) s w t g h in
-        subst (λ (v : List ℕ). AfterChar first r (45 ∷ 45 ∷ v) t) (sym i.1) (r.ranges ++ range first 45 ∷ [], i.0, after_dash_end (leb-true first 45 z), i.2))
+        (λ z g. let i = completes_at (at ClassNext (ranged first 45 r)) s w t g h in (i.0, i.1, after_dash_end (leb-true first 45 z) i.2, i.3))
         (λ z g. no_some s g)
 
 -- an escape in a class, of a character that was read

@@ -71,26 +71,26 @@ item_cases f k ranges all text w rest P (one_set {more = more} {letter = letter}
 item_cases f k ranges all text w rest P (from_to {c = c} {d = d} {mid = mid} r last le i) e at_end at_escape at_dash at_char =
     first_char_cases f c k text w (45 ∷ mid) P r e (λ y read. at_escape y (escape_char read (after_range last le i)))
     (λ n93 n92 dash same tails. at_char n93 n92 dash (subst (λ (x : ℕ). After x ranges w rest all) same (subst (λ (v : List ℕ). After c ranges v rest all) tails (after_range last le i))))
-item_cases f k ranges all text w rest P (to_dash {c = c} r le) e at_end at_escape at_dash at_char =
-    first_char_cases f c k text w (45 ∷ 45 ∷ 93 ∷ rest) P r e (λ y read. at_escape y (escape_char read (after_dash_end le)))
-    (λ n93 n92 dash same tails. at_char n93 n92 dash (subst (λ (x : ℕ). After x ranges w rest all) same (subst (λ (v : List ℕ). After c ranges v rest all) tails (after_dash_end le))))
+item_cases f k ranges all text w rest P (to_dash {c = c} {after = after} r le i) e at_end at_escape at_dash at_char =
+    first_char_cases f c k text w (45 ∷ 45 ∷ after) P r e (λ y read. at_escape y (escape_char read (after_dash_end le i)))
+    (λ n93 n92 dash same tails. at_char n93 n92 dash (subst (λ (x : ℕ). After x ranges w rest all) same (subst (λ (v : List ℕ). After c ranges v rest all) tails (after_dash_end le i))))
 
 -- after a character of a class, another character than `-` begins the next item
 after_other : (first k : ℕ) (ranges all : List CharRange) (text w rest : List ℕ) → After first ranges text rest all → text ≡ k ∷ w → k == 45 ≡ false → Items false (ranges ++ range first first ∷ []) text rest all
 after_other first k ranges all text w rest (after_one i) e n45 = i
 after_other first k ranges all text w rest (after_range last le i) e n45 = let same : k ≡ 45 = cc in absurd (false≢true (sym n45 ∙ eq-eqb k 45 same))
-after_other first k ranges all text w rest (after_dash_end le) e n45 = let same : k ≡ 45 = cc in absurd (false≢true (sym n45 ∙ eq-eqb k 45 same))
+after_other first k ranges all text w rest (after_dash_end le i) e n45 = let same : k ≡ 45 = cc in absurd (false≢true (sym n45 ∙ eq-eqb k 45 same))
 
 -- after a character of a class and `-`
 after_dash_cases : (first : ℕ) (ranges all : List CharRange) (text w rest : List ℕ) (P : Type 0) → After first ranges text rest all → text ≡ 45 ∷ w
     → (LastDash (ranges ++ range first first ∷ []) w rest all → P)
     → ((d : ℕ) (after : List ℕ) → ClassChar d w after → first ≤ d → Items false (ranges ++ range first d ∷ []) after rest all → P)
-    → (w ≡ 45 ∷ 93 ∷ rest → first ≤ 45 → all ≡ ranges ++ range first 45 ∷ [] → P) → P
+    → ((after : List ℕ) → w ≡ 45 ∷ after → first ≤ 45 → Items false (ranges ++ range first 45 ∷ []) after rest all → P) → P
 after_dash_cases first ranges all text w rest P (after_one i) e at_last at_range at_dash =
     item_cases false 45 (ranges ++ range first first ∷ []) all text w rest P i e (λ y. absurd (omega (arith, y))) (λ y. absurd (omega (arith, y))) (λ y l. at_last l) (λ n93 n92 dash a. absurd (false≢true (dash refl)))
 after_dash_cases first ranges all text w rest P (after_range {d = d} {mid = mid} {after = after} last le i) e at_last at_range at_dash =
     let tails : mid ≡ w = cc in at_range d after (subst (λ (v : List ℕ). ClassChar d v after) tails last) le i
-after_dash_cases first ranges all text w rest P (after_dash_end le) e at_last at_range at_dash = at_dash (cc) le refl
+after_dash_cases first ranges all text w rest P (after_dash_end {after = after} le i) e at_last at_range at_dash = at_dash after (cc) le i
 
 -- the first character of what is left of a class
 taking_item : (f : Bool) (c : ℕ) (r : Reading) (w : List ℕ) (t : Tree) → (c ≡ 45 → f ≡ true) → InClass f r (c ∷ w) t → Taken (item c r) w t
@@ -194,11 +194,12 @@ taking_after_dash first c r w t i =
         (subst (λ (v : List ℕ). AfterEnd (Some first) c r v t) tails
         (subst (λ (x : ℕ). AfterEnd (Some first) x r after t) same (i.0, i.1, (le, items), i.3)))))))
 
-    dash_so : c ∷ w ≡ 45 ∷ 93 ∷ i.1 → first ≤ 45 → i.0 ≡ r.ranges ++ range first 45 ∷ [] → Taken (after_dash first c r) w t
-    dash_so e le all =
+    dash_so : (after : List ℕ) → c ∷ w ≡ 45 ∷ after → first ≤ 45 → Items false (r.ranges ++ range first 45 ∷ []) after i.1 i.0 → Taken (after_dash first c r) w t
+    dash_so after e le items =
         let y : c ≡ 45 = cc in
+        let tails : after ≡ w = cc in
         taken_else (c == 93) _ _ w t (ne_eqb c 93 (λ g. omega (arith, y, g))) (taken_else (c == 92) _ _ w t (ne_eqb c 92 (λ g. omega (arith, y, g))) (taken_then (c == 45) _ _ w t (eq-eqb c 45 y)
-        (taken_then (nat_le first 45) _ _ w t (le-leb first 45 le) (at ClassLast (ranged first 45 r), refl, (i.1, cc, subst (λ (a : List CharRange). AfterClass r t a i.1) all i.3)))))
+        (taken_then (nat_le first 45) _ _ w t (le-leb first 45 le) (at ClassNext (ranged first 45 r), refl, (i.0, i.1, subst (λ (v : List ℕ). Items false (r.ranges ++ range first 45 ∷ []) v i.1 i.0) tails items, i.3)))))
 
 -- where the range, if one has begun, ends at a character, it can end at a greater one
 ended_can_end : (first : Option ℕ) (d g : ℕ) (ranges all : List CharRange) (after mid : List ℕ) → Ended first d ranges after mid all → d ≤ g → can_end first g ≡ true

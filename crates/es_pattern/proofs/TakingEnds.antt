@@ -76,7 +76,7 @@ no_first_char f c mid (other_char h) = no_class_char c mid h
 no_items : (f : Bool) (ranges all : List CharRange) (mid : List ℕ) → Items f ranges [] mid all → ⊥
 no_items f ranges all mid (one_char {c = c} {mid = after} h i) = no_first_char f c after h
 no_items f ranges all mid (from_to {c = c} {mid = after} h d le i) = no_first_char f c (45 ∷ after) h
-no_items f ranges all mid (to_dash {c = c} h le) = no_first_char f c (45 ∷ 45 ∷ 93 ∷ mid) h
+no_items f ranges all mid (to_dash {c = c} {after = after} h le i) = no_first_char f c (45 ∷ 45 ∷ after) h
 
 -- nor is what follows a character of a class
 no_after : (c : ℕ) (ranges all : List CharRange) (mid : List ℕ) → After c ranges [] mid all → ⊥
@@ -93,7 +93,7 @@ no_dash c mid (other_char h) = no_dash_char c mid h
 no_dash_items : (ranges all : List CharRange) (mid : List ℕ) → Items false ranges (45 ∷ []) mid all → ⊥
 no_dash_items ranges all mid (one_char {c = c} {mid = after} h i) = no_dash c after h
 no_dash_items ranges all mid (from_to {c = c} {mid = after} h d le i) = no_dash c (45 ∷ after) h
-no_dash_items ranges all mid (to_dash {c = c} h le) = no_dash c (45 ∷ 45 ∷ 93 ∷ mid) h
+no_dash_items ranges all mid (to_dash {c = c} {after = after} h le i) = no_dash c (45 ∷ 45 ∷ after) h
 
 -- nor does it follow a character of a class
 no_after_dash : (c : ℕ) (ranges all : List CharRange) (mid : List ℕ) → After c ranges (45 ∷ []) mid all → ⊥

@@ -1,5 +1,5 @@
 -- What a pattern may begin with at a place that isn't the text's start. Contracts of private functions alone cite it.
-use Rattle.std.specs.Prelude.{ℕ, ◌==◌, ◌&&◌, ◌||◌, nat_lt, nat_le, min, cond, Bool, true, false, List, [], ◌∷◌, length, slice_get, Option, Some, None}
+use Rattle.std.specs.Prelude.{ℕ, ◌==◌, ◌&&◌, ◌||◌, nat_lt, nat_le, min, Bool, true, false, List, [], ◌∷◌, length, slice_get, Option, Some, None}
 use Rattle.es_pattern.specs.Tree.{Tree, nothing, one_of, text_start, text_end, word_boundary, sequence, choice, repetition, lookahead}
 use Rattle.es_pattern.specs.Spans.{fits}
 use Rattle.es_pattern.specs.declared.piece.Piece.{Piece}

@@ -1,9 +1,9 @@
 -- The programs of a pattern's parts: the program of the part that was built last, and of those before it. Contracts of private functions alone cite it.
-use Rattle.std.specs.Prelude.{◌≡◌, ℕ, suc, ◌<◌, ◌≤◌, Bool, List, [], ◌∷◌, map, reverse, slice_get, Some, take}
+use Rattle.std.specs.Prelude.{◌≡◌, ℕ, suc, ◌≤◌, Bool, List, [], ◌∷◌, map, reverse, slice_get, Some, take}
 use Rattle.std.specs.Global.{Vec, Global}
 use Rattle.std.specs.declared.collections.VecDeque.{VecDeque}
 use Rattle.es_pattern.specs.declared.step.Step.{Step}
-use Rattle.es_pattern.specs.declared.step.Step.TheVariants.{Pass, Fork, Jump, Back}
+use Rattle.es_pattern.specs.declared.step.Step.TheVariants.{Pass}
 use Rattle.es_pattern.specs.declared.step.Direction.{Direction}
 use Rattle.es_pattern.specs.declared.step.Direction.TheVariants.{Forward, Backward}
 use Rattle.es_pattern.specs.declared.piece.Piece.{Piece}

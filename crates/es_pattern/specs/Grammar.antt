@@ -82,7 +82,7 @@ pub data Items : Bool → List CharRange → List ℕ → List ℕ → List Char
   one_set : {is_first : Bool} {ranges more all : List CharRange} {letter : ℕ} {text rest : List ℕ} → set_of letter ≡ Some more → Items false (ranges ++ more) text rest all → Items is_first ranges (92 ∷ letter ∷ text) rest all
   from_to : {is_first : Bool} {ranges all : List CharRange} {c d : ℕ} {text mid after rest : List ℕ} → FirstChar is_first c text (45 ∷ mid) → ClassChar d mid after → c ≤ d → Items false (ranges ++ range c d ∷ []) after rest all
       → Items is_first ranges text rest all
-  to_dash : {is_first : Bool} {ranges : List CharRange} {c : ℕ} {text rest : List ℕ} → FirstChar is_first c text (45 ∷ 45 ∷ 93 ∷ rest) → c ≤ 45 → Items is_first ranges text rest (ranges ++ range c 45 ∷ [])
+  to_dash : {is_first : Bool} {ranges all : List CharRange} {c : ℕ} {text after rest : List ℕ} → FirstChar is_first c text (45 ∷ 45 ∷ after) → c ≤ 45 → Items false (ranges ++ range c 45 ∷ []) after rest all → Items is_first ranges text rest all
 
 -- a character that is no part of a pattern's syntax
 abbrev pub is_plain : ℕ → Bool

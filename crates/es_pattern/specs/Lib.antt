@@ -10,6 +10,7 @@ pub mod Forms
 pub mod Places
 pub mod Faults
 -- for private functions
+pub mod Size
 pub mod Begins
 pub mod Program
 pub mod Passing

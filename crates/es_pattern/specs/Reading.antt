@@ -180,7 +180,7 @@ class_char (Some first) c r = cond (nat_le first c) (Some (at ClassNext (ranged 
 abbrev pub after_dash : ℕ → ℕ → Reading → Option Reading
 after_dash first c r =
     cond (c == 93) (Some (class_end (ranged 45 45 (ranged first first r)))) (cond (c == 92) (cond (nat_le first 0xffff) (Some (at (ClassEscape (Some first)) r)) None)
-    (cond (c == 45) (cond (nat_le first 45) (Some (at ClassLast (ranged first 45 r))) None) (class_char (Some first) c r)))
+    (cond (c == 45) (cond (nat_le first 45) (Some (at ClassNext (ranged first 45 r))) None) (class_char (Some first) c r)))
 
 abbrev pub class_char_if : Option ℕ → Option ℕ → Reading → Option Reading
 class_char_if first None r = None

@@ -3,6 +3,7 @@ ghost use Rattle.std.specs.Prelude.{◌≡◌, Bool, ℕ, ◌<◌, ◌≤◌, �
 ghost use Rattle.es_pattern.specs.Spans.{fits};
 ghost use Rattle.es_pattern.specs.Pieces.{tree_of};
 ghost use Rattle.es_pattern.specs.Begins.{may_take};
+ghost use Rattle.es_pattern.specs.Size.{most_steps};
 ghost use Rattle.es_pattern.specs.Passing.{AllClassed};
 ghost use Rattle.es_pattern.specs.Compiled.{
   AllParts,
@@ -39,8 +40,10 @@ pub struct Program {
 
 impl Program {
     /// The program of a pattern's pieces.
+    #[tactic(auto, using(crate::proofs::Sizes::steps_bounded))]
     pub fn new(alloc: Global, pieces: &[Piece]) -> Result<Program, AllocError>
-        ensures { IfOk result (IsProgramOf pieces.now) }
+        ensures made { IfOk result (IsProgramOf pieces.now) }
+        ensures bounded { IfOk result (λ program. length program.steps.items ≤ most_steps (tree_of pieces.now)) }
     {
         Ok(Program {
             steps: steps_of(alloc, pieces)?,

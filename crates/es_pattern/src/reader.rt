@@ -492,7 +492,7 @@ impl Reader {
             '\\' if first <= '\u{ffff}' => self.goes_to(Mode::ClassEscape { first: Some(first) }),
             '-' if first <= '-' => {
                 self.push_range(first, '-')?;
-                self.goes_to(Mode::ClassLast);
+                self.goes_to(Mode::ClassNext);
             }
             '\\' | '-' => return Ok(Taken::No),
             _ => return self.take_class_char(Some(first), c),

@@ -1,5 +1,6 @@
 // Answers of V8's `RegExp` without flags, and faults by the grammar.
 use super::{Pattern, PatternError};
+use std::alloc::{AllocError, Global};
 use std::test::Fail;
 
 /// Patterns, texts and whether the one is found in the other, by V8: a line each, apart by tabs, `⏎` being a line end.
@@ -360,6 +361,7 @@ fn accepted() -> &'static [(&'static str, &'static str)] {
         ("[]-]|\\]", "]"),
         ("[--a]", "Q"),
         ("[+--]", ","),
+        ("^[+--/][+--/]$", ",/"),
         ("[-a]", "-"),
         ("\\0a", "\0a"),
         ("\\u00e9", "é"),
@@ -392,6 +394,48 @@ fn hostile_patterns_answer_at_once(rt: HostRuntime) -> Result<(), Fail> {
     assert!(rt; Pattern::parse(rt.alloc(), "(?:a|)*$")?.is_found(rt.alloc(), "b")?);
     let nested = Pattern::parse(rt.alloc(), "(?:(?:c|(?:c|c.*d)*e)*f)*x")?;
     assert!(rt; !nested.is_found(rt.alloc(), "cccccccccccccccccccccccccccc")?);
+    Ok(())
+}
+
+fn repeated(alloc: Global, part: &str, times: u32) -> Result<String, AllocError> {
+    let mut text = String::new(alloc);
+    for _ in 0..times {
+        text.push_str(part)?;
+    }
+    Ok(text)
+}
+
+/// A part between so many openings and as many closings.
+fn nested(alloc: Global, open: &str, close: &str, times: u32) -> Result<String, AllocError> {
+    let mut text = repeated(alloc, open, times)?;
+    text.push('a')?;
+    text.push_str(repeated(alloc, close, times)?.as_str())?;
+    Ok(text)
+}
+
+/// Patterns that are found nowhere in `a` alone, and take their time where walks are tried one after another.
+#[test]
+fn hostile_patterns_take_pattern_times_text(rt: HostRuntime) -> Result<(), Fail> {
+    let alloc = rt.alloc();
+    let text = repeated(alloc, "a", 20_000)?;
+    let alternatives = repeated(alloc, "b|", 16_000)?;
+    let maybes = repeated(alloc, "a?", 500)?;
+    let many = repeated(alloc, "a", 500)?;
+    let patterns = [
+        format!(in alloc; "(?!b)c")?,
+        format!(in alloc; "(a|a)*b")?,
+        format!(in alloc; "{}b", nested(alloc, "(?=", ")", 199)?)?,
+        format!(in alloc; "{}b", nested(alloc, "(?!", ")", 199)?)?,
+        format!(in alloc; "{}b", nested(alloc, "(?:", ")+", 199)?)?,
+        format!(in alloc; "{}b", nested(alloc, "(?:", "){1,}", 199)?)?,
+        format!(in alloc; "{}b", nested(alloc, "(?:", "){2,}", 9)?)?,
+        format!(in alloc; "{alternatives}b")?,
+        format!(in alloc; "{maybes}{many}b")?,
+    ];
+    for pattern in &patterns {
+        let parsed = Pattern::parse(alloc, pattern.as_str())?;
+        assert!(rt; !parsed.is_found(alloc, text.as_str())?);
+    }
     Ok(())
 }
 

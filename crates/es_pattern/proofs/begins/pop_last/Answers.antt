@@ -1,4 +1,4 @@
-use Rattle.std.proofs.Common.{◌∙◌, arith}
+use Rattle.std.proofs.Common.{arith}
 use Rattle.es_pattern.proofs.Beginning.{popped_some, popped_none}
 use Rattle.es_pattern.proofs.begins.pop_last.Goals as goal
 

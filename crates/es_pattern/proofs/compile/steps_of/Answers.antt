@@ -1,4 +1,4 @@
-use Rattle.std.proofs.Common.{sym, ap, take, ◌∙◌, arith}
+use Rattle.std.proofs.Common.{sym, ap, ◌∙◌}
 use Rattle.es_pattern.specs.declared.step.Direction.TheVariants.{Forward}
 use Rattle.es_pattern.specs.Compiled.{with_code}
 use Rattle.es_pattern.proofs.Compiling.{codes_more, stands_there}

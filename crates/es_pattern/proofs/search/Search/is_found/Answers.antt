@@ -1,6 +1,6 @@
-use Rattle.std.proofs.Common.{◌≡◌, ◌<◌, ◌≤◌, ◌+◌, ◌/◌, [], List, ℕ, Bool, true, false, length, refl, subst, sym, ap, ◌∙◌, arith}
+use Rattle.std.proofs.Common.{◌≡◌, ◌<◌, ◌+◌, ◌/◌, [], List, Bool, length, refl, subst, sym, ap, ◌∙◌, arith}
 use Rattle.std.specs.Global.{Vec}
-use Rattle.std.specs.Prelude.{Option, ◌↔◌, IsTrue}
+use Rattle.std.specs.Prelude.{Option}
 use Rattle.std.proofs.lemmas.Bool.{false≢true}
 use Rattle.std.proofs.lemmas.List.{nil_from_length}
 use Rattle.std.proofs.lemmas.Grind.{common_steps}
@@ -14,7 +14,7 @@ use Rattle.es_pattern.specs.Passing.{Passes, AllTell}
 use Rattle.es_pattern.specs.Alive.{ArrivesBy}
 use Rattle.es_pattern.specs.Program.{IsAlive}
 use Rattle.es_pattern.proofs.Beginning.{none_later}
-use Rattle.es_pattern.proofs.Searching.{Started, none_before, first_forward, first_by, started_begun, started_unbegun, idle_by, none_further, none_at_all, found_here, found_nowhere}
+use Rattle.es_pattern.proofs.Searching.{Started, none_before, started_begun, started_unbegun, idle_by, none_further, none_at_all, found_here, found_nowhere}
 use Rattle.es_pattern.proofs.search.Search.is_found.Goals as goal
 use Rattle.es_pattern.proofs.search.Search.is_found.Goals.{then-begins_at+in_ok-begin, else-begins_at, then-is_empty+else-not-begins_later, else-is_empty+in_ok-pass+else-branch}
 

@@ -1,11 +1,8 @@
-use Rattle.std.proofs.Common.{◌≡◌, Bool, refl, sym, subst, ◌∙◌, ap, arith, false}
-use Rattle.std.specs.Prelude.{slice_get, Some, None, MatchOption, Option}
+use Rattle.std.proofs.Common.{◌≡◌, arith}
+use Rattle.std.specs.Prelude.{slice_get, Some}
 use Rattle.std.proofs.lemmas.Option.{gets}
 use Rattle.std.proofs.lemmas.Grind.{common_steps}
-use Rattle.es_pattern.specs.declared.alive.Passing.{Passing}
-use Rattle.es_pattern.specs.declared.piece.Piece.TheVariants.{OneOf, TextStart, TextEnd, WordBoundary, Lookahead}
-use Rattle.es_pattern.specs.Spans.{is_boundary, differs}
-use Rattle.es_pattern.specs.Passing.{PassesAs, Answers, class_passing, stays}
+use Rattle.es_pattern.specs.declared.piece.Piece.TheVariants.{OneOf, Lookahead}
 use Rattle.es_pattern.proofs.Passings.{passes_class, passes_start, passes_end, passes_boundary, passes_lookahead, passes_other, differs_is}
 use Rattle.es_pattern.proofs.search.Search.passing.Goals as goal
 use Rattle.es_pattern.proofs.search.Search.passing.Goals.{in-TextStart, in-TextEnd, in-WordBoundary, in-Lookahead+in_ok-holds-in-Lookahead, in_default-piece}

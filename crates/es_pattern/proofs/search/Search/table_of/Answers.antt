@@ -1,6 +1,5 @@
-use Rattle.std.proofs.Common.{◌≡◌, ◌<◌, ◌≤◌, ◌+◌, ◌-◌, ◌/◌, ◌++◌, ◌∷◌, [], List, ℕ, Bool, length, refl, subst, sym, ap, ◌∙◌, arith}
-use Rattle.std.specs.Prelude.{slice_get, Some, MatchOption, Option}
-use Rattle.std.specs.Global.{Vec}
+use Rattle.std.proofs.Common.{◌≡◌, ◌+◌, ◌-◌, ◌++◌, ◌∷◌, [], List, ℕ, Bool, length, subst, sym, ap, ◌∙◌, arith}
+use Rattle.std.specs.Prelude.{slice_get, Some, MatchOption}
 use Rattle.std.proofs.lemmas.Bool.{le-leb}
 use Rattle.std.proofs.lemmas.Option.{gets}
 use Rattle.std.proofs.lemmas.Grind.{common_steps}
@@ -9,7 +8,7 @@ use Rattle.es_pattern.specs.declared.step.Direction.TheVariants.{Backward}
 use Rattle.es_pattern.specs.declared.number_set.NumberSet.{NumberSet}
 use Rattle.es_pattern.specs.NumberSet.{has}
 use Rattle.es_pattern.specs.Spans.{differs}
-use Rattle.es_pattern.specs.Passing.{IsAsked, After}
+use Rattle.es_pattern.specs.Passing.{IsAsked}
 use Rattle.es_pattern.specs.Alive.{SettlingBy, SettledBy}
 use Rattle.es_pattern.specs.Compiled.{part_steps}
 use Rattle.es_pattern.proofs.Passings.{differs_is}

@@ -1,7 +1,5 @@
-use Rattle.std.proofs.Common.{◌≡◌, ◌≤◌, ◌<◌, ◌-◌, ◌/◌, ℕ, Bool, length, Some}
-use Rattle.std.specs.Prelude.{slice_get}
+use Rattle.std.proofs.Common.{◌≤◌, ◌<◌, ◌-◌, ◌/◌, length}
 use Rattle.es_pattern.specs.declared.step.Direction.TheVariants.{Backward}
-use Rattle.es_pattern.specs.Passing.{Answers}
 use Rattle.es_pattern.specs.Alive.{ArrivesBy}
 use Rattle.es_pattern.specs.Compiled.{part_steps}
 use Rattle.es_pattern.proofs.Searching.{Tabling, in_text}

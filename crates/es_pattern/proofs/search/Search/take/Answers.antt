@@ -1,4 +1,4 @@
-use Rattle.std.proofs.Common.{◌≡◌, ◌+◌, ◌≤◌, ◌++◌, [], List, ℕ, length, refl, sym, subst, ◌∙◌, ap, arith, length-append}
+use Rattle.std.proofs.Common.{◌≡◌, ◌+◌, ◌≤◌, [], length, sym, subst, ◌∙◌, ap, arith, length-append}
 use Rattle.std.specs.Prelude.{slice_get, Some, None}
 use Rattle.std.proofs.lemmas.Option.{gets, slice_get_within}
 use Rattle.std.proofs.lemmas.List.{append-nil}
@@ -6,8 +6,8 @@ use Rattle.std.proofs.lemmas.Grind.{common_steps}
 use Rattle.es_pattern.specs.declared.step.Step.{Step}
 use Rattle.es_pattern.specs.declared.step.Step.TheVariants.{Pass}
 use Rattle.es_pattern.specs.declared.alive.Passing.{Passing}
-use Rattle.es_pattern.specs.Passing.{Passes, PassesAs}
-use Rattle.es_pattern.specs.Alive.{Settling, same_place, next_place, untaken}
+use Rattle.es_pattern.specs.Passing.{PassesAs}
+use Rattle.es_pattern.specs.Alive.{same_place, next_place}
 use Rattle.es_pattern.proofs.NumberSets.{untaken_less, untaken_fewer}
 use Rattle.es_pattern.proofs.Alives.{StepAs, leads_none, leads_step, few_same, other_step, settling_taken}
 use Rattle.es_pattern.proofs.search.Search.take.Goals as goal
