@@ -7,3 +7,4 @@ pub mod Prefixes
 pub mod Keys
 pub mod Above
 pub mod Conflicts
+pub mod MemoryReplies

@@ -4,5 +4,6 @@ pub mod Plan
 pub mod Asks
 pub mod First
 pub mod Recorder
+pub mod RecorderView
 pub mod Builtins
 pub mod Memory

@@ -32,14 +32,9 @@ pub trait Asker {
 }
 
 impl<'t, T: Tree> Asker for Recorder<'t, T> {
-    ghost asking = { λ r. record {
-      name = r.tree.ghost_name;
-      stands_for = T.stands_for r.tree.now;
-      faults = T.faults r.tree.now;
-      questions = T.questions r.tree.now;
-      told = T.told r.tree.now;
-      trail = r.trail;
-    } };
+    ghost use Rattle.tree_core.specs.RecorderView.{asking_of};
+
+    ghost asking = { λ r. asking_of r };
 
     fn is_file(&mut self, p: &CleanPath) -> Result<bool, ReadError> {
         Recorder::is_file(self, p.as_str())

@@ -1,10 +1,9 @@
 // A tree that refuses the questions with the numbers of a list.
-ghost use Rattle.std.specs.Prelude.{◌≡◌, ◌==◌, ◌↔◌, if◌then◌else◌, Err, IfOk, IsTrue, IsErrOf, None};
+ghost use Rattle.std.specs.Prelude.{◌≡◌, ◌==◌, if◌then◌else◌};
 ghost use Rattle.std.specs.List.{list_any};
 ghost use Rattle.sugar_path.specs.Path.{IsCleanPath};
-ghost use Rattle.tree_core.specs.Memory.{same_files, refuses_next, after_question};
-ghost use Rattle.tree_core.specs.Tree.{Files, reply, HasCause, Tells, one_more};
-ghost use Rattle.tree_core.specs.declared.tree.ReadError.TheVariants.{Fault};
+ghost use Rattle.tree_core.specs.Memory.{refuses_next, after_question, IsRefusedByNumber};
+ghost use Rattle.tree_core.specs.Tree.{one_more};
 ghost use Rattle.tree_core.specs.declared.question.Question.TheVariants.{File, Dir, Exists, Read, Canon};
 ghost use Rattle.tree_core.specs.declared.question.Reply.TheVariants.{Flag, Bytes as BytesReply, Name};
 
@@ -59,9 +58,7 @@ impl FailingTree {
     // Counts a question, and a refusal where its number is one of the list's.
     fn refuses(&mut self) -> bool
         ensures test { result ≡ refuses_next self.old }
-        ensures counted { self.new.memory ≡ record self.old.memory { questions = one_more self.old.memory.questions } }
-        ensures calls { self.new.calls ≡ self.old.calls }
-        ensures faults { self.new.faults ≡ (if result then one_more self.old.faults else self.old.faults) }
+        ensures after { self.new ≡ after_question self.old }
     {
         self.tree.count();
         if contains(self.calls.as_slice(), self.tree.questions()) {
@@ -73,26 +70,13 @@ impl FailingTree {
 }
 
 impl Tree for FailingTree {
-    ghost use Rattle.std.specs.Prelude.{None};
-    ghost use Rattle.tree_core.specs.Memory.{same_files};
+    ghost use Rattle.tree_core.specs.Memory.{failing_state};
 
-    ghost stands_for = { λ m t. same_files m.memory.files t };
-
-    ghost faults = { λ m. m.faults };
-
-    ghost questions = { λ m. m.memory.questions };
-
-    ghost told = { λ m. None };
+    ghost state = { failing_state };
 
     fn is_file(&mut self, p: &str) -> Result<bool, ReadError>
         requires { IsCleanPath p.now }
-        ensures reply { IfOk result (λ x. (t : Files) → IsTrue (same_files self.old.memory.files t) → reply t (File p.now) ≡ Flag x) }
-        ensures stands { same_files self.new.memory.files ≡ same_files self.old.memory.files }
-        ensures cause { HasCause self.old.faults self.new.faults result }
-        ensures counted { self.new.memory.questions ≡ one_more self.old.memory.questions }
-        ensures told { Tells (File p.now) result None }
-        ensures refused { (result ≡ Err Fault) ↔ IsTrue (refuses_next self.old) }
-        ensures after { self.new ≡ after_question self.old }
+        ensures { IsRefusedByNumber Flag (File p.now) self.old self.new result }
     {
         if self.refuses() {
             return Err(ReadError::Fault);
@@ -102,13 +86,7 @@ impl Tree for FailingTree {
 
     fn is_dir(&mut self, p: &str) -> Result<bool, ReadError>
         requires { IsCleanPath p.now }
-        ensures reply { IfOk result (λ x. (t : Files) → IsTrue (same_files self.old.memory.files t) → reply t (Dir p.now) ≡ Flag x) }
-        ensures stands { same_files self.new.memory.files ≡ same_files self.old.memory.files }
-        ensures cause { HasCause self.old.faults self.new.faults result }
-        ensures counted { self.new.memory.questions ≡ one_more self.old.memory.questions }
-        ensures told { Tells (Dir p.now) result None }
-        ensures refused { (result ≡ Err Fault) ↔ IsTrue (refuses_next self.old) }
-        ensures after { self.new ≡ after_question self.old }
+        ensures { IsRefusedByNumber Flag (Dir p.now) self.old self.new result }
     {
         if self.refuses() {
             return Err(ReadError::Fault);
@@ -118,13 +96,7 @@ impl Tree for FailingTree {
 
     fn exists(&mut self, p: &str) -> Result<bool, ReadError>
         requires { IsCleanPath p.now }
-        ensures reply { IfOk result (λ x. (t : Files) → IsTrue (same_files self.old.memory.files t) → reply t (Exists p.now) ≡ Flag x) }
-        ensures stands { same_files self.new.memory.files ≡ same_files self.old.memory.files }
-        ensures cause { HasCause self.old.faults self.new.faults result }
-        ensures counted { self.new.memory.questions ≡ one_more self.old.memory.questions }
-        ensures told { Tells (Exists p.now) result None }
-        ensures refused { (result ≡ Err Fault) ↔ IsTrue (refuses_next self.old) }
-        ensures after { self.new ≡ after_question self.old }
+        ensures { IsRefusedByNumber Flag (Exists p.now) self.old self.new result }
     {
         if self.refuses() {
             return Err(ReadError::Fault);
@@ -134,13 +106,7 @@ impl Tree for FailingTree {
 
     fn read(&mut self, alloc: Global, p: &str) -> Result<Option<Bytes>, ReadError>
         requires { IsCleanPath p.now }
-        ensures reply { IfOk result (λ x. (t : Files) → IsTrue (same_files self.old.memory.files t) → reply t (Read p.now) ≡ BytesReply x) }
-        ensures stands { same_files self.new.memory.files ≡ same_files self.old.memory.files }
-        ensures cause { HasCause self.old.faults self.new.faults result }
-        ensures counted { self.new.memory.questions ≡ one_more self.old.memory.questions }
-        ensures told { Tells (Read p.now) result None }
-        ensures refused { (result ≡ Err Fault) ↔ IsTrue (refuses_next self.old) }
-        ensures after { self.new ≡ after_question self.old }
+        ensures { IsRefusedByNumber BytesReply (Read p.now) self.old self.new result }
     {
         if self.refuses() {
             return Err(ReadError::Fault);
@@ -150,13 +116,7 @@ impl Tree for FailingTree {
 
     fn canonical(&mut self, alloc: Global, p: &str) -> Result<Option<Text>, ReadError>
         requires { IsCleanPath p.now }
-        ensures reply { IfOk result (λ x. (t : Files) → IsTrue (same_files self.old.memory.files t) → reply t (Canon p.now) ≡ Name x) }
-        ensures stands { same_files self.new.memory.files ≡ same_files self.old.memory.files }
-        ensures cause { HasCause self.old.faults self.new.faults result }
-        ensures counted { self.new.memory.questions ≡ one_more self.old.memory.questions }
-        ensures told { Tells (Canon p.now) result None }
-        ensures refused { (result ≡ Err Fault) ↔ IsTrue (refuses_next self.old) }
-        ensures after { self.new ≡ after_question self.old }
+        ensures { IsRefusedByNumber Name (Canon p.now) self.old self.new result }
     {
         if self.refuses() {
             return Err(ReadError::Fault);

@@ -1,11 +1,11 @@
 // A tree in memory, which stands for exactly its files.
-ghost use Rattle.std.specs.Prelude.{◌≡◌, ◌≢◌, ◌++◌, ◌∷◌, ◌+◌, ◌<◌, ◌≤◌, [], None, Some, Ok, OnOk, OnErr, IfOk, IfErr, IfNone, IsTrue, IfSome, ◌||◌, is_some, nat_eq, length, option_map, string_bytes, string_capacity};
+ghost use Rattle.std.specs.Prelude.{◌≡◌, ◌≢◌, ◌++◌, ◌∷◌, ◌+◌, ◌<◌, ◌≤◌, [], None, Some, IsOk, OnOk, OnErr, IfOk, IfErr, IfNone, IsTrue, IfSome, ◌||◌, is_some, nat_eq, length, option_map, string_bytes, string_capacity};
 ghost use Rattle.std.specs.FinMap as map;
 ghost use Rattle.std.specs.List.{find, starts_with};
 ghost use Rattle.sugar_path.specs.Path.{IsCleanPath};
-ghost use Rattle.tree_core.specs.Memory.{files_of, conflict, refusal, with_file, NoneAbove};
+ghost use Rattle.tree_core.specs.Memory.{files_of, conflict, refusal, with_file, NoneAbove, IsReplied};
 ghost use Rattle.tree_core.specs.declared.memory.PutError.TheVariants.{NoMemory};
-ghost use Rattle.tree_core.specs.Tree.{Files, IsValidTree, reply, HasCause, Tells, one_more, is_file, is_folder, is_file_path, stands_above};
+ghost use Rattle.tree_core.specs.Tree.{IsValidTree, one_more, is_file, is_folder, is_file_path, stands_above};
 ghost use Rattle.tree_core.specs.declared.question.Question.TheVariants.{File, Dir, Exists, Read, Canon};
 ghost use Rattle.tree_core.specs.declared.question.Reply.TheVariants.{Flag, Bytes as BytesReply, Name};
 
@@ -182,26 +182,14 @@ impl MemoryTree {
 }
 
 impl Tree for MemoryTree {
-    ghost use Rattle.std.specs.Prelude.{None};
-    ghost use Rattle.tree_core.specs.Memory.{same_files};
+    ghost use Rattle.tree_core.specs.Memory.{memory_state};
 
-    ghost stands_for = { λ m t. same_files m.files t };
-
-    ghost faults = { λ m. 0 };
-
-    ghost questions = { λ m. m.questions };
-
-    ghost told = { λ m. None };
+    ghost state = { memory_state };
 
     fn is_file(&mut self, p: &str) -> Result<bool, ReadError>
         requires { IsCleanPath p.now }
-        ensures reply { IfOk result (λ x. (t : Files) → IsTrue (same_files self.old.files t) → reply t (File p.now) ≡ Flag x) }
-        ensures stands { same_files self.new.files ≡ same_files self.old.files }
-        ensures cause { HasCause 0 0 result }
-        ensures counted { self.new.questions ≡ one_more self.old.questions }
-        ensures told { Tells (File p.now) result None }
-        ensures always { result ≡ Ok (is_file self.old.files p.now) }
-        ensures same { self.new ≡ record self.old { questions = one_more self.old.questions } }
+        ensures replied { IsReplied Flag (File p.now) self.old self.new result }
+        ensures always { IsOk result }
     {
         self.count();
         Ok(self.has_file(p))
@@ -209,13 +197,8 @@ impl Tree for MemoryTree {
 
     fn is_dir(&mut self, p: &str) -> Result<bool, ReadError>
         requires { IsCleanPath p.now }
-        ensures reply { IfOk result (λ x. (t : Files) → IsTrue (same_files self.old.files t) → reply t (Dir p.now) ≡ Flag x) }
-        ensures stands { same_files self.new.files ≡ same_files self.old.files }
-        ensures cause { HasCause 0 0 result }
-        ensures counted { self.new.questions ≡ one_more self.old.questions }
-        ensures told { Tells (Dir p.now) result None }
-        ensures always { result ≡ Ok (is_folder self.old.files p.now) }
-        ensures same { self.new ≡ record self.old { questions = one_more self.old.questions } }
+        ensures replied { IsReplied Flag (Dir p.now) self.old self.new result }
+        ensures always { IsOk result }
     {
         self.count();
         Ok(self.has_folder(p))
@@ -223,24 +206,25 @@ impl Tree for MemoryTree {
 
     fn exists(&mut self, p: &str) -> Result<bool, ReadError>
         requires { IsCleanPath p.now }
-        ensures reply { IfOk result (λ x. (t : Files) → IsTrue (same_files self.old.files t) → reply t (Exists p.now) ≡ Flag x) }
-        ensures stands { same_files self.new.files ≡ same_files self.old.files }
-        ensures cause { HasCause 0 0 result }
-        ensures counted { self.new.questions ≡ one_more self.old.questions }
-        ensures told { Tells (Exists p.now) result None }
-        ensures always { result ≡ Ok (is_file self.old.files p.now || is_folder self.old.files p.now) }
-        ensures same { self.new ≡ record self.old { questions = one_more self.old.questions } }
+        ensures replied { IsReplied Flag (Exists p.now) self.old self.new result }
+        ensures always { IsOk result }
     {
         self.count();
         Ok(self.has_path(p))
     }
 
-    fn read(&mut self, alloc: Global, p: &str) -> Result<Option<Bytes>, ReadError> {
+    fn read(&mut self, alloc: Global, p: &str) -> Result<Option<Bytes>, ReadError>
+        requires { IsCleanPath p.now }
+        ensures { IsReplied BytesReply (Read p.now) self.old self.new result }
+    {
         self.count();
         Ok(self.content_at(alloc, p)?)
     }
 
-    fn canonical(&mut self, alloc: Global, p: &str) -> Result<Option<Text>, ReadError> {
+    fn canonical(&mut self, alloc: Global, p: &str) -> Result<Option<Text>, ReadError>
+        requires { IsCleanPath p.now }
+        ensures { IsReplied Name (Canon p.now) self.old self.new result }
+    {
         self.count();
         Ok(self.canonical_at(alloc, p)?)
     }

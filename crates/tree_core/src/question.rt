@@ -1,12 +1,12 @@
 // A question that a tree is asked, and its reply.
 ghost use Rattle.std.specs.Prelude.{◌≡◌, IfOk};
-ghost use Rattle.tree_core.specs.Question.{path_asked, question_eq};
+ghost use Rattle.tree_core.specs.Question.{path_asked};
 
 use std::alloc::{AllocError, Global};
 use sugar_path::{Bytes, Text};
 
 /// A question on a clean absolute path.
-#[derive(Drop)]
+#[derive(Debug, Drop, PartialEq, Eq, Hash)]
 pub enum Question {
     /// Whether there is a file.
     File(Text),
@@ -21,7 +21,7 @@ pub enum Question {
 }
 
 /// What a tree replies: a flag to the first three questions, bytes to `Read` and a name to `Canon`.
-#[derive(Drop)]
+#[derive(Debug, Drop, PartialEq, Eq)]
 pub enum Reply {
     Flag(bool),
     Bytes(Option<Bytes>),
@@ -42,20 +42,7 @@ impl Question {
         }
     }
 
-    /// Whether the two are one question.
-    pub fn same(&self, other: &Question) -> bool
-        ensures { result ≡ question_eq self.now other.now }
-    {
-        match (self, other) {
-            (Question::File(a), Question::File(b)) => a.as_str() == b.as_str(),
-            (Question::Dir(a), Question::Dir(b)) => a.as_str() == b.as_str(),
-            (Question::Exists(a), Question::Exists(b)) => a.as_str() == b.as_str(),
-            (Question::Read(a), Question::Read(b)) => a.as_str() == b.as_str(),
-            (Question::Canon(a), Question::Canon(b)) => a.as_str() == b.as_str(),
-            _ => false,
-        }
-    }
-
+    /// An equal question.
     pub fn try_clone(&self, alloc: Global) -> Result<Question, AllocError>
         ensures { IfOk result (λ q. q ≡ self.now) }
     {
@@ -70,6 +57,7 @@ impl Question {
 }
 
 impl Reply {
+    /// An equal reply.
     pub fn try_clone(&self, alloc: Global) -> Result<Reply, AllocError>
         ensures { IfOk result (λ r. r ≡ self.now) }
     {

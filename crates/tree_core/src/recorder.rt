@@ -1,10 +1,10 @@
 // Puts each question once to a tree, and keeps the replies.
-ghost use Rattle.std.specs.Prelude.{◌≡◌, IsTrue, IfOk, OnOk, OnErr, IsErrOf, IfErr, Some, None, IsSome, [], ◌∷◌, ◌++◌};
+ghost use Rattle.std.specs.Prelude.{◌≡◌, IsTrue, IfOk, OnOk, OnErr, IfErr, Some, None, IsSome, [], ◌∷◌, ◌++◌};
 ghost use Rattle.sugar_path.specs.Path.{IsCleanPath};
 ghost use Rattle.tree_core.specs.Question.{reply_in, fits};
 ghost use Rattle.tree_core.specs.Recorder.{flag_question};
-ghost use Rattle.tree_core.specs.declared.tree.ReadError.TheVariants.{Fault, NoMemory};
-ghost use Rattle.tree_core.specs.Tree.{Files, Agrees, HasCause, Tells, reply, noted_as, one_more};
+ghost use Rattle.tree_core.specs.declared.tree.ReadError.TheVariants.{NoMemory};
+ghost use Rattle.tree_core.specs.Tree.{Files, Agrees, IsPut};
 ghost use Rattle.tree_core.specs.declared.question.Question.TheVariants.{File, Dir, Exists, Read, Canon};
 ghost use Rattle.tree_core.specs.declared.question.Reply.TheVariants.{Flag, Bytes as BytesReply, Name};
 
@@ -18,14 +18,17 @@ pub struct Recorder<'t, T: Tree> {
     alloc: Global,
     tree: &'t mut T,
     trail: Trail,
-    ghost agrees: { (t : Files) → IsTrue (T.stands_for tree.now t) → Agrees t trail },
+    ghost agrees: { (t : Files) → IsTrue ((T.state tree.now).stands_for t) → Agrees t trail },
 }
 
 impl<'t, T: Tree> Recorder<'t, T> {
+    ghost use Rattle.tree_core.specs.Asks.{IsRecorded, AgreeWith};
+    ghost use Rattle.tree_core.specs.RecorderView.{asking_of, tree_of, trail_of};
+
     pub fn new(alloc: Global, tree: &'t mut T) -> Recorder<'t, T>
-        ensures same { result.tree.ghost_name ≡ tree.entry.ghost_name }
-        ensures at { result.tree.now ≡ tree.old }
-        ensures trail { result.trail ≡ [] }
+        ensures same { (asking_of result).name ≡ tree.entry.ghost_name }
+        ensures at { tree_of result ≡ tree.old }
+        ensures trail { trail_of result ≡ [] }
     {
         Recorder {
             alloc,
@@ -37,18 +40,9 @@ impl<'t, T: Tree> Recorder<'t, T> {
     /// Whether there is a file.
     pub fn is_file(&mut self, p: &str) -> Result<bool, ReadError>
         requires { IsCleanPath p.now }
-        ensures same { self.new.tree.ghost_name ≡ self.old.tree.ghost_name }
-        ensures reply { IfOk result (λ x. (t : Files) → IsTrue (T.stands_for self.old.tree.now t) → reply t (File p.now) ≡ Flag x) }
-        ensures trail { IfOk result (λ x. self.new.trail ≡ noted_as self.old.trail (File p.now) (Flag x)) }
-        ensures known { IfOk result (λ x. reply_in self.new.trail (File p.now) ≡ Some (Flag x)) }
-        ensures refused { OnErr result (self.new.trail ≡ self.old.trail) }
-        ensures stands { T.stands_for self.new.tree.now ≡ T.stands_for self.old.tree.now }
-        ensures cause { HasCause (T.faults self.old.tree.now) (T.faults self.new.tree.now) result }
-        ensures told { Tells (File p.now) result (T.told self.new.tree.now) }
-        ensures unasked { IsErrOf result Fault → reply_in self.new.trail (File p.now) ≡ None }
-        ensures repeated { IsSome (reply_in self.old.trail (File p.now)) → self.new.tree.now ≡ self.old.tree.now }
-        ensures put { OnOk result (reply_in self.old.trail (File p.now) ≡ None → T.questions self.new.tree.now ≡ one_more (T.questions self.old.tree.now)) }
-        ensures refused_once { IsErrOf result Fault → T.questions self.new.tree.now ≡ one_more (T.questions self.old.tree.now) }
+        ensures recorded { IsRecorded Flag (File p.now) (asking_of self.old) (asking_of self.new) result }
+        // Where the trail has the reply, the lent tree is left as it is.
+        ensures untouched { IsSome (reply_in (trail_of self.old) (File p.now)) → tree_of self.new ≡ tree_of self.old }
     {
         self.flag(FlagQuestion::File, p)
     }
@@ -56,18 +50,9 @@ impl<'t, T: Tree> Recorder<'t, T> {
     /// Whether there is a folder.
     pub fn is_dir(&mut self, p: &str) -> Result<bool, ReadError>
         requires { IsCleanPath p.now }
-        ensures same { self.new.tree.ghost_name ≡ self.old.tree.ghost_name }
-        ensures reply { IfOk result (λ x. (t : Files) → IsTrue (T.stands_for self.old.tree.now t) → reply t (Dir p.now) ≡ Flag x) }
-        ensures trail { IfOk result (λ x. self.new.trail ≡ noted_as self.old.trail (Dir p.now) (Flag x)) }
-        ensures known { IfOk result (λ x. reply_in self.new.trail (Dir p.now) ≡ Some (Flag x)) }
-        ensures refused { OnErr result (self.new.trail ≡ self.old.trail) }
-        ensures stands { T.stands_for self.new.tree.now ≡ T.stands_for self.old.tree.now }
-        ensures cause { HasCause (T.faults self.old.tree.now) (T.faults self.new.tree.now) result }
-        ensures told { Tells (Dir p.now) result (T.told self.new.tree.now) }
-        ensures unasked { IsErrOf result Fault → reply_in self.new.trail (Dir p.now) ≡ None }
-        ensures repeated { IsSome (reply_in self.old.trail (Dir p.now)) → self.new.tree.now ≡ self.old.tree.now }
-        ensures put { OnOk result (reply_in self.old.trail (Dir p.now) ≡ None → T.questions self.new.tree.now ≡ one_more (T.questions self.old.tree.now)) }
-        ensures refused_once { IsErrOf result Fault → T.questions self.new.tree.now ≡ one_more (T.questions self.old.tree.now) }
+        ensures recorded { IsRecorded Flag (Dir p.now) (asking_of self.old) (asking_of self.new) result }
+        // Where the trail has the reply, the lent tree is left as it is.
+        ensures untouched { IsSome (reply_in (trail_of self.old) (Dir p.now)) → tree_of self.new ≡ tree_of self.old }
     {
         self.flag(FlagQuestion::Dir, p)
     }
@@ -75,18 +60,9 @@ impl<'t, T: Tree> Recorder<'t, T> {
     /// Whether there is a file or a folder.
     pub fn exists(&mut self, p: &str) -> Result<bool, ReadError>
         requires { IsCleanPath p.now }
-        ensures same { self.new.tree.ghost_name ≡ self.old.tree.ghost_name }
-        ensures reply { IfOk result (λ x. (t : Files) → IsTrue (T.stands_for self.old.tree.now t) → reply t (Exists p.now) ≡ Flag x) }
-        ensures trail { IfOk result (λ x. self.new.trail ≡ noted_as self.old.trail (Exists p.now) (Flag x)) }
-        ensures known { IfOk result (λ x. reply_in self.new.trail (Exists p.now) ≡ Some (Flag x)) }
-        ensures refused { OnErr result (self.new.trail ≡ self.old.trail) }
-        ensures stands { T.stands_for self.new.tree.now ≡ T.stands_for self.old.tree.now }
-        ensures cause { HasCause (T.faults self.old.tree.now) (T.faults self.new.tree.now) result }
-        ensures told { Tells (Exists p.now) result (T.told self.new.tree.now) }
-        ensures unasked { IsErrOf result Fault → reply_in self.new.trail (Exists p.now) ≡ None }
-        ensures repeated { IsSome (reply_in self.old.trail (Exists p.now)) → self.new.tree.now ≡ self.old.tree.now }
-        ensures put { OnOk result (reply_in self.old.trail (Exists p.now) ≡ None → T.questions self.new.tree.now ≡ one_more (T.questions self.old.tree.now)) }
-        ensures refused_once { IsErrOf result Fault → T.questions self.new.tree.now ≡ one_more (T.questions self.old.tree.now) }
+        ensures recorded { IsRecorded Flag (Exists p.now) (asking_of self.old) (asking_of self.new) result }
+        // Where the trail has the reply, the lent tree is left as it is.
+        ensures untouched { IsSome (reply_in (trail_of self.old) (Exists p.now)) → tree_of self.new ≡ tree_of self.old }
     {
         self.flag(FlagQuestion::Exists, p)
     }
@@ -94,18 +70,9 @@ impl<'t, T: Tree> Recorder<'t, T> {
     /// The bytes of a file.
     pub fn read(&mut self, p: &str) -> Result<Option<Bytes>, ReadError>
         requires { IsCleanPath p.now }
-        ensures same { self.new.tree.ghost_name ≡ self.old.tree.ghost_name }
-        ensures reply { IfOk result (λ x. (t : Files) → IsTrue (T.stands_for self.old.tree.now t) → reply t (Read p.now) ≡ BytesReply x) }
-        ensures trail { IfOk result (λ x. self.new.trail ≡ noted_as self.old.trail (Read p.now) (BytesReply x)) }
-        ensures known { IfOk result (λ x. reply_in self.new.trail (Read p.now) ≡ Some (BytesReply x)) }
-        ensures refused { OnErr result (self.new.trail ≡ self.old.trail) }
-        ensures stands { T.stands_for self.new.tree.now ≡ T.stands_for self.old.tree.now }
-        ensures cause { HasCause (T.faults self.old.tree.now) (T.faults self.new.tree.now) result }
-        ensures told { Tells (Read p.now) result (T.told self.new.tree.now) }
-        ensures unasked { IsErrOf result Fault → reply_in self.new.trail (Read p.now) ≡ None }
-        ensures repeated { IsSome (reply_in self.old.trail (Read p.now)) → self.new.tree.now ≡ self.old.tree.now }
-        ensures put { OnOk result (reply_in self.old.trail (Read p.now) ≡ None → T.questions self.new.tree.now ≡ one_more (T.questions self.old.tree.now)) }
-        ensures refused_once { IsErrOf result Fault → T.questions self.new.tree.now ≡ one_more (T.questions self.old.tree.now) }
+        ensures recorded { IsRecorded BytesReply (Read p.now) (asking_of self.old) (asking_of self.new) result }
+        // Where the trail has the reply, the lent tree is left as it is.
+        ensures untouched { IsSome (reply_in (trail_of self.old) (Read p.now)) → tree_of self.new ≡ tree_of self.old }
     {
         let question = Question::Read(Text::of(self.alloc, p)?);
         if let Some(reply) = self.trail.reply_to(&question) {
@@ -123,18 +90,9 @@ impl<'t, T: Tree> Recorder<'t, T> {
     /// The canonical name of a file.
     pub fn canonical(&mut self, p: &str) -> Result<Option<Text>, ReadError>
         requires { IsCleanPath p.now }
-        ensures same { self.new.tree.ghost_name ≡ self.old.tree.ghost_name }
-        ensures reply { IfOk result (λ x. (t : Files) → IsTrue (T.stands_for self.old.tree.now t) → reply t (Canon p.now) ≡ Name x) }
-        ensures trail { IfOk result (λ x. self.new.trail ≡ noted_as self.old.trail (Canon p.now) (Name x)) }
-        ensures known { IfOk result (λ x. reply_in self.new.trail (Canon p.now) ≡ Some (Name x)) }
-        ensures refused { OnErr result (self.new.trail ≡ self.old.trail) }
-        ensures stands { T.stands_for self.new.tree.now ≡ T.stands_for self.old.tree.now }
-        ensures cause { HasCause (T.faults self.old.tree.now) (T.faults self.new.tree.now) result }
-        ensures told { Tells (Canon p.now) result (T.told self.new.tree.now) }
-        ensures unasked { IsErrOf result Fault → reply_in self.new.trail (Canon p.now) ≡ None }
-        ensures repeated { IsSome (reply_in self.old.trail (Canon p.now)) → self.new.tree.now ≡ self.old.tree.now }
-        ensures put { OnOk result (reply_in self.old.trail (Canon p.now) ≡ None → T.questions self.new.tree.now ≡ one_more (T.questions self.old.tree.now)) }
-        ensures refused_once { IsErrOf result Fault → T.questions self.new.tree.now ≡ one_more (T.questions self.old.tree.now) }
+        ensures recorded { IsRecorded Name (Canon p.now) (asking_of self.old) (asking_of self.new) result }
+        // Where the trail has the reply, the lent tree is left as it is.
+        ensures untouched { IsSome (reply_in (trail_of self.old) (Canon p.now)) → tree_of self.new ≡ tree_of self.old }
     {
         let question = Question::Canon(Text::of(self.alloc, p)?);
         if let Some(reply) = self.trail.reply_to(&question) {
@@ -152,18 +110,9 @@ impl<'t, T: Tree> Recorder<'t, T> {
     // The reply to a question with a flag: the one recorded, or the tree's, which is then recorded.
     fn flag(&mut self, kind: FlagQuestion, p: &str) -> Result<bool, ReadError>
         requires { IsCleanPath p.now }
-        ensures same { self.new.tree.ghost_name ≡ self.old.tree.ghost_name }
-        ensures reply { IfOk result (λ x. (t : Files) → IsTrue (T.stands_for self.old.tree.now t) → reply t (flag_question kind p.now) ≡ Flag x) }
-        ensures trail { IfOk result (λ x. self.new.trail ≡ noted_as self.old.trail (flag_question kind p.now) (Flag x)) }
-        ensures known { IfOk result (λ x. reply_in self.new.trail (flag_question kind p.now) ≡ Some (Flag x)) }
-        ensures refused { OnErr result (self.new.trail ≡ self.old.trail) }
-        ensures stands { T.stands_for self.new.tree.now ≡ T.stands_for self.old.tree.now }
-        ensures cause { HasCause (T.faults self.old.tree.now) (T.faults self.new.tree.now) result }
-        ensures told { Tells (flag_question kind p.now) result (T.told self.new.tree.now) }
-        ensures unasked { IsErrOf result Fault → reply_in self.new.trail (flag_question kind p.now) ≡ None }
-        ensures repeated { IsSome (reply_in self.old.trail (flag_question kind p.now)) → self.new.tree.now ≡ self.old.tree.now }
-        ensures put { OnOk result (reply_in self.old.trail (flag_question kind p.now) ≡ None → T.questions self.new.tree.now ≡ one_more (T.questions self.old.tree.now)) }
-        ensures refused_once { IsErrOf result Fault → T.questions self.new.tree.now ≡ one_more (T.questions self.old.tree.now) }
+        ensures recorded { IsRecorded Flag (flag_question kind p.now) (asking_of self.old) (asking_of self.new) result }
+        // Where the trail has the reply, the lent tree is left as it is.
+        ensures untouched { IsSome (reply_in (trail_of self.old) (flag_question kind p.now)) → tree_of self.new ≡ tree_of self.old }
     {
         let question = question_on(kind, Text::of(self.alloc, p)?);
         if let Some(reply) = self.trail.reply_to(&question) {
@@ -179,23 +128,25 @@ impl<'t, T: Tree> Recorder<'t, T> {
 
     /// What was asked so far.
     pub fn trail(&self) -> &Trail
-        ensures { result.now ≡ self.now.trail }
+        ensures trail { result.now ≡ trail_of self.now }
+        // Each tree of files that the lent tree stands for gives the replies of the trail.
+        ensures agree { AgreeWith (asking_of self.now).tree.stands_for result.now }
     {
         &self.trail
     }
 
     pub fn into_trail(self) -> Trail
-        ensures { result ≡ self.entry.trail }
+        ensures { result ≡ trail_of self.entry }
     {
         self.trail
     }
 
     /// The trail, and the tree that was lent.
     pub fn into_parts(self) -> (Trail, &'t mut T)
-        ensures trail { result.0 ≡ self.entry.trail }
-        ensures same { result.1.ghost_name ≡ self.entry.tree.ghost_name }
-        ensures at { result.1.now ≡ self.entry.tree.now }
-        ensures agrees { (t : Files) → IsTrue (T.stands_for self.entry.tree.now t) → Agrees t self.entry.trail }
+        ensures trail { result.0 ≡ trail_of self.entry }
+        ensures same { result.1.ghost_name ≡ (asking_of self.entry).name }
+        ensures at { result.1.now ≡ tree_of self.entry }
+        ensures agree { AgreeWith (asking_of self.entry).tree.stands_for result.0 }
     {
         let Recorder {
             alloc: _,
@@ -227,11 +178,7 @@ fn question_on(kind: FlagQuestion, path: Text) -> Question
 // Puts one of these questions to a tree.
 fn ask_flag<T: Tree>(tree: &mut T, kind: FlagQuestion, p: &str) -> Result<bool, ReadError>
     requires { IsCleanPath p.now }
-    ensures reply { IfOk result (λ b. (t : Files) → IsTrue (T.stands_for tree.old t) → reply t (flag_question kind p.now) ≡ Flag b) }
-    ensures stands { T.stands_for tree.new ≡ T.stands_for tree.old }
-    ensures cause { HasCause (T.faults tree.old) (T.faults tree.new) result }
-    ensures counted { T.questions tree.new ≡ one_more (T.questions tree.old) }
-    ensures told { Tells (flag_question kind p.now) result (T.told tree.new) }
+    ensures { IsPut Flag (flag_question kind p.now) (T.state tree.old) (T.state tree.new) result }
 {
     match kind {
         FlagQuestion::File => tree.is_file(p),

@@ -178,8 +178,8 @@ fn questions_and_replies_are_copied(rt: HostRuntime) -> Result<(), Fail> {
     let question = Question::Canon(Text::of(rt.alloc(), "/w")?);
     let other = Question::Read(Text::of(rt.alloc(), "/w")?);
     let copy = question.try_clone(rt.alloc())?;
-    assert!(rt; copy.same(&question));
-    assert!(rt; !copy.same(&other));
+    assert!(rt; copy == question);
+    assert!(rt; copy != other);
     assert_eq!(rt; copy.path(), "/w");
     let reply = Reply::Bytes(Some(Bytes::of(rt.alloc(), b"x")?));
     let mut trail = Trail::new(rt.alloc());

@@ -1,8 +1,7 @@
 // A tree of files, as a layer above sees it.
-ghost use Rattle.std.specs.Prelude.{◌≡◌, ◌≤◌, ℕ, Bool, IsTrue, IfOk, OnOk, IsErrOf, IfSome, Option};
+ghost use Rattle.std.specs.Prelude.{◌≡◌};
 ghost use Rattle.sugar_path.specs.Path.{IsCleanPath};
-ghost use Rattle.tree_core.specs.Tree.{Files, reply, HasCause, one_more, Tells};
-ghost use Rattle.tree_core.specs.declared.question.Question.{Question};
+ghost use Rattle.tree_core.specs.Tree.{TreeState, IsPut};
 ghost use Rattle.tree_core.specs.declared.tree.ReadError.TheVariants.{NoMemory};
 ghost use Rattle.tree_core.specs.declared.question.Question.TheVariants.{File, Dir, Exists, Read, Canon};
 ghost use Rattle.tree_core.specs.declared.question.Reply.TheVariants.{Flag, Bytes as BytesReply, Name};
@@ -18,6 +17,7 @@ pub enum ReadError {
     /// The tree failed. Its count of faults rose, or stands at its last value.
     #[error("the tree failed")]
     Fault,
+    /// No memory was found.
     #[error("no memory")]
     NoMemory,
 }
@@ -45,62 +45,33 @@ pub struct TreeFile {
     pub canonical: Text,
 }
 
-/// A tree that is asked on clean absolute paths.
+/// A tree that is asked on clean absolute paths. Each question is counted; one that is refused is a fault.
 pub trait Tree {
-    /// For which trees the object answers.
-    ghost stands_for: { Self → Files → Bool };
-
-    /// How often a question was refused. It never falls.
-    ghost faults: { Self → ℕ };
-
-    /// How many questions were put.
-    ghost questions: { Self → ℕ };
-
-    /// The question that the latest fault refused, where it is told.
-    ghost told: { Self → Option Question };
+    /// What contracts see of it: the trees of files that it answers for, and its counts.
+    ghost state: { Self → TreeState };
 
     /// Whether there is a file.
     fn is_file(&mut self, p: &str) -> Result<bool, ReadError>
         requires { IsCleanPath p.now }
-        ensures reply { IfOk result (λ b. (t : Files) → IsTrue (stands_for self.old t) → reply t (File p.now) ≡ Flag b) }
-        ensures stands { stands_for self.new ≡ stands_for self.old }
-        ensures cause { HasCause (faults self.old) (faults self.new) result }
-        ensures counted { questions self.new ≡ one_more (questions self.old) }
-        ensures told { Tells (File p.now) result (told self.new) };
+        ensures { IsPut Flag (File p.now) (state self.old) (state self.new) result };
 
-    /// Whether there is a folder.
+    /// Whether there is a folder: `/`, or what stands above a file.
     fn is_dir(&mut self, p: &str) -> Result<bool, ReadError>
         requires { IsCleanPath p.now }
-        ensures reply { IfOk result (λ b. (t : Files) → IsTrue (stands_for self.old t) → reply t (Dir p.now) ≡ Flag b) }
-        ensures stands { stands_for self.new ≡ stands_for self.old }
-        ensures cause { HasCause (faults self.old) (faults self.new) result }
-        ensures counted { questions self.new ≡ one_more (questions self.old) }
-        ensures told { Tells (Dir p.now) result (told self.new) };
+        ensures { IsPut Flag (Dir p.now) (state self.old) (state self.new) result };
 
     /// Whether there is a file or a folder.
     fn exists(&mut self, p: &str) -> Result<bool, ReadError>
         requires { IsCleanPath p.now }
-        ensures reply { IfOk result (λ b. (t : Files) → IsTrue (stands_for self.old t) → reply t (Exists p.now) ≡ Flag b) }
-        ensures stands { stands_for self.new ≡ stands_for self.old }
-        ensures cause { HasCause (faults self.old) (faults self.new) result }
-        ensures counted { questions self.new ≡ one_more (questions self.old) }
-        ensures told { Tells (Exists p.now) result (told self.new) };
+        ensures { IsPut Flag (Exists p.now) (state self.old) (state self.new) result };
 
-    /// The bytes of a file.
+    /// The bytes of a file, None where there is no file.
     fn read(&mut self, alloc: Global, p: &str) -> Result<Option<Bytes>, ReadError>
         requires { IsCleanPath p.now }
-        ensures reply { IfOk result (λ o. (t : Files) → IsTrue (stands_for self.old t) → reply t (Read p.now) ≡ BytesReply o) }
-        ensures stands { stands_for self.new ≡ stands_for self.old }
-        ensures cause { HasCause (faults self.old) (faults self.new) result }
-        ensures counted { questions self.new ≡ one_more (questions self.old) }
-        ensures told { Tells (Read p.now) result (told self.new) };
+        ensures { IsPut BytesReply (Read p.now) (state self.old) (state self.new) result };
 
-    /// The canonical name of a file.
+    /// The canonical name of a file, None where there is no file.
     fn canonical(&mut self, alloc: Global, p: &str) -> Result<Option<Text>, ReadError>
         requires { IsCleanPath p.now }
-        ensures reply { IfOk result (λ o. (t : Files) → IsTrue (stands_for self.old t) → reply t (Canon p.now) ≡ Name o) }
-        ensures stands { stands_for self.new ≡ stands_for self.old }
-        ensures cause { HasCause (faults self.old) (faults self.new) result }
-        ensures counted { questions self.new ≡ one_more (questions self.old) }
-        ensures told { Tells (Canon p.now) result (told self.new) };
+        ensures { IsPut Name (Canon p.now) (state self.old) (state self.new) result };
 }

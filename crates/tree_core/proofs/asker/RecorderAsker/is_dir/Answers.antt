@@ -1,12 +1,9 @@
-use Rattle.std.proofs.Common.{refl, ap}
+use Rattle.std.proofs.Common.{refl}
 use Rattle.tree_core.specs.Plan.{folder_there, flag}
-use Rattle.tree_core.specs.declared.question.Question.TheVariants.{Dir}
 use Rattle.tree_core.specs.declared.question.Reply.TheVariants.{Flag}
-use Rattle.tree_core.proofs.Asking.{asks_put}
+use Rattle.tree_core.proofs.Asking.{asks_recorded}
 use Rattle.tree_core.proofs.asker.RecorderAsker.is_dir.Goals as goal
 
 pub returns : goal.returns
 unfolding folder_there
-returns g c =
-    let e = c.is_dir.ensures in
-    rw (← c.as_str.ensures.text) (asks_put (Dir c.as_str.result.now) flag Flag (λ _. refl) _ _ c.is_dir.result e.same e.stands e.cause e.reply e.trail e.refused e.told e.unasked (λ known. ap (λ tree. g.T.Tree.questions tree) (e.repeated known)) e.put e.refused_once)
+returns g c = rw (← c.as_str.ensures.text) (asks_recorded flag Flag (λ _. refl) c.is_dir.ensures.recorded)

@@ -1,12 +1,21 @@
-use Rattle.std.proofs.Common.{option_map, sym, ap, ◌∙◌}
+use Rattle.std.proofs.Common.{option_map, ap, ◌∙◌}
 use Rattle.std.specs.FinMap as map
 use Rattle.tree_core.specs.Tree.{Files}
-use Rattle.tree_core.specs.Memory.{Memory, Failing}
+use Rattle.tree_core.specs.Memory.{Failing}
+use Rattle.tree_core.specs.declared.question.Question.TheVariants.{Canon}
 use Rattle.tree_core.specs.declared.question.Reply.TheVariants.{Name}
-use Rattle.tree_core.proofs.Entries.{same_files-is}
+use Rattle.tree_core.proofs.MemoryReplies.{refused_one, answered_one, starved_one}
 use Rattle.tree_core.proofs.failing.FailingTreeTree.canonical.Goals as goal
 
-pub returns-clause-reply : goal.returns-clause-reply
-returns-clause-reply c = λ t stands.
-    let files = ap (λ (m : Failing). m.memory.files) c.self.view_is ∙ ap (λ (m : Memory). m.files) c.refuses.ensures.counted ∙ same_files-is c.args.self.now.memory.files t stands in
-    ap Name (ap (λ (f : Files). option_map (λ g. g.canonical) (map.get f c.args.p.now)) (sym files) ∙ sym c.in_ok-canonical_at.ensures)
+pub returns-then-refuses : goal.returns-then-refuses
+returns-then-refuses c = refused_one Name (Canon c.args.p.now) c.refuses.ensures.test c.if-refuses.true c.refuses.ensures.after
+
+pub returns-in_err-canonical_at : goal.returns-in_err-canonical_at
+returns-in_err-canonical_at c = starved_one Name (Canon c.args.p.now) _ c.from_residual.ensures.1 c.refuses.ensures.test c.if-refuses.false c.refuses.ensures.after
+
+pub returns : goal.returns
+returns c =
+    let files = ap (λ (m : Failing). m.memory.files) (c.self.view_is ∙ c.refuses.ensures.after) in
+    answered_one Name (Canon c.args.p.now) _ c.refuses.ensures.test c.if-refuses.false
+    (ap Name (c.in_ok-canonical_at.ensures ∙ ap (λ (files : Files). option_map (λ g. g.canonical) (map.get files c.args.p.now)) files))
+    c.refuses.ensures.after

@@ -1,11 +1,11 @@
-use Rattle.std.proofs.Common.{◌||◌, sym, ap, ◌∙◌}
-use Rattle.tree_core.specs.Tree.{Files, is_file, is_folder}
+use Rattle.std.proofs.Common.{◌||◌, ap, ◌∙◌}
+use Rattle.tree_core.specs.Tree.{is_file, is_folder}
 use Rattle.tree_core.specs.Memory.{Memory}
+use Rattle.tree_core.specs.declared.question.Question.TheVariants.{Exists}
 use Rattle.tree_core.specs.declared.question.Reply.TheVariants.{Flag}
-use Rattle.tree_core.proofs.Entries.{same_files-is}
+use Rattle.tree_core.proofs.MemoryReplies.{replied}
 use Rattle.tree_core.proofs.memory.MemoryTreeTree.exists.Goals as goal
 
-pub returns-clause-reply : goal.returns-clause-reply
-returns-clause-reply c = λ t stands.
-    let files = ap (λ (m : Memory). m.files) c.count.ensures ∙ same_files-is c.args.self.now.files t stands in
-    ap Flag (ap (λ (f : Files). is_file f c.args.p.now || is_folder f c.args.p.now) (sym files) ∙ sym c.has_path.ensures.value)
+pub returns-clause-replied : goal.returns-clause-replied
+returns-clause-replied c =
+    replied Flag (Exists c.args.p.now) _ _ _ (ap Flag (c.has_path.ensures.value ∙ ap (λ (m : Memory). is_file m.files c.args.p.now || is_folder m.files c.args.p.now) c.count.ensures)) tt (c.has_path.ensures.same ∙ c.count.ensures)

@@ -1,11 +1,11 @@
-use Rattle.std.proofs.Common.{sym, ap, ◌∙◌}
-use Rattle.tree_core.specs.Tree.{Files, is_folder}
+use Rattle.std.proofs.Common.{ap, ◌∙◌}
+use Rattle.tree_core.specs.Tree.{is_folder}
 use Rattle.tree_core.specs.Memory.{Memory}
+use Rattle.tree_core.specs.declared.question.Question.TheVariants.{Dir}
 use Rattle.tree_core.specs.declared.question.Reply.TheVariants.{Flag}
-use Rattle.tree_core.proofs.Entries.{same_files-is}
+use Rattle.tree_core.proofs.MemoryReplies.{replied}
 use Rattle.tree_core.proofs.memory.MemoryTreeTree.is_dir.Goals as goal
 
-pub returns-clause-reply : goal.returns-clause-reply
-returns-clause-reply c = λ t stands.
-    let files = ap (λ (m : Memory). m.files) c.count.ensures ∙ same_files-is c.args.self.now.files t stands in
-    ap Flag (ap (λ (f : Files). is_folder f c.args.p.now) (sym files) ∙ sym c.has_folder.ensures.value)
+pub returns-clause-replied : goal.returns-clause-replied
+returns-clause-replied c =
+    replied Flag (Dir c.args.p.now) _ _ _ (ap Flag (c.has_folder.ensures.value ∙ ap (λ (m : Memory). is_folder m.files c.args.p.now) c.count.ensures)) tt (c.has_folder.ensures.same ∙ c.count.ensures)

@@ -8,9 +8,9 @@ use Rattle.tree_core.proofs.recorder.Recorder.flag.Goals as goal
 pub invariant_of-self-2 : goal.invariant_of-self-2
 invariant_of-self-2 g c = record {
   agrees = λ t stands.
-      let same : g.T.Tree.stands_for c.ask_flag.new.tree t ≡ g.T.Tree.stands_for c.args.self.now.tree.now t = ap (λ (f : Files → _). f t) c.ask_flag.ensures.stands in
+      let same : (g.T.Tree.state c.ask_flag.new.tree).stands_for t ≡ (g.T.Tree.state c.args.self.now.tree.now).stands_for t = ap (λ (f : Files → _). f t) c.ask_flag.ensures.stands in
       let before = sym same ∙ stands in
       let question = c.question_on-question.ensures ∙ ap (λ p. flag_question c.args.kind p) c.in_ok-of.ensures in
-      let value = sym (c.in_ok-b.ensures.reply t before) ∙ ap (λ q. reply t q) (sym question) in
+      let value = sym (c.in_ok-b.ensures.replied t before) ∙ ap (λ q. reply t q) (sym question) in
       pushed c.note.result t c.args.self.now.trail c.note.new.trail c.question_on-question.result (Flag c.in_ok-b.b) c.note.ensures.ok c.note.ensures.refused (c.args.self.now.agrees t before) value;
 }
