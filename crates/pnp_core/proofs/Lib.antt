@@ -8,3 +8,4 @@ pub mod Normal
 pub mod Relocations
 pub mod Hydrations
 pub mod PathForms
+pub mod OnTrees

@@ -12,6 +12,6 @@ pub mod Wording
 pub mod Relocated
 pub mod Refusal
 pub mod Nearest
-pub mod Hydration
 pub mod Loading
+pub mod OnTree
 pub mod Laws

@@ -8,13 +8,19 @@ use Rattle.pnp_core.specs.ManifestReading.{reading}
 use Rattle.pnp_core.specs.Refusal.{Refusal, NoManifest}
 use Rattle.pnp_core.specs.Wording.{failed_hydration}
 
--- a manifest, or the refusal of the file at a path
+-- the bytes at the path are read, and say the rest: a manifest, or the cause why the file is none
+unfoldable pub loading : Path → Plan (Result Contents HydrationCause)
+loading p = do
+  content ← read p
+  Done (reading content p)
+
+-- a manifest, or the refusal of the file at a path, in Yarn's words
 abbrev pub or_refused : Path → Result Contents HydrationCause → Result Contents Refusal
 or_refused p (Ok m) = Ok m
 or_refused p (Err cause) = Err (NoManifest (failed_hydration cause p))
 
--- the bytes at the path are read, and say the rest
-unfoldable pub loading : Path → Plan (Result Contents Refusal)
-loading p = do
-  content ← read p
-  Done (or_refused p (reading content p))
+-- the same, where a cause is told in Yarn's words
+unfoldable pub told_loading : Path → Plan (Result Contents Refusal)
+told_loading p = do
+  result ← loading p
+  Done (or_refused p result)

@@ -30,3 +30,17 @@ carries NoMemory = refl
 -- this crate's errors over a tree
 abbrev pub pnp : Layer Error Refusal
 pnp = record { kind = kind; into = into; carries = carries }
+
+-- the errors of a call that only the tree, or want of memory, breaks off
+abbrev pub IsOfTree : Error → Type 0
+IsOfTree (error.BadSpecifier refused) = ⊥
+IsOfTree (error.FailedManifestHydration refused) = ⊥
+IsOfTree error.TreeFault = Unit {0}
+IsOfTree error.NoMemory = Unit {0}
+
+-- the errors of a call that reads a manifest
+abbrev pub IsOfManifest : Error → Type 0
+IsOfManifest (error.BadSpecifier refused) = ⊥
+IsOfManifest (error.FailedManifestHydration refused) = Unit {0}
+IsOfManifest error.TreeFault = Unit {0}
+IsOfManifest error.NoMemory = Unit {0}

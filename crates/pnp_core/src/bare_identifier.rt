@@ -8,17 +8,30 @@ use std::alloc::{AllocError, Global};
 use sugar_path::Text;
 
 /// The package name of a bare specifier, and its subpath, which is all that follows the name's `/`.
-/// `BadSpecifier` comes for a scope alone, as `@scope`.
+/// `BadSpecifier` comes for a scope alone, as `@scope`. No other error comes but want of memory.
 pub fn parse_bare_identifier(alloc: Global, specifier: &str) -> Result<(Text, Option<Text>), Error>
     ensures split { IfOk result (λ split. split_bare specifier.now ≡ Some split) }
     ensures refused { IfErr result (IsSplitRefusal specifier.now) }
 {
+    match split_bare_identifier(alloc, specifier)? {
+        Some(split) => Ok(split),
+        None => Err(Error::BadSpecifier(refused_specifier(alloc, specifier)?)),
+    }
+}
+
+/// The package name of a bare specifier, and its subpath; None for a scope alone.
+pub fn split_bare_identifier(
+    alloc: Global,
+    specifier: &str,
+) -> Result<Option<(Text, Option<Text>)>, AllocError>
+    ensures { IfOk result (λ split. split ≡ split_bare specifier.now) }
+{
     if !specifier.starts_with('@') {
-        return Ok(unscoped(alloc, specifier)?);
+        return Ok(Some(unscoped(alloc, specifier)?));
     }
     match specifier.split_once('/') {
-        Some((scope, rest)) => Ok(scoped(alloc, scope, rest)?),
-        None => Err(Error::BadSpecifier(refused_specifier(alloc, specifier)?)),
+        Some((scope, rest)) => Ok(Some(scoped(alloc, scope, rest)?)),
+        None => Ok(None),
     }
 }
 

@@ -85,10 +85,7 @@ fn may_fall_back(manifest: &Manifest, owner: &PackageLocator) -> bool
 fn fallback<'a>(alloc: Global, manifest: &'a Manifest, name: &Text) -> Option<&'a PackageDependency>
     ensures { option_copied result ≡ fallback manifest.now name.now }
 {
-    let top_level = PackageLocator {
-        name: Text::from(String::new(alloc)),
-        reference: Text::from(String::new(alloc)),
-    };
+    let top_level = PackageLocator::top_level(alloc);
     match given(own_dependency(manifest, &top_level, name)) {
         Some(dependency) => Some(dependency),
         None => given(manifest.fallback_pool.get(name)),

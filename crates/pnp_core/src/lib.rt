@@ -20,7 +20,7 @@ mod registry;
 mod trie;
 mod undeclared;
 
-pub use bare_identifier::parse_bare_identifier;
+pub use bare_identifier::{parse_bare_identifier, split_bare_identifier};
 pub use binding::{binding_of, is_settled};
 pub use error::{
     BadSpecifier, Error, FailedManifestHydration, HydrationCause, ReadManifestError,

@@ -1,14 +1,14 @@
 // The manifest that a file of a tree is.
-ghost use Rattle.std.specs.Prelude.{◌≡◌, Some, Ok, Err, IfOk};
+ghost use Rattle.std.specs.Prelude.{◌≡◌, Some, IfOk, IfErr};
 ghost use Rattle.serde_json.specs.View.{view};
 ghost use Rattle.sugar_path.specs.Path.{IsCleanPath, path_in};
 ghost use Rattle.tree_core.specs.Asks.{Asks, seen};
-ghost use Rattle.pnp_core.specs.Hydration.{IsRefusedFor, IsHydrated};
-ghost use Rattle.pnp_core.specs.Loading.{loading};
+ghost use Rattle.tree_core.specs.Resolving.{Resolves, IsDecided};
+ghost use Rattle.pnp_core.specs.Loading.{loading, told_loading};
 ghost use Rattle.pnp_core.specs.Manifest.{top_level};
 ghost use Rattle.pnp_core.specs.ManifestReading.{reading, from_text, from_payload, from_fields, with_top_level, manifest_in};
 ghost use Rattle.pnp_core.specs.Owner.{IsReady};
-ghost use Rattle.pnp_core.specs.Refusal.{pnp};
+ghost use Rattle.pnp_core.specs.Refusal.{pnp, IsOfManifest};
 ghost use Rattle.pnp_core.specs.Wording.{cause_message};
 ghost use Rattle.pnp_core.specs.Wording as wording;
 
@@ -19,34 +19,42 @@ use crate::{
 use serde_json::Value;
 use std::alloc::{AllocError, Global};
 use sugar_path::{Bytes, CleanPath, Text};
-use tree_core::{Asker, Recorder, Tree};
+use tree_core::{Asker, Recorder, ResolveError, Tree};
 
-/// The manifest that the file at a path is: a ready one, or a refusal with its cause. Its bytes are read from the tree.
-pub fn loaded_manifest<R: Asker>(
-    alloc: Global,
-    tree: &mut R,
-    manifest: &CleanPath,
-) -> Result<Manifest, Error>
-    ensures asks { Asks (R.asking tree.old) (R.asking tree.new) (seen pnp result) (loading manifest.now) }
-    ensures ready { IfOk result IsReady }
-{
-    let content = tree.read(manifest)?;
-    manifest_of_content(alloc, &content, manifest)
-}
-
-/// The manifest that the file at a path is: a ready one, or `FailedManifestHydration` with its cause.
-/// The path is a clean absolute text.
+/// The manifest that the file at a path is: a ready one, or `FailedManifestHydration` with its cause in Yarn's words.
+/// The path is a clean absolute text other than `/`. The other errors are the tree's.
 pub fn load_pnp_manifest<'t, T: Tree>(
     alloc: Global,
     tree: &mut Recorder<'t, T>,
     p: &str,
 ) -> Result<Manifest, Error>
     requires { IsCleanPath p.now }
-    ensures asks { Asks (⟦<Recorder<'t, T> as Asker>⟧.asking tree.old) (⟦<Recorder<'t, T> as Asker>⟧.asking tree.new) (seen pnp result) (loading (path_in p.now)) }
+    ensures asks { Asks (⟦<Recorder<'t, T> as Asker>⟧.asking tree.old) (⟦<Recorder<'t, T> as Asker>⟧.asking tree.new) (seen pnp result) (told_loading (path_in p.now)) }
     ensures ready { IfOk result IsReady }
+    ensures errors { IfErr result IsOfManifest }
 {
     let path = CleanPath::of(alloc, p)?;
-    loaded_manifest(alloc, tree, &path)
+    match loaded_manifest(alloc, tree, &path) {
+        Ok(manifest) => Ok(manifest),
+        Err(ResolveError::Refused(cause)) => Err(Error::FailedManifestHydration(
+            failed_hydration(alloc, cause, &path)?,
+        )),
+        Err(ResolveError::TreeFault) => Err(Error::TreeFault),
+        Err(ResolveError::NoMemory) => Err(Error::NoMemory),
+    }
+}
+
+/// The manifest that the file at a path is: a ready one, or the cause why it is none. Its bytes are read from the tree.
+pub fn loaded_manifest<R: Asker>(
+    alloc: Global,
+    tree: &mut R,
+    manifest: &CleanPath,
+) -> Result<Manifest, ResolveError<HydrationCause>>
+    ensures asks { Resolves (R.asking tree.old) (R.asking tree.new) result (loading manifest.now) }
+    ensures ready { IfOk result IsReady }
+{
+    let content = tree.read(manifest)?;
+    manifest_of_content(alloc, &content, manifest)
 }
 
 // The manifest that the content of a file is.
@@ -54,84 +62,85 @@ fn manifest_of_content(
     alloc: Global,
     content: &Option<Bytes>,
     path: &CleanPath,
-) -> Result<Manifest, Error>
-    ensures { IsHydrated path.now (reading content.now path.now) result }
+) -> Result<Manifest, ResolveError<HydrationCause>>
+    ensures decided { IsDecided result (reading content.now path.now) }
+    ensures ready { IfOk result IsReady }
 {
     let Some(bytes) = content else {
-        return Err(refused(alloc, HydrationCause::NotText, path));
+        return Err(ResolveError::Refused(HydrationCause::NotText));
     };
     match str::from_utf8(bytes.as_slice()) {
         Ok(text) => manifest_of_text(alloc, text, path),
-        Err(_) => Err(refused(alloc, HydrationCause::NotText, path)),
+        Err(_) => Err(ResolveError::Refused(HydrationCause::NotText)),
     }
 }
 
 // The manifest whose payload a text has.
-fn manifest_of_text(alloc: Global, text: &str, path: &CleanPath) -> Result<Manifest, Error>
-    ensures { IsHydrated path.now (from_text path.now text.now) result }
+fn manifest_of_text(
+    alloc: Global,
+    text: &str,
+    path: &CleanPath,
+) -> Result<Manifest, ResolveError<HydrationCause>>
+    ensures decided { IsDecided result (from_text path.now text.now) }
+    ensures ready { IfOk result IsReady }
 {
     match payload_of(alloc, text)? {
         Some(payload) => manifest_of_payload(alloc, payload.as_str(), path),
-        None => Err(refused(alloc, HydrationCause::NoPayload, path)),
+        None => Err(ResolveError::Refused(HydrationCause::NoPayload)),
     }
 }
 
 // The manifest that a payload says.
-fn manifest_of_payload(alloc: Global, payload: &str, path: &CleanPath) -> Result<Manifest, Error>
-    ensures { IsHydrated path.now (from_payload path.now (Some payload.now)) result }
+fn manifest_of_payload(
+    alloc: Global,
+    payload: &str,
+    path: &CleanPath,
+) -> Result<Manifest, ResolveError<HydrationCause>>
+    ensures decided { IsDecided result (from_payload path.now (Some payload.now)) }
+    ensures ready { IfOk result IsReady }
 {
     match Value::from_str(alloc, payload) {
         Ok(value) => manifest_of_value(alloc, &value, path),
         Err(e) => {
             if e.is_memory() {
-                return Err(Error::NoMemory);
+                return Err(ResolveError::NoMemory);
             }
-            Err(refused(alloc, HydrationCause::BadJson, path))
+            Err(ResolveError::Refused(HydrationCause::BadJson))
         }
     }
 }
 
 // The manifest that a JSON value says.
-fn manifest_of_value(alloc: Global, value: &Value, path: &CleanPath) -> Result<Manifest, Error>
-    ensures { IsHydrated path.now (from_fields path.now (manifest_in (view value.now))) result }
+fn manifest_of_value(
+    alloc: Global,
+    value: &Value,
+    path: &CleanPath,
+) -> Result<Manifest, ResolveError<HydrationCause>>
+    ensures decided { IsDecided result (from_fields path.now (manifest_in (view value.now))) }
+    ensures ready { IfOk result IsReady }
 {
     match read_manifest(alloc, value) {
         Ok(manifest) => initialized(alloc, manifest, path),
-        Err(ReadManifestError::BadJson) => Err(refused(alloc, HydrationCause::BadJson, path)),
-        Err(ReadManifestError::NoMemory) => Err(Error::NoMemory),
+        Err(ReadManifestError::BadJson) => Err(ResolveError::Refused(HydrationCause::BadJson)),
+        Err(ReadManifestError::NoMemory) => Err(ResolveError::NoMemory),
     }
 }
 
 // A manifest that was read, at the path of its file.
-fn initialized(alloc: Global, manifest: Manifest, path: &CleanPath) -> Result<Manifest, Error>
-    ensures { IsHydrated path.now (with_top_level path.now manifest) result }
+fn initialized(
+    alloc: Global,
+    manifest: Manifest,
+    path: &CleanPath,
+) -> Result<Manifest, ResolveError<HydrationCause>>
+    ensures decided { IsDecided result (with_top_level path.now manifest) }
+    ensures ready { IfOk result IsReady }
 {
     let mut manifest = manifest;
-    if !has_package(&manifest, &top_level_package(alloc)) {
-        return Err(refused(alloc, HydrationCause::NoTopLevel, path));
+    if !has_package(&manifest, &PackageLocator::top_level(alloc)) {
+        return Err(ResolveError::Refused(HydrationCause::NoTopLevel));
     }
     init_pnp_manifest(alloc, &mut manifest, path.as_str())?;
     Ok(manifest)
-}
-
-// The locator of the top-level package.
-fn top_level_package(alloc: Global) -> PackageLocator
-    ensures { result ≡ top_level }
-{
-    PackageLocator {
-        name: Text::from(String::new(alloc)),
-        reference: Text::from(String::new(alloc)),
-    }
-}
-
-// The refusal of the file at a path.
-fn refused(alloc: Global, cause: HydrationCause, path: &CleanPath) -> Error
-    ensures { IsRefusedFor path.now cause result }
-{
-    match failed_hydration(alloc, cause, path) {
-        Ok(failed) => Error::FailedManifestHydration(failed),
-        Err(_) => Error::NoMemory,
-    }
 }
 
 // What is told of a file that is no manifest.

@@ -1,6 +1,7 @@
 // A manifest, as its payload says it.
 use crate::Trie;
 use indexmap::{IndexMap, IndexSet};
+use std::alloc::{AllocError, Global};
 use std::marker::Model;
 use sugar_path::Text;
 
@@ -9,6 +10,31 @@ use sugar_path::Text;
 pub struct PackageLocator {
     pub name: Text,
     pub reference: Text,
+}
+
+impl PackageLocator {
+    ghost use Rattle.std.specs.Prelude.{◌≡◌, IfOk};
+    ghost use Rattle.pnp_core.specs.Manifest.{top_level};
+
+    /// The locator of the top-level package. It takes no memory.
+    pub fn top_level(alloc: Global) -> PackageLocator
+        ensures { result ≡ top_level }
+    {
+        PackageLocator {
+            name: Text::from(String::new(alloc)),
+            reference: Text::from(String::new(alloc)),
+        }
+    }
+
+    /// An equal locator.
+    pub fn try_clone(&self, alloc: Global) -> Result<PackageLocator, AllocError>
+        ensures { IfOk result (λ copy. copy ≡ self.now) }
+    {
+        Ok(PackageLocator {
+            name: self.name.try_clone(alloc)?,
+            reference: self.reference.try_clone(alloc)?,
+        })
+    }
 }
 
 /// What a name is bound to: a reference of the package of that name, or a package of another name.

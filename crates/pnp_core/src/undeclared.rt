@@ -34,10 +34,7 @@ pub fn undeclared_of(
         message: Text::from(message),
         request: Text::of(alloc, specifier)?,
         dependency_name: Text::of(alloc, name)?,
-        issuer_locator: PackageLocator {
-            name: owner.name.try_clone(alloc)?,
-            reference: owner.reference.try_clone(alloc)?,
-        },
+        issuer_locator: owner.try_clone(alloc)?,
         issuer_path: Text::of(alloc, issuer_path)?,
     })
 }

@@ -1,5 +1,6 @@
 -- The first of a list of paths that a tree has, and the questions up to it, as plain functions of the tree.
-use Rattle.std.specs.Prelude.{Bool, ◌||◌, cond, List, [], ◌∷◌, Option, Some, None}
+use Rattle.std.specs.Prelude.{Bool, ◌||◌, cond, ℕ, List, [], ◌∷◌, Option, Some, None, option_map}
+use Rattle.std.specs.FinMap.{get}
 use Rattle.tree_core.specs.declared.question.Question.{Question}
 use Rattle.tree_core.specs.declared.question.Question.TheVariants.{File, Exists}
 use Rattle.sugar_path.specs.Path.{Path, text_of}
@@ -30,3 +31,7 @@ first_there t (p ∷ ps) = cond (is_there t p) (Some p) (first_there t ps)
 abbrev pub up_to_first_there : Files → List Path → List Question
 up_to_first_there t [] = []
 up_to_first_there t (p ∷ ps) = Exists (text_of p) ∷ cond (is_there t p) [] (up_to_first_there t ps)
+
+-- the bytes of a file
+abbrev pub content_of : Files → Path → Option (List ℕ)
+content_of t p = option_map (λ f. f.content) (get t (text_of p))

@@ -2,6 +2,7 @@ pub mod Question
 pub mod Tree
 pub mod Plan
 pub mod Asks
+pub mod Resolving
 pub mod First
 pub mod Recorder
 pub mod RecorderView

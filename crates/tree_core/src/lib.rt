@@ -7,6 +7,7 @@ mod failing;
 mod memory;
 mod question;
 mod recorder;
+mod resolve_error;
 #[cfg(test)]
 mod tests;
 mod trail;
@@ -18,5 +19,6 @@ pub use failing::FailingTree;
 pub use memory::{MemoryTree, PutError};
 pub use question::{Question, Reply};
 pub use recorder::Recorder;
+pub use resolve_error::ResolveError;
 pub use trail::Trail;
 pub use tree::{ReadError, Tree, TreeFile};

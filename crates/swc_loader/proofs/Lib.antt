@@ -1,0 +1,4 @@
+pub mod Naming
+pub mod Firsts
+pub mod Shapes
+pub mod Searches

@@ -1,0 +1,106 @@
+-- Names with endings are names, and what the last dot of a name cuts.
+use Rattle.std.proofs.Common.{◌≡◌, ◌≢◌, ◌==◌, ◌&&◌, ◌<◌, ◌≤◌, ◌+◌, ◌-◌, ◌⊎◌, inl, inr, ℕ, zero, suc, Bool, true, false, not, cond, IsTrue, List, [], ◌∷◌, ◌++◌, length, get_or, take, drop, bytes_eq, refl, sym, ap, ◌∙◌, subst, arith, eqb-true}
+use Rattle.std.specs.List.{list_any, slice_range, suffix_len, before_last, after_last}
+use Rattle.std.proofs.lemmas.Bool.Decides.{eqb_tells}
+use Rattle.std.proofs.lemmas.List.Folds.{list_any_at}
+use Rattle.std.proofs.lemmas.List.Sums.{suffix_len_is}
+use Rattle.sugar_path.specs.Path.{has_no_slash, is_name, IsName}
+use Rattle.sugar_path.proofs.Bools.{and_left, and_right}
+use Rattle.swc_loader.specs.Endings.{is_ending}
+use Rattle.swc_loader.specs.Candidates.{is_dot, has_extension, extension, stem}
+
+-- text without a slash, in two parts
+pub has_no_slash-append : (n e : List ℕ) → has_no_slash n ≡ true → has_no_slash e ≡ true → has_no_slash (n ++ e) ≡ true
+has_no_slash-append [] e hn he = he
+has_no_slash-append (c ∷ cs) e hn he = rw (and_left (not (c == 47)) _ hn) (has_no_slash-append cs e (and_right (not (c == 47)) _ hn) he)
+
+-- an ending has no slash
+pub has_no_slash-ending : (e : List ℕ) → is_ending e ≡ true → has_no_slash e ≡ true
+has_no_slash-ending [] h = refl
+has_no_slash-ending (a ∷ []) h = cc
+has_no_slash-ending (a ∷ b ∷ cs) h =
+    let dot : a ≡ 46 = eqb-true a 46 (and_left (a == 46) _ (and_left ((a == 46) && not (b == 46)) (has_no_slash (b ∷ cs)) h)) in
+    rw dot (and_right ((a == 46) && not (b == 46)) (has_no_slash (b ∷ cs)) h)
+
+never : (a b : Bool) → (a && (b && false)) ≡ false
+never true true = refl
+never true false = refl
+never false b = refl
+
+-- three bytes and more are neither empty nor one dot nor two
+long_name : (a b c : ℕ) (cs : List ℕ) → has_no_slash (a ∷ b ∷ c ∷ cs) ≡ true → IsName (a ∷ b ∷ c ∷ cs)
+long_name a b c cs h = by_first (a == 46) (b == 46) refl refl
+  where
+    by_first : (x y : Bool) → (a == 46) ≡ x → (b == 46) ≡ y → IsName (a ∷ b ∷ c ∷ cs)
+    by_first true true p q = rw (p, q) h
+    by_first true false p q = rw (p, q) h
+    by_first false y p q = rw p h
+
+pub is_false : (b : Bool) → not b ≡ true → b ≡ false
+is_false true h = cc
+is_false false h = refl
+
+pub is_true : (b : Bool) → not b ≡ false → b ≡ true
+is_true true h = refl
+is_true false h = cc
+
+-- a base without a slash with an ending is a name
+pub is_name-ending : (n e : List ℕ) → has_no_slash n ≡ true → is_ending e ≡ true → IsName (n ++ e)
+is_name-ending [] [] hn he = cc
+is_name-ending [] (a ∷ []) hn he = cc
+is_name-ending [] (a ∷ b ∷ cs) hn he =
+    let first = and_left ((a == 46) && not (b == 46)) (has_no_slash (b ∷ cs)) he in
+    let dot : a ≡ 46 = eqb-true a 46 (and_left (a == 46) _ first) in
+    let other : (b == 46) ≡ false = is_false (b == 46) (and_right (a == 46) _ first) in
+    rw (dot, other) (and_right ((a == 46) && not (b == 46)) (has_no_slash (b ∷ cs)) he)
+is_name-ending (c ∷ []) [] hn he = cc
+is_name-ending (c ∷ []) (a ∷ []) hn he = cc
+is_name-ending (c ∷ []) (a ∷ b ∷ cs) hn he = long_name c a b cs (has_no_slash-append (c ∷ []) (a ∷ b ∷ cs) hn (has_no_slash-ending (a ∷ b ∷ cs) he))
+is_name-ending (c ∷ d ∷ []) [] hn he = cc
+is_name-ending (c ∷ d ∷ []) (a ∷ as') hn he = long_name c d a as' (has_no_slash-append (c ∷ d ∷ []) (a ∷ as') hn (has_no_slash-ending (a ∷ as') he))
+is_name-ending (c ∷ d ∷ x ∷ xs) e hn he = long_name c d x (xs ++ e) (has_no_slash-append (c ∷ d ∷ x ∷ xs) e hn (has_no_slash-ending e he))
+
+-- a name's text has no slash
+pub no_slash-of_name : (n : List ℕ) → IsName n → has_no_slash n ≡ true
+no_slash-of_name n h = and_right (not (bytes_eq n []) && not (bytes_eq n (46 ∷ [])) && not (bytes_eq n (46 ∷ 46 ∷ []))) (has_no_slash n) h
+
+pub no_slash-take : (k : ℕ) (n : List ℕ) → has_no_slash n ≡ true → has_no_slash (take k n) ≡ true
+no_slash-take zero n h = refl
+no_slash-take (suc k) [] h = refl
+no_slash-take (suc k) (c ∷ cs) h = rw (and_left (not (c == 47)) _ h) (no_slash-take k cs (and_right (not (c == 47)) _ h))
+
+not_eq : (a b : ℕ) → a ≢ b → (a == b) ≡ false
+not_eq a b h = elim (eqb_tells a b) [ inl w ↦ absurd (h w.1) | inr w ↦ w.0 ]
+
+-- The dot at k is the last one of a name: what stands before it is the stem, and what follows it the extension.
+dots_after : (n : List ℕ) (k : ℕ) → k < length n → get_or n k 0 ≡ 46 → ((i : ℕ) → k < i → i < length n → get_or n i 0 ≢ 46) → suffix_len (λ c. not (is_dot c)) n ≡ length n - (k + 1)
+dots_after n k lt at after = suffix_len_is (λ c. not (is_dot c)) n (k + 1) 0 (omega arith) (λ i above below. ap not (not_eq (get_or n i 0) 46 (after i (omega arith) below))) (λ _. last ((k + 1) - 1) (omega arith))
+  where
+    last : (j : ℕ) → j ≡ k → not (is_dot (get_or n j 0)) ≡ false
+    last j is = rw (is, at) refl
+
+pub stem_is : (n : List ℕ) (k : ℕ) → k < length n → get_or n k 0 ≡ 46 → ((i : ℕ) → k < i → i < length n → get_or n i 0 ≢ 46) → slice_range n 0 k ≡ stem n
+stem_is n k lt at after =
+    let len : k - 0 ≡ length n - suffix_len (λ c. not (is_dot c)) n - 1 = omega (arith, dots_after n k lt at after) in
+    ap (λ j. take j n) len
+
+pub extension_is : (n : List ℕ) (k : ℕ) → k < length n → get_or n k 0 ≡ 46 → ((i : ℕ) → k < i → i < length n → get_or n i 0 ≢ 46) → drop (k + 1) n ≡ extension n
+extension_is n k lt at after =
+    let len : k + 1 ≡ length n - suffix_len (λ c. not (is_dot c)) n = omega (arith, dots_after n k lt at after) in
+    ap (λ j. drop j n) len
+
+pub has_extension-dot : (n : List ℕ) (k : ℕ) → 0 < k → k < length n → get_or n k 0 ≡ 46 → has_extension n ≡ true
+has_extension-dot [] k pos lt at = absurd (omega arith)
+has_extension-dot (c ∷ cs) zero pos lt at = absurd (omega arith)
+has_extension-dot (c ∷ cs) (suc k) pos lt at = list_any_at is_dot cs k 0 (omega arith) (rw at refl)
+
+none_any : (cs : List ℕ) → ((i : ℕ) → i < length cs → get_or cs i 0 ≢ 46) → list_any is_dot cs ≡ false
+none_any [] h = refl
+none_any (c ∷ cs) h = rw (not_eq c 46 (h 0 (omega arith)), none_any cs (λ i lt. h (suc i) (omega arith))) refl
+
+pub has_extension-none : (n : List ℕ) → ((i : ℕ) → 0 < i → i < length n → get_or n i 0 ≢ 46) → has_extension n ≡ false
+has_extension-none [] h = refl
+has_extension-none (c ∷ cs) h = none_any cs (λ i lt. h (suc i) (omega arith) (omega arith))
+
+pub no_slash-stem : (n : List ℕ) → IsName n → has_no_slash (stem n) ≡ true
+no_slash-stem n h = no_slash-take (length n - suffix_len (λ c. not (is_dot c)) n - 1) n (no_slash-of_name n h)

@@ -1,0 +1,46 @@
+-- The shape of a text's parts, one more at a time.
+use Rattle.std.proofs.Common.{◌≡◌, ℕ, Bool, true, false, cond, List, [], ◌∷◌, ◌++◌, Option, Some, None, refl, sym, ap, ◌∙◌, not, ◌&&◌, bytes_eq, map, Bor, zero, suc, ◌+◌, ◌<◌, ◌≤◌, length, take, get_or, subst, add-one, arith, take_all}
+use Rattle.std.proofs.lemmas.List.{length-map}
+use Rattle.std.specs.List.{filter, last_or}
+use Rattle.swc_loader.specs.Candidates.{is_step, is_named_by, is_closed_by}
+
+-- what borrowed texts are
+abbrev pub texts_of : List (Bor (List ℕ)) → List (List ℕ)
+texts_of xs = map (λ x. x.now) xs
+
+pub record ShapeOf (n c : Bool) (parts : List (List ℕ)) : Type 0 where
+  pub named : n ≡ is_named_by (last_or None (filter is_step parts))
+  pub closed : c ≡ is_closed_by (last_or None parts)
+
+last_or-one_more : {A : Type 0} (o : Option A) (xs : List A) (x : A) → last_or o (xs ++ x ∷ []) ≡ Some x
+last_or-one_more o [] x = refl
+last_or-one_more o (y ∷ ys) x = last_or-one_more (Some y) ys x
+
+filter-one_more : (parts : List (List ℕ)) (x : List ℕ) (b : Bool) → is_step x ≡ b → filter is_step (parts ++ x ∷ []) ≡ cond b (filter is_step parts ++ x ∷ []) (filter is_step parts)
+filter-one_more [] x true is = rw is refl
+filter-one_more [] x false is = rw is refl
+filter-one_more (p ∷ ps) x b is = by_first (is_step p) b (filter-one_more ps x b is)
+  where
+    by_first : (a b : Bool) → filter is_step (ps ++ x ∷ []) ≡ cond b (filter is_step ps ++ x ∷ []) (filter is_step ps)
+        → cond a (p ∷ filter is_step (ps ++ x ∷ [])) (filter is_step (ps ++ x ∷ [])) ≡ cond b (cond a (p ∷ filter is_step ps) (filter is_step ps) ++ x ∷ []) (cond a (p ∷ filter is_step ps) (filter is_step ps))
+    by_first true true rest = ap (λ r. p ∷ r) rest
+    by_first true false rest = ap (λ r. p ∷ r) rest
+    by_first false true rest = rest
+    by_first false false rest = rest
+
+-- one more part: a step names or not, and any part closes or not
+pub one_more_part : (n c : Bool) (parts : List (List ℕ)) (x : List ℕ) (c' n' : Bool) → ShapeOf n c parts → c' ≡ is_closed_by (Some x) → n' ≡ cond (is_step x) c' n → ShapeOf n' c' (parts ++ x ∷ [])
+one_more_part n c parts x c' n' h closed named = record { named = by_step (is_step x) refl; closed = closed ∙ ap is_closed_by (sym (last_or-one_more None parts x)) }
+  where
+    by_step : (b : Bool) → is_step x ≡ b → n' ≡ is_named_by (last_or None (filter is_step (parts ++ x ∷ [])))
+    by_step true is = rw (filter-one_more parts x true is, last_or-one_more {A = List ℕ} None (filter is_step parts) x) ((rw is at named) ∙ (rw is at closed))
+    by_step false is = rw (filter-one_more parts x false is) ((rw is at named) ∙ h.named)
+
+pub texts_more : (xs : List (Bor (List ℕ))) (i : ℕ) (d : Bor (List ℕ)) → i < length xs → take (i + 1) (texts_of xs) ≡ take i (texts_of xs) ++ (get_or xs i d).now ∷ []
+texts_more [] i d lt = absurd (omega arith)
+texts_more (x ∷ xs) zero d lt = refl
+texts_more (x ∷ xs) (suc i) d lt = let P : ℕ → Type 0 = λ n. take n (texts_of (x ∷ xs)) ≡ take (suc i) (texts_of (x ∷ xs)) ++ (get_or (x ∷ xs) (suc i) d).now ∷ [] in
+    subst P (sym (add-one (suc i))) (ap (λ ys. x.now ∷ ys) (subst (λ (n : ℕ). take n (texts_of xs) ≡ take i (texts_of xs) ++ (get_or xs i d).now ∷ []) (add-one i) (texts_more xs i d (omega arith))))
+
+pub texts_all : (xs : List (Bor (List ℕ))) (i : ℕ) → length xs ≤ i → take i (texts_of xs) ≡ texts_of xs
+texts_all xs i le = take_all i (texts_of xs) (omega (arith, length-map xs (λ (x : Bor (List ℕ)). x.now)))

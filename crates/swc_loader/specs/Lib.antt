@@ -1,0 +1,4 @@
+pub mod Endings
+pub mod Candidates
+pub mod Search
+pub mod SearchOnTree

@@ -1,0 +1,165 @@
+// File candidates: the paths at which the text of a specifier may be a file, tried one after the other.
+ghost use Rattle.std.specs.Prelude.{◌≡◌, ◌++◌, ◌∷◌, ◌&&◌, Bool, List, ℕ, true, false, map, None, MatchOption, IsTrue, IfOk};
+ghost use Rattle.sugar_path.specs.Path.{IsName, has_no_slash};
+ghost use Rattle.tree_core.specs.Asks.{Asks};
+ghost use Rattle.tree_core.specs.Plan.{first_file};
+ghost use Rattle.swc_loader.specs.Candidates.{has_extension, extension, stem, endings, source_endings, with_endings, itself, names_with_extension, names_without_extension, in_folder, candidates_at};
+ghost use Rattle.swc_loader.specs.Endings.{is_ending, AreEndings};
+
+use std::alloc::{AllocError, Global};
+use sugar_path::CleanPath;
+use tree_core::{Asker, ReadError};
+
+// The first file candidate of a name in its folder that is a file. One candidate is built after the other.
+pub(crate) fn candidate_file<R: Asker>(
+    alloc: Global,
+    tree: &mut R,
+    folder: &CleanPath,
+    name: &str,
+    closed: bool,
+) -> Result<Option<CleanPath>, ReadError>
+    requires { IsName name.now }
+    ensures { Asks (R.asking tree.old) (R.asking tree.new) result (first_file (candidates_at (name.now ∷ folder.now) closed)) }
+{
+    match split_extension(name) {
+        Some((stem, extension)) => {
+            with_extension(alloc, tree, folder, name, closed, stem, extension)
+        }
+        None => without_extension(alloc, tree, folder, name, closed),
+    }
+}
+
+// The candidates of a name that has an extension.
+fn with_extension<R: Asker>(
+    alloc: Global,
+    tree: &mut R,
+    folder: &CleanPath,
+    name: &str,
+    closed: bool,
+    stem: &str,
+    extension: &str,
+) -> Result<Option<CleanPath>, ReadError>
+    requires name { IsName name.now }
+    requires stem { IsTrue (has_no_slash stem.now) }
+    ensures { Asks (R.asking tree.old) (R.asking tree.new) result (first_file (in_folder folder.now (names_with_extension name.now closed stem.now extension.now))) }
+{
+    if let Some(file) = itself_if_closed(alloc, tree, folder, name, closed)? {
+        return Ok(Some(file));
+    }
+    if let Some(file) = first_with_ending(alloc, tree, folder, name, endings_of_files())? {
+        return Ok(Some(file));
+    }
+    first_with_ending(alloc, tree, folder, stem, endings_of_sources(extension))
+}
+
+// The candidates of a name without an extension.
+fn without_extension<R: Asker>(
+    alloc: Global,
+    tree: &mut R,
+    folder: &CleanPath,
+    name: &str,
+    closed: bool,
+) -> Result<Option<CleanPath>, ReadError>
+    requires { IsName name.now }
+    ensures { Asks (R.asking tree.old) (R.asking tree.new) result (first_file (in_folder folder.now (names_without_extension name.now closed))) }
+{
+    let script = with_ending(alloc, folder, name, ".js")?;
+    if tree.is_file(&script)? {
+        return Ok(Some(script));
+    }
+    if let Some(file) = itself_if_closed(alloc, tree, folder, name, closed)? {
+        return Ok(Some(file));
+    }
+    first_with_ending(alloc, tree, folder, name, endings_of_files())
+}
+
+// The name itself, where the text is closed.
+fn itself_if_closed<R: Asker>(
+    alloc: Global,
+    tree: &mut R,
+    folder: &CleanPath,
+    name: &str,
+    closed: bool,
+) -> Result<Option<CleanPath>, ReadError>
+    requires { IsName name.now }
+    ensures { Asks (R.asking tree.old) (R.asking tree.new) result (first_file (in_folder folder.now (itself closed name.now))) }
+{
+    if !closed {
+        return Ok(None);
+    }
+    let candidate = folder.child(alloc, name)?;
+    if tree.is_file(&candidate)? {
+        return Ok(Some(candidate));
+    }
+    Ok(None)
+}
+
+// The first of a base with each ending that is a file.
+pub(crate) fn first_with_ending<R: Asker>(
+    alloc: Global,
+    tree: &mut R,
+    folder: &CleanPath,
+    base: &str,
+    endings: &[&str],
+) -> Result<Option<CleanPath>, ReadError>
+    requires base { IsTrue (has_no_slash base.now) }
+    requires endings { AreEndings (map (λ e. e.now) endings.now) }
+    ensures { Asks (R.asking tree.old) (R.asking tree.new) result (first_file (in_folder folder.now (with_endings base.now (map (λ e. e.now) endings.now)))) }
+{
+    for ending in endings {
+        let candidate = with_ending(alloc, folder, base, ending)?;
+        if tree.is_file(&candidate)? {
+            return Ok(Some(candidate));
+        }
+    }
+    Ok(None)
+}
+
+// A base with an ending, in a folder.
+fn with_ending(
+    alloc: Global,
+    folder: &CleanPath,
+    base: &str,
+    ending: &str,
+) -> Result<CleanPath, AllocError>
+    requires base { IsTrue (has_no_slash base.now) }
+    requires ending { IsTrue (is_ending ending.now) }
+    ensures { IfOk result (λ p. p ≡ (base.now ++ ending.now) ∷ folder.now) }
+{
+    let mut name = String::from_str(alloc, base)?;
+    name.push_str(ending)?;
+    folder.child(alloc, name.as_str())
+}
+
+// The stem and the extension of a name that has one.
+fn split_extension(name: &str) -> Option<(&str, &str)>
+    ensures { MatchOption result (has_extension name.now ≡ false) (λ x. (has_extension name.now ≡ true) × (x.0.now ≡ stem name.now) × (x.1.now ≡ extension name.now)) }
+{
+    match name.rfind('.') {
+        Some(dot) if dot > 0 => Some((&name[..dot], &name[dot + 1..])),
+        _ => None,
+    }
+}
+
+// The endings that a name is tried with.
+#[tactic(auto, unfolding(crate::specs::Candidates::endings))]
+pub(crate) fn endings_of_files() -> &'static [&'static str]
+    ensures list { map (λ e. e.now) result.now ≡ endings }
+    ensures endings { AreEndings (map (λ e. e.now) result.now) }
+{
+    &[".ts", ".tsx", ".js", ".jsx", ".node"]
+}
+
+// The endings of the sources that an extension stands for.
+#[tactic(auto, unfolding(crate::specs::Candidates::source_endings))]
+fn endings_of_sources(extension: &str) -> &'static [&'static str]
+    ensures sources { map (λ e. e.now) result.now ≡ source_endings extension.now }
+    ensures endings { AreEndings (map (λ e. e.now) result.now) }
+{
+    match extension {
+        "js" | "jsx" => &[".ts", ".tsx"],
+        "mjs" => &[".mts"],
+        "cjs" => &[".cts"],
+        _ => &[],
+    }
+}

@@ -1,0 +1,41 @@
+-- Searches that answer or refuse: how their errors are read, and what a step without questions comes to.
+use Rattle.std.specs.Prelude.{◌≡◌, Result, Ok, Err, refl}
+use Rattle.tree_core.specs.declared.tree.ReadError.{ReadError}
+use Rattle.tree_core.specs.declared.tree.ReadError.TheVariants.{Fault, NoMemory}
+use Rattle.tree_core.specs.declared.resolve_error.ResolveError.{ResolveError}
+use Rattle.tree_core.specs.declared.resolve_error.ResolveError.TheVariants as error
+use Rattle.tree_core.specs.Plan.{Plan, ◌>>=?◌}
+use Rattle.tree_core.specs.Asks.{Asking, Asks, Layer, seen}
+
+abbrev pub kind : {X : Type 0} → ResolveError X → Result X ReadError
+kind (error.Refused x) = Ok x
+kind error.TreeFault = Err Fault
+kind error.NoMemory = Err NoMemory
+
+abbrev pub into : {X : Type 0} → ReadError → ResolveError X
+into Fault = error.TreeFault
+into NoMemory = error.NoMemory
+
+abbrev pub carries : {X : Type 0} → (e : ReadError) → kind {X = X} (into e) ≡ Err e
+carries Fault = refl
+carries NoMemory = refl
+
+-- a refusal is an answer of the order; the other two errors come from the tree
+abbrev pub resolving : {X : Type 0} → Layer (ResolveError X) X
+resolving = record { kind = kind; into = into; carries = carries }
+
+-- A search by a plan that answers or refuses.
+abbrev pub Resolves : {A X : Type 0} → Asking → Asking → Result A (ResolveError X) → Plan (Result A X) → Type 0
+Resolves old new result plan = Asks old new (seen resolving result) plan
+
+-- A step that puts no question comes to this answer or refusal, unless memory is wanting.
+abbrev pub IsDecided : {A X : Type 0} → Result A (ResolveError X) → Result A X → Type 0
+IsDecided (Ok a) r = r ≡ Ok a
+IsDecided (Err (error.Refused x)) r = r ≡ Err x
+IsDecided (Err error.TreeFault) r = ⊥
+IsDecided (Err error.NoMemory) r = Unit {0}
+
+-- one step, and then what its answer gives: a refusal ends the order. A text by `do` over plans that may refuse reads so
+infixl 10 ◌>>=◌
+abbrev pub ◌>>=◌ : {A B X : Type 0} → Plan (Result A X) → (A → Plan (Result B X)) → Plan (Result B X)
+p >>= then = p >>=? then
