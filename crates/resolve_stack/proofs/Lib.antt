@@ -1,8 +1,5 @@
-pub mod Naming
-pub mod Firsts
-pub mod Shapes
-pub mod Bounds
+pub mod Faults
+pub mod Answered
 pub mod Locations
 pub mod OnTrees
-pub mod Below
 pub mod ThroughRows

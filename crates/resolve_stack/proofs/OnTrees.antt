@@ -1,49 +1,133 @@
--- The plans of the searches come to what the tree has.
-use Rattle.std.proofs.Common.{◌≡◌, ℕ, Bool, true, false, cond, List, [], ◌∷◌, Option, Some, None, refl, ap, ◌∙◌, map}
-use Rattle.sugar_path.specs.Path.{Path, clean, up, text_of}
+-- The plans of the order come to what the tree has, and put the questions that the laws say.
+use Rattle.std.proofs.Common.{◌≡◌, ℕ, Bool, true, false, cond, List, [], ◌∷◌, ◌++◌, Option, Some, None, Result, Ok, Err, refl, ap, ◌∙◌}
+use Rattle.sugar_path.specs.Path.{Path, clean, path_eq, text_of}
+use Rattle.tree_core.specs.declared.question.Question.{Question}
+use Rattle.tree_core.specs.declared.question.Question.TheVariants.{Canon}
 use Rattle.tree_core.specs.Tree.{Files}
-use Rattle.tree_core.specs.First.{is_key, first_key}
-use Rattle.tree_core.specs.Plan.{Plan, Done, answer, ◌>>=◌, file, read, first_file}
-use Rattle.tree_core.proofs.Asking.{answer-then, answer-done}
-use Rattle.tree_core.proofs.Firsts.{answer-first_file, answer-first_existing}
-use Rattle.pnp_core.specs.Nearest.{nearest, manifest_file}
-use Rattle.resolve_stack.specs.declared.search.Searched.{Searched}
-use Rattle.resolve_stack.specs.declared.search.Searched.TheVariants.{File, Entry}
-use Rattle.resolve_stack.specs.Candidates.{files}
-use Rattle.resolve_stack.specs.Search.{package_file, index_files, found_or_nothing, index, folder, or_else, place}
-use Rattle.resolve_stack.specs.OnTree.{folder_on, or_folder, place_on, nearest_on, content_on}
+use Rattle.tree_core.specs.Plan.{Plan, Done, answer, asked, ◌>>=?◌, on_ok, canon, ◌>>=◌}
+use Rattle.tree_core.proofs.Asking.{answer-then, asked-then, answer-done, asked-done}
+use Rattle.pnp_core.specs.Nearest.{nearest}
+use Rattle.pnp_core.specs.Loading.{loading}
+use Rattle.pnp_core.specs.OnTree.{nearest_on, nearest_asks}
+use Rattle.pnp_core.proofs.OnTrees.{answer-nearest, asked-nearest, answer-loading, asked-loading}
+use Rattle.swc_loader.specs.declared.resolution.Via.{Via}
+use Rattle.swc_loader.specs.Search.{folder, place}
+use Rattle.swc_loader.specs.SearchOnTree.{folder_on, place_on, folder_asks, place_asks}
+use Rattle.swc_loader.proofs.Searches.{folder_on_tree, place_on_tree}
+use Rattle.resolve_stack.specs.Settings.{ProjectSettings}
+use Rattle.resolve_stack.specs.Request.{Request}
+use Rattle.resolve_stack.specs.Rows.{readable, manifest_in, manifest_of, answer_through, answered}
+use Rattle.resolve_stack.specs.BoundSearch.{behind, searched, whole, inside, bound}
+use Rattle.resolve_stack.specs.Order.{join}
+use Rattle.resolve_stack.specs.Verdict.{verdict_of, verdict}
+use Rattle.resolve_stack.specs.OnTree.{asks_after, manifest_in_file, manifest_on, reading_asks, manifest_asks, bound_on, bound_asks, name_on, join_on, join_asks, VerdictOnTree, BoundOnTree}
+use Rattle.resolve_stack.specs.OnTree as on
 
-pub answer-file : (t : Files) (p : Path) → answer t (file p) ≡ is_key t p
-unfolding answer file
-answer-file t p = refl
+append_nothing : {A : Type 0} (xs : List A) → xs ++ [] ≡ xs
+append_nothing [] = refl
+append_nothing (x ∷ xs) = ap (λ ys. x ∷ ys) (append_nothing xs)
 
-pub answer-read : (t : Files) (p : Path) → answer t (read p) ≡ content_on t p
-unfolding answer read
-answer-read t p = refl
-
-answer-index : (t : Files) (d : Path) → answer t (index d) ≡ found_or_nothing (first_key t (index_files d))
-unfolding index
-answer-index t d = answer-then t (first_file (index_files d)) (λ found. Done (found_or_nothing found)) ∙ answer-done t _ ∙ ap found_or_nothing (answer-first_file t (index_files d))
-
--- the search of a folder comes to what the folder has
-pub answer-folder : (t : Files) (d : Path) → answer t (folder d) ≡ folder_on t d
-unfolding folder
-answer-folder t d = answer-then t (file (package_file d)) (λ there. cond there (Done Entry) (index d)) ∙ ap (λ there. answer t (cond there (Done Entry) (index d))) (answer-file t (package_file d)) ∙ by_test (is_key t (package_file d))
+-- a step of the order, and then the rest
+step : {A B X : Type 0} {r : Result A X} {f : A → Result B X} (t : Files) (p : Plan (Result A X)) (k : A → Plan (Result B X)) → answer t p ≡ r → ((a : A) → answer t (k a) ≡ f a) → answer t (p >>=? k) ≡ on.◌>>=◌ r f
+step {A = A} {B = B} {X = X} {r = r} {f = f} t p k is rest = answer-then t p (on_ok k) ∙ ap (λ a. answer t (on_ok k a)) is ∙ by_result r
   where
-    by_test : (b : Bool) → answer t (cond b (Done Entry) (index d)) ≡ cond b Entry (found_or_nothing (first_key t (index_files d)))
-    by_test true = answer-done t Entry
-    by_test false = answer-index t d
+    by_result : (r : Result A X) → answer t (on_ok k r) ≡ on.◌>>=◌ r f
+    by_result (Ok a) = rest a
+    by_result (Err x) = answer-done t (Err x)
 
--- the search of a place comes to the first file candidate that is a file, or to what the folder has
-pub answer-place : (t : Files) (cwd : Path) (text : List ℕ) → answer t (place cwd text) ≡ place_on t cwd text
-unfolding place
-answer-place t cwd text = answer-then t (first_file (files cwd text)) (λ found. or_else found (folder (clean cwd text))) ∙ ap (λ found. answer t (or_else found (folder (clean cwd text)))) (answer-first_file t (files cwd text)) ∙ by_found (first_key t (files cwd text))
+step_asks : {A B X : Type 0} {r : Result A X} {questions : List Question} {f : A → List Question} (t : Files) (p : Plan (Result A X)) (k : A → Plan (Result B X)) → answer t p ≡ r → asked t p ≡ questions → ((a : A) → asked t (k a) ≡ f a) → asked t (p >>=? k) ≡ questions ++ asks_after r f
+step_asks {A = A} {B = B} {X = X} {r = r} {questions = questions} {f = f} t p k is asks rest = asked-then t p (on_ok k) ∙ ap (λ qs. qs ++ asked t (on_ok k (answer t p))) asks ∙ ap (λ a. questions ++ asked t (on_ok k a)) is ∙ ap (λ qs. questions ++ qs) (by_result r)
   where
-    by_found : (found : Option Path) → answer t (or_else found (folder (clean cwd text))) ≡ or_folder found (folder_on t (clean cwd text))
-    by_found (Some f) = answer-done t (File f)
-    by_found None = answer-folder t (clean cwd text)
+    by_result : (r : Result A X) → asked t (on_ok k r) ≡ asks_after r f
+    by_result (Ok a) = rest a
+    by_result (Err x) = asked-done {A = Result B X} t (Err x)
 
--- the nearest manifest file is the first that the tree has
-pub answer-nearest : (t : Files) (p : Path) → answer t (nearest p) ≡ nearest_on t p
-unfolding nearest
-answer-nearest t p = answer-first_existing t (map manifest_file (p ∷ up p))
+-- a row without a question
+row : {A B X : Type 0} {f : A → Result B X} (t : Files) (r : Result A X) (k : A → Plan (Result B X)) → ((a : A) → answer t (k a) ≡ f a) → answer t (Done r >>=? k) ≡ on.◌>>=◌ r f
+row t r k rest = step t (Done r) k (answer-done t r) rest
+
+row_asks : {A B X : Type 0} {f : A → List Question} (t : Files) (r : Result A X) (k : A → Plan (Result B X)) → ((a : A) → asked t (k a) ≡ f a) → asked t (Done r >>=? k) ≡ asks_after r f
+row_asks t r k rest = step_asks t (Done r) k (answer-done t r) (asked-done t r) rest
+
+answer-manifest_in : (t : Files) (file : Option Path) → answer t (manifest_in file) ≡ manifest_in_file t file
+answer-manifest_in t None = answer-done t _
+answer-manifest_in t (Some file) = answer-then t (loading file) (λ read. Done (readable file read)) ∙ answer-done t _ ∙ ap (readable file) (answer-loading t file)
+
+asked-manifest_in : (t : Files) (file : Option Path) → asked t (manifest_in file) ≡ reading_asks file
+asked-manifest_in t None = asked-done t _
+asked-manifest_in t (Some file) = asked-then t (loading file) (λ read. Done (readable file read)) ∙ ap (λ qs. asked t (loading file) ++ qs) (asked-done t _) ∙ append_nothing _ ∙ asked-loading t file
+
+answer-manifest_of : (t : Files) (importer : Path) → answer t (manifest_of importer) ≡ manifest_on t importer
+unfolding manifest_of
+answer-manifest_of t importer = answer-then t (nearest importer) manifest_in ∙ ap (λ file. answer t (manifest_in file)) (answer-nearest t importer) ∙ answer-manifest_in t (nearest_on t importer)
+
+asked-manifest_of : (t : Files) (importer : Path) → asked t (manifest_of importer) ≡ manifest_asks t importer
+unfolding manifest_of
+asked-manifest_of t importer = asked-then t (nearest importer) manifest_in ∙ ap (λ qs. qs ++ asked t (manifest_in (answer t (nearest importer)))) (asked-nearest t importer) ∙ ap (λ qs. nearest_asks t importer ++ qs) (ap (λ file. asked t (manifest_in file)) (answer-nearest t importer) ∙ asked-manifest_in t (nearest_on t importer))
+
+answer-whole : (t : Files) (l : Path) → answer t (whole l) ≡ searched (text_of l) (folder_on t l)
+unfolding whole
+answer-whole t l = answer-then t (folder l) (λ found. Done (searched (text_of l) found)) ∙ answer-done t _ ∙ ap (searched (text_of l)) (folder_on_tree.answers t l)
+
+asked-whole : (t : Files) (l : Path) → asked t (whole l) ≡ folder_asks t l
+unfolding whole
+asked-whole t l = asked-then t (folder l) (λ found. Done (searched (text_of l) found)) ∙ ap (λ qs. asked t (folder l) ++ qs) (asked-done t _) ∙ append_nothing _ ∙ folder_on_tree.asks t l
+
+answer-inside : (t : Files) (text : List ℕ) → answer t (inside text) ≡ searched text (place_on t [] text)
+unfolding inside
+answer-inside t text = answer-then t (place [] text) (λ found. Done (searched text found)) ∙ answer-done t _ ∙ ap (searched text) (place_on_tree.answers t [] text)
+
+asked-inside : (t : Files) (text : List ℕ) → asked t (inside text) ≡ place_asks t [] text
+unfolding inside
+asked-inside t text = asked-then t (place [] text) (λ found. Done (searched text found)) ∙ ap (λ qs. asked t (place [] text) ++ qs) (asked-done t _) ∙ append_nothing _ ∙ place_on_tree.asks t [] text
+
+answer-bound : (t : Files) (l : Path) (subpath : Option (List ℕ)) → answer t (bound l subpath) ≡ bound_on t l subpath
+answer-bound t l None = answer-whole t l
+answer-bound t l (Some subpath) = by_test (path_eq (clean [] (behind l subpath)) l)
+  where
+    by_test : (b : Bool) → answer t (cond b (whole l) (inside (behind l subpath))) ≡ cond b (searched (text_of l) (folder_on t l)) (searched (behind l subpath) (place_on t [] (behind l subpath)))
+    by_test true = answer-whole t l
+    by_test false = answer-inside t (behind l subpath)
+
+asked-bound : (t : Files) (l : Path) (subpath : Option (List ℕ)) → asked t (bound l subpath) ≡ bound_asks t l subpath
+asked-bound t l None = asked-whole t l
+asked-bound t l (Some subpath) = by_test (path_eq (clean [] (behind l subpath)) l)
+  where
+    by_test : (b : Bool) → asked t (cond b (whole l) (inside (behind l subpath))) ≡ cond b (folder_asks t l) (place_asks t [] (behind l subpath))
+    by_test true = asked-whole t l
+    by_test false = asked-inside t (behind l subpath)
+
+answer-answered : (t : Files) (via : Via) (f : Path) → answer t (answered via f) ≡ Ok (answer_through via f (name_on t f))
+unfolding answered answer canon ◌>>=◌
+answer-answered t via f = refl
+
+asked-answered : (t : Files) (via : Via) (f : Path) → asked t (answered via f) ≡ Canon (text_of f) ∷ []
+unfolding answered asked canon ◌>>=◌
+asked-answered t via f = refl
+
+-- the order comes to what the tree has
+pub answer-join : (t : Files) (project : ProjectSettings) (request : Request) → answer t (join project request) ≡ join_on t project request
+unfolding join
+answer-join t project request =
+    row t _ _ (λ importer. step t _ _ (answer-manifest_of t importer) (λ manifest. row t _ _ (λ owner. row t _ _ (λ target. row t _ _ (λ identifier. row t _ _ (λ locator. row t _ _ (λ location. row t _ _ (λ folder.
+    step t _ _ (answer-bound t folder identifier.1) (λ found. row t _ _ (λ file. answer-answered t _ file))))))))))
+
+asked-join : (t : Files) (project : ProjectSettings) (request : Request) → asked t (join project request) ≡ join_asks t project request
+unfolding join
+asked-join t project request =
+    row_asks t _ _ (λ importer. step_asks t _ _ (answer-manifest_of t importer) (asked-manifest_of t importer) (λ manifest. row_asks t _ _ (λ owner. row_asks t _ _ (λ target. row_asks t _ _ (λ identifier. row_asks t _ _ (λ locator. row_asks t _ _ (λ location. row_asks t _ _ (λ folder.
+    step_asks t _ _ (answer-bound t folder identifier.1) (asked-bound t folder identifier.1) (λ found. row_asks t _ _ (λ file. asked-answered t _ file))))))))))
+
+pub answer-verdict : (t : Files) (project : ProjectSettings) (request : Request) → answer t (verdict project request) ≡ verdict_of (join_on t project request)
+unfolding verdict
+answer-verdict t project request = answer-then t (join project request) (λ result. Done (verdict_of result)) ∙ answer-done t _ ∙ ap verdict_of (answer-join t project request)
+
+asked-verdict : (t : Files) (project : ProjectSettings) (request : Request) → asked t (verdict project request) ≡ join_asks t project request
+unfolding verdict
+asked-verdict t project request = asked-then t (join project request) (λ result. Done (verdict_of result)) ∙ ap (λ qs. asked t (join project request) ++ qs) (asked-done t _) ∙ append_nothing _ ∙ asked-join t project request
+
+pub verdict_on_tree : VerdictOnTree
+verdict_on_tree = record { answers = answer-verdict; asks = asked-verdict }
+
+pub bound_on_tree : BoundOnTree
+bound_on_tree = record { answers = answer-bound; asks = asked-bound }

@@ -1,139 +1,151 @@
 -- An answer of the order was found through the row that binds the name asked for.
 use Rattle.std.proofs.Common.{◌≡◌, ℕ, Bool, true, false, cond, List, [], Option, Some, None, is_some, Result, Ok, Err, refl, sym, ap, ◌∙◌, subst}
-use Rattle.sugar_path.specs.Path.{Path, clean, text_of}
+use Rattle.sugar_path.specs.Path.{Path, clean, below, text_of}
 use Rattle.tree_core.specs.Tree.{Files}
-use Rattle.tree_core.specs.Plan.{Plan, Done, answer, ◌>>=◌, read}
-use Rattle.tree_core.proofs.Asking.{answer-then, answer-done}
+use Rattle.tree_core.specs.Plan.{answer}
 use Rattle.pnp_core.specs.declared.error.HydrationCause.{HydrationCause}
+use Rattle.pnp_core.specs.declared.error.UndeclaredDependency.{UndeclaredDependency}
 use Rattle.pnp_core.specs.declared.manifest.PackageLocator.{PackageLocator}
 use Rattle.pnp_core.specs.declared.manifest.Binding.{Binding}
 use Rattle.pnp_core.specs.declared.manifest.Binding.TheVariants.{Bound, MissingPeer, Undeclared}
 use Rattle.pnp_core.specs.BareIdentifier.{split_bare}
 use Rattle.pnp_core.specs.Manifest.{Contents, location_of}
-use Rattle.pnp_core.specs.ManifestReading.{reading}
 use Rattle.pnp_core.specs.Owner.{owner}
 use Rattle.pnp_core.specs.Binding.{bind, is_settled}
-use Rattle.pnp_core.specs.Loading.{loading, or_refused}
-use Rattle.pnp_core.specs.Nearest.{nearest}
-use Rattle.resolve_stack.specs.declared.resolution.FileName.{FileName}
-use Rattle.resolve_stack.specs.declared.resolution.FileName.TheVariants.{Real, Custom, Anon}
-use Rattle.resolve_stack.specs.declared.resolution.Found.{Found}
+use Rattle.pnp_core.specs.Wording.{undeclared}
+use Rattle.pnp_core.specs.OnTree.{nearest_on, loaded_on}
+use Rattle.swc_loader.specs.declared.resolution.FileName.{FileName}
+use Rattle.swc_loader.specs.declared.resolution.FileName.TheVariants.{Real, Custom, Anon}
+use Rattle.swc_loader.specs.declared.resolution.Resolution.{Resolution}
+use Rattle.resolve_stack.specs.declared.verdict.JoinRefusal.{JoinRefusal}
+use Rattle.resolve_stack.specs.declared.verdict.JoinRefusal.TheVariants.{NotBuilt, Outside}
 use Rattle.resolve_stack.specs.declared.verdict.Verdict.{Verdict}
-use Rattle.resolve_stack.specs.declared.verdict.Verdict.TheVariants.{Answered, Refused}
-use Rattle.resolve_stack.specs.OnTree.{nearest_on, content_on}
-use Rattle.resolve_stack.specs.Through.{LiesBelow, ThroughRow, IsFoundFrom, IsFoundAs, IsFound}
-use Rattle.resolve_stack.specs.Verdict.{not_built, is_bare, is_node_module, is_plain, bound, via_of, at_location, by_binding, by_identifier, by_owner, by_manifest, by_reading, by_nearest, from_file, verdict}
-use Rattle.resolve_stack.proofs.OnTrees.{answer-nearest, answer-read}
-use Rattle.resolve_stack.proofs.Below.{IsWithin, within-bound}
+use Rattle.resolve_stack.specs.Settings.{ProjectSettings}
+use Rattle.resolve_stack.specs.Request.{Request}
+use Rattle.resolve_stack.specs.Specifier.{is_bare, is_node_module}
+use Rattle.resolve_stack.specs.Location.{is_plain}
+use Rattle.resolve_stack.specs.Rows.{or_not_built, importer_of, readable, bound_or_refused, bound_of, via_of, answer_through}
+use Rattle.resolve_stack.specs.BoundSearch.{contained}
+use Rattle.resolve_stack.specs.OnTree.{manifest_in_file, manifest_on, bound_on, name_on, join_on, ◌>>=◌}
+use Rattle.resolve_stack.specs.Verdict.{verdict_of, verdict}
+use Rattle.resolve_stack.specs.Through.{ThroughRow, IsFoundFrom, IsFound}
+use Rattle.resolve_stack.proofs.OnTrees.{answer-verdict}
 
--- what is known once a manifest was read
-record Read (t : Files) (p : Path) : Type 0 where
+-- a value that came of one result and then another: the first had a value too
+first_value : {A B X : Type 0} (r : Result A X) (f : A → Result B X) (b : B) → r >>= f ≡ Ok b → (a : A) × (r ≡ Ok a) × (f a ≡ Ok b)
+first_value (Ok a) f b h = (a, refl, h)
+first_value (Err x) f b h = cc
+
+there : {A : Type 0} (o : Option A) (a : A) → or_not_built o ≡ Ok a → o ≡ Some a
+there (Some x) a h = let same : x ≡ a = cc in ap Some same
+there None a h = cc
+
+-- a test that passed
+passed : {A X : Type 0} (b : Bool) (a a' : A) (x : X) → cond b (Ok a) (Err x) ≡ Ok a' → (b ≡ true) × (a ≡ a')
+passed true a a' x h = (refl, cc)
+passed false a a' x h = cc
+
+record Asked (project : ProjectSettings) (from : FileName) (p : Path) : Type 0 where
+  text : List ℕ
+  importer : from ≡ Real text
+  path : clean project.cwd text ≡ p
+
+asked_from : (project : ProjectSettings) (from : FileName) (s : List ℕ) (p : Path) → importer_of project from s ≡ Ok p → Asked project from p
+asked_from project (Real text) s p h = record { text = text; importer = refl; path = (passed (is_bare s) (clean project.cwd text) p NotBuilt h).1 }
+asked_from project (Custom name) s p h = cc
+asked_from project Anon s p h = cc
+
+abbrev same_result : Contents → Contents → Type 0
+same_result a b = let read : Result Contents HydrationCause = Ok a in read ≡ Ok b
+
+read_of : (file : Path) (r : Result Contents HydrationCause) (m : Contents) → readable file r ≡ Ok m → r ≡ Ok m
+read_of file (Ok contents) m h = by_test (is_some contents.ignore_pattern_data) h
+  where
+    by_test : (b : Bool) → cond {A = Result Contents JoinRefusal} b (Err NotBuilt) (Ok contents) ≡ Ok m → same_result contents m
+    by_test true h = cc
+    by_test false h = let same : contents ≡ m = cc in ap Ok same
+read_of file (Err cause) m h = cc
+
+record Read (t : Files) (p : Path) (m : Contents) : Type 0 where
   manifest : Path
-  contents : Contents
   nearest : nearest_on t p ≡ Some manifest
-  reads : reading (content_on t manifest) manifest ≡ Ok contents
+  reads : loaded_on t manifest ≡ Ok m
 
-refused : (t : Files) (p : Path) (s : List ℕ) → IsFoundAs t p s (answer t not_built)
-unfolding answer
-refused t p s = tt
+read_from : (t : Files) (p : Path) (m : Contents) → manifest_on t p ≡ Ok m → Read t p m
+read_from t p m h = by_near (nearest_on t p) refl h
+  where
+    by_near : (near : Option Path) → nearest_on t p ≡ near → manifest_in_file t near ≡ Ok m → Read t p m
+    by_near None is h = cc
+    by_near (Some file) is h = record { manifest = file; nearest = is; reads = read_of file (loaded_on t file) m h }
 
--- an answer within a bound location was found through its row
-from_within : (t : Files) (p : Path) (s : List ℕ) (m : Read t p) (o b : PackageLocator) (name : List ℕ) (subpath : Option (List ℕ)) (location : List ℕ)
-    → owner m.contents p ≡ Some o → split_bare s ≡ Some (name, subpath) → bind m.contents o name ≡ Bound b → location_of m.contents b ≡ Some location
-    → (v : Verdict) → IsWithin (via_of b (clean [] location)) (clean [] location) v → IsFoundAs t p s v
-from_within t p s m o b name subpath location owns names binds row (Refused refusal) h = tt
-from_within t p s m o b name subpath location owns names binds row (Answered r) h =
-    let P : Option Found → Type 0 = IsFoundFrom t p s in
-    subst P (sym h.1) (record {
-      manifest = m.manifest;
-      contents = m.contents;
-      asking = o;
-      name = name;
-      subpath = subpath;
-      location = location;
-      nearest = m.nearest;
-      reads = m.reads;
-      owns = owns;
-      names = names;
-      binds = binds;
-      row = row;
-      place = refl;
-      lies = record { path = h.0; folder = clean [] location; file_is = refl; location_is = refl; within = h.2 };
+bound_by : (m : Contents) (o : PackageLocator) (importer : Path) (target name : List ℕ) (b : PackageLocator) → bound_of m o importer target name ≡ Ok b → bind m o name ≡ Bound b
+bound_by m o importer target name b h = by_test (is_settled m o name) h
+  where
+    by_binding : (told : UndeclaredDependency) (binding : Binding) → bound_or_refused told binding ≡ Ok b → binding ≡ Bound b
+    by_binding told (Bound locator) h = let same : locator ≡ b = cc in ap Bound same
+    by_binding told MissingPeer h = cc
+    by_binding told Undeclared h = cc
+
+    by_test : (settled : Bool) → cond settled (bound_or_refused (undeclared m o target name (text_of importer)) (bind m o name)) (Err NotBuilt) ≡ Ok b → bind m o name ≡ Bound b
+    by_test true h = by_binding (undeclared m o target name (text_of importer)) (bind m o name) h
+    by_test false h = cc
+
+abbrev answered_by : Resolution → Resolution → Type 0
+answered_by a r = let answer : Result Resolution JoinRefusal = Ok a in answer ≡ Ok r
+
+-- what the rows gave, one after the other
+found_on : (t : Files) (project : ProjectSettings) (request : Request) (r : Resolution) → join_on t project request ≡ Ok r → IsFoundFrom t project request r.found
+found_on t project request r h =
+    let importer = first_value _ _ _ h in
+    let manifest = first_value _ _ _ importer.2 in
+    let asking = first_value _ _ _ manifest.2 in
+    let target = first_value _ _ _ asking.2 in
+    let identifier = first_value _ _ _ target.2 in
+    let locator = first_value _ _ _ identifier.2 in
+    let location = first_value _ _ _ locator.2 in
+    let folder = first_value _ _ _ location.2 in
+    let found = first_value (bound_on t folder.0 identifier.0.1) (λ found. contained folder.0 found >>= λ file. Ok (answer_through (via_of locator.0 folder.0) file (name_on t file))) r folder.2 in
+    let file = first_value (contained folder.0 found.0) (λ file. Ok (answer_through (via_of locator.0 folder.0) file (name_on t file))) r found.2 in
+    let asked = asked_from project request.importer request.specifier importer.0 importer.1 in
+    let read = read_from t importer.0 manifest.0 manifest.1 in
+    let same = no_test (is_node_module request.specifier) request.specifier target.0 target.1 in
+    let at = passed (is_plain location.0) (clean [] location.0) folder.0 NotBuilt folder.1 in
+    let within = passed (below found.0 folder.0) found.0 file.0 (Outside (text_of found.0) (text_of folder.0)) file.1 in
+    through r locator.0 folder.0 file.0 (name_on t file.0) file.2 (record {
+      importer = asked.text;
+      manifest = read.manifest;
+      contents = manifest.0;
+      asking = asking.0;
+      name = identifier.0.0;
+      subpath = identifier.0.1;
+      location = location.0;
+      from = asked.importer;
+      nearest = ap (nearest_on t) asked.path ∙ read.nearest;
+      reads = read.reads;
+      owns = ap (owner manifest.0) asked.path ∙ there (owner manifest.0 importer.0) asking.0 asking.1;
+      names = ap split_bare same ∙ there (split_bare target.0) identifier.0 identifier.1;
+      binds = bound_by manifest.0 asking.0 importer.0 target.0 identifier.0.0 locator.0 locator.1;
+      row = there (location_of manifest.0 locator.0) location.0 location.1;
+      place = ap text_of (sym at.1);
+      lies = record { path = file.0; folder = folder.0; file_is = refl; location_is = refl; within = ap (λ f. below f folder.0) (sym within.1) ∙ within.0 };
     })
-
-by_location : (t : Files) (p : Path) (s : List ℕ) (m : Read t p) (o b : PackageLocator) (name : List ℕ) (subpath : Option (List ℕ))
-    → owner m.contents p ≡ Some o → split_bare s ≡ Some (name, subpath) → bind m.contents o name ≡ Bound b
-    → (location : Option (List ℕ)) → location_of m.contents b ≡ location → IsFoundAs t p s (answer t (at_location b subpath location))
-by_location t p s m o b name subpath owns names binds None row = refused t p s
-by_location t p s m o b name subpath owns names binds (Some location) row = by_test (is_plain location)
   where
-    by_test : (plain : Bool) → IsFoundAs t p s (answer t (cond plain (bound (via_of b (clean [] location)) (clean [] location) subpath) not_built))
-    by_test true = from_within t p s m o b name subpath location owns names binds row _ (within-bound t (via_of b (clean [] location)) (clean [] location) subpath)
-    by_test false = refused t p s
+    no_test : (b : Bool) (s target : List ℕ) → cond {A = Result (List ℕ) JoinRefusal} b (Err NotBuilt) (Ok s) ≡ Ok target → s ≡ target
+    no_test true s target h = cc
+    no_test false s target h = cc
 
-by_bound : (t : Files) (p : Path) (s : List ℕ) (m : Read t p) (o : PackageLocator) (name : List ℕ) (subpath : Option (List ℕ))
-    → owner m.contents p ≡ Some o → split_bare s ≡ Some (name, subpath)
-    → (binding : Binding) → bind m.contents o name ≡ binding → IsFoundAs t p s (answer t (by_binding m.contents o s name subpath (text_of p) binding))
-unfolding answer
-by_bound t p s m o name subpath owns names (Bound b) binds = by_location t p s m o b name subpath owns names binds (location_of m.contents b) refl
-by_bound t p s m o name subpath owns names MissingPeer binds = tt
-by_bound t p s m o name subpath owns names Undeclared binds = tt
-
-by_name : (t : Files) (p : Path) (s : List ℕ) (m : Read t p) (o : PackageLocator) → owner m.contents p ≡ Some o
-    → (identifier : Option (List ℕ × Option (List ℕ))) → split_bare s ≡ identifier → IsFoundAs t p s (answer t (by_identifier m.contents o s (text_of p) identifier))
-by_name t p s m o owns None names = refused t p s
-by_name t p s m o owns (Some identifier) names = by_test (is_settled m.contents o identifier.0)
-  where
-    by_test : (settled : Bool) → IsFoundAs t p s (answer t (cond settled (by_binding m.contents o s identifier.0 identifier.1 (text_of p) (bind m.contents o identifier.0)) not_built))
-    by_test true = by_bound t p s m o identifier.0 identifier.1 owns names (bind m.contents o identifier.0) refl
-    by_test false = refused t p s
-
-by_asking : (t : Files) (p : Path) (s : List ℕ) (m : Read t p) (asking : Option PackageLocator) → owner m.contents p ≡ asking → IsFoundAs t p s (answer t (by_owner m.contents s (text_of p) asking))
-by_asking t p s m None owns = refused t p s
-by_asking t p s m (Some o) owns = by_test (is_node_module s)
-  where
-    by_test : (node : Bool) → IsFoundAs t p s (answer t (cond node not_built (by_identifier m.contents o s (text_of p) (split_bare s))))
-    by_test true = refused t p s
-    by_test false = by_name t p s m o owns (split_bare s) refl
-
-by_contents : (t : Files) (p : Path) (s : List ℕ) (m : Read t p) → IsFoundAs t p s (answer t (by_manifest p s m.contents))
-by_contents t p s m = by_test (is_some m.contents.ignore_pattern_data)
-  where
-    by_test : (pattern : Bool) → IsFoundAs t p s (answer t (cond pattern not_built (by_owner m.contents s (text_of p) (owner m.contents p))))
-    by_test true = refused t p s
-    by_test false = by_asking t p s m (owner m.contents p) refl
-
-by_result : (t : Files) (p : Path) (s : List ℕ) (manifest : Path) → nearest_on t p ≡ Some manifest
-    → (r : Result Contents HydrationCause) → reading (content_on t manifest) manifest ≡ r → IsFoundAs t p s (answer t (by_reading p s (or_refused manifest r)))
-unfolding answer
-by_result t p s manifest near (Ok contents) reads = by_contents t p s (record { manifest = manifest; contents = contents; nearest = near; reads = reads })
-by_result t p s manifest near (Err cause) reads = tt
-
--- what loading comes to on a tree
-answer-loading : (t : Files) (p : Path) → answer t (loading p) ≡ or_refused p (reading (content_on t p) p)
-unfolding loading
-answer-loading t p = answer-then t (read p) (λ content. Done (or_refused p (reading content p))) ∙ answer-done t _ ∙ ap (λ content. or_refused p (reading content p)) (answer-read t p)
-
-by_near : (t : Files) (p : Path) (s : List ℕ) (near : Option Path) → nearest_on t p ≡ near → IsFoundAs t p s (answer t (by_nearest p s near))
-by_near t p s None is = refused t p s
-by_near t p s (Some manifest) is =
-    let P : Verdict → Type 0 = IsFoundAs t p s in
-    subst P (sym (answer-then t (loading manifest) (by_reading p s) ∙ ap (λ r. answer t (by_reading p s r)) (answer-loading t manifest)))
-    (by_result t p s manifest is (reading (content_on t manifest) manifest) refl)
-
-found_from : (t : Files) (p : Path) (s : List ℕ) → IsFoundAs t p s (answer t (from_file p s))
-unfolding from_file
-found_from t p s =
-    let P : Verdict → Type 0 = IsFoundAs t p s in
-    subst P (sym (answer-then t (nearest p) (by_nearest p s) ∙ ap (λ near. answer t (by_nearest p s near)) (answer-nearest t p)))
-    (by_near t p s (nearest_on t p) refl)
+    through : (r : Resolution) (locator : PackageLocator) (folder file : Path) (name : List ℕ) → answered_by (answer_through (via_of locator folder) file name) r → ThroughRow t project request (text_of file) (via_of locator folder) → IsFoundFrom t project request r.found
+    through r locator folder file name is row =
+        let same : answer_through (via_of locator folder) file name ≡ r = cc in
+        let P : Resolution → Type 0 = λ x. IsFoundFrom t project request x.found in
+        subst P same row
 
 -- the verdict of the order was found as it says
-pub found : (t : Files) (cwd : Path) (importer : FileName) (s : List ℕ) → IsFound t cwd importer s (answer t (verdict cwd importer s))
-found t cwd (Custom name) s = tt
-found t cwd Anon s = tt
-found t cwd (Real text) s = by_test (is_bare s)
+pub found : (t : Files) (project : ProjectSettings) (request : Request) → IsFound t project request (answer t (verdict project request))
+found t project request =
+    let P : Verdict → Type 0 = IsFound t project request in
+    subst P (sym (answer-verdict t project request)) (by_result (join_on t project request) refl)
   where
-    by_test : (bare : Bool) → IsFoundAs t (clean cwd text) s (answer t (cond bare (from_file (clean cwd text) s) not_built))
-    by_test true = found_from t (clean cwd text) s
-    by_test false = refused t (clean cwd text) s
+    by_result : (r : Result Resolution JoinRefusal) → join_on t project request ≡ r → IsFound t project request (verdict_of r)
+    by_result (Ok resolution) is = found_on t project request resolution is
+    by_result (Err refusal) is = tt

@@ -1,7 +1,11 @@
-pub mod Endings
-pub mod Candidates
-pub mod Search
 pub mod Settings
+pub mod Request
+pub mod Specifier
+pub mod Location
+pub mod BoundSearch
+pub mod Rows
+pub mod Order
+pub mod OrderParts
 pub mod Verdict
 pub mod OnTree
 pub mod Through

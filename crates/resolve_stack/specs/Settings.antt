@@ -4,8 +4,8 @@ use Rattle.sugar_path.specs.Path.{Path, IsCleanPath}
 use Rattle.resolve_stack.specs.declared.project.ProjectError.{ProjectError}
 use Rattle.resolve_stack.specs.declared.project.ProjectError.TheVariants.{SettingsFault, NoMemory}
 
--- the settings of a project
-pub record Known : Type 0 where
+-- the settings of a project, as contracts see them
+pub record ProjectSettings : Type 0 where
   pub cwd : Path
 
 -- why a working folder makes no project: it isn't a clean absolute path. Want of memory needs no cause

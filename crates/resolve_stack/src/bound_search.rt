@@ -1,69 +1,96 @@
 // The search at the location that a name is bound to.
-ghost use Rattle.std.specs.Prelude.{◌≡◌, IfOk, string_bytes};
-ghost use Rattle.tree_core.specs.Asks.{Asks};
-ghost use Rattle.resolve_stack.specs.Verdict.{answered, searched, whole, inside, behind, bound};
+ghost use Rattle.std.specs.Prelude.{◌≡◌, if◌then◌else◌, [], IfOk, string_bytes};
+ghost use Rattle.sugar_path.specs.Path.{clean, path_eq};
+ghost use Rattle.tree_core.specs.Resolving.{Resolves, IsDecided};
+ghost use Rattle.resolve_stack.specs.BoundSearch.{whole, inside, behind, bound, searched};
+ghost use Rattle.resolve_stack.specs.BoundSearch as search;
 
-use crate::search::{Searched, folder, place};
-use crate::{FileName, Found, JoinRefusal, Resolution, Verdict, Via};
+use crate::JoinRefusal;
 use std::alloc::{AllocError, Global};
 use sugar_path::{CleanPath, Text};
-use tree_core::{Asker, ReadError};
+use swc_loader::{Searched, folder, place};
+use tree_core::{Asker, ResolveError};
 
-// A file that was found through a row.
-fn answer_file<R: Asker>(
+/// The file that is found at a bound location: without a subpath in the folder, else at the place behind it. It may lie elsewhere.
+pub(crate) fn search_bound<R: Asker>(
     alloc: Global,
     tree: &mut R,
-    via: Via,
-    file: CleanPath,
-) -> Result<Verdict, ReadError>
-    ensures { Asks (R.asking tree.old) (R.asking tree.new) result (answered via file) }
+    location: &CleanPath,
+    subpath: &Option<Text>,
+) -> Result<CleanPath, ResolveError<JoinRefusal>>
+    ensures { Resolves (R.asking tree.old) (R.asking tree.new) result (bound location.now subpath.now) }
 {
-    let canonical = tree.canonical(&file)?;
-    let path = file.into_text()?;
-    let name = match canonical {
-        Some(name) => name,
-        None => path.try_clone(alloc)?,
-    };
-    Ok(Verdict::Answered(Resolution {
-        filename: FileName::Real(name),
-        slug: None,
-        found: Some(Found {
-            file: path,
-            via: Some(via),
-        }),
-    }))
+    match subpath {
+        None => search_whole(alloc, tree, location),
+        Some(subpath) => {
+            let text = text_behind(alloc, location, subpath.as_str())?;
+            search_behind(alloc, tree, location, text.as_str())
+        }
+    }
 }
 
-// What a search by a text comes to.
-fn verdict_of<R: Asker>(
+/// A file that lies below a location; any other is refused.
+pub(crate) fn contained(
     alloc: Global,
-    tree: &mut R,
-    via: Via,
-    text: &str,
-    found: Searched,
-) -> Result<Verdict, ReadError>
-    ensures { Asks (R.asking tree.old) (R.asking tree.new) result (searched via text.now found) }
+    location: &CleanPath,
+    file: CleanPath,
+) -> Result<CleanPath, ResolveError<JoinRefusal>>
+    ensures { IsDecided result (search.contained location.now file) }
 {
-    match found {
-        Searched::File(file) => answer_file(alloc, tree, via, file),
-        Searched::Nothing => Ok(Verdict::Refused(JoinRefusal::NotFound {
-            text: Text::of(alloc, text)?,
-        })),
-        Searched::Entry => Ok(Verdict::Refused(JoinRefusal::NotBuilt)),
+    if !file.is_below(location) {
+        return Err(ResolveError::Refused(JoinRefusal::Outside {
+            file: file.into_text()?,
+            location: location.to_text(alloc)?,
+        }));
     }
+    Ok(file)
 }
 
 // The search of the location itself.
 fn search_whole<R: Asker>(
     alloc: Global,
     tree: &mut R,
-    via: Via,
     location: &CleanPath,
-) -> Result<Verdict, ReadError>
-    ensures { Asks (R.asking tree.old) (R.asking tree.new) result (whole via location.now) }
+) -> Result<CleanPath, ResolveError<JoinRefusal>>
+    ensures { Resolves (R.asking tree.old) (R.asking tree.new) result (whole location.now) }
 {
     let found = folder(alloc, tree, location)?;
-    verdict_of(alloc, tree, via, location.as_str(), found)
+    file_of(alloc, location.as_str(), found)
+}
+
+// The search by the text behind a location, which may mean the location itself.
+fn search_behind<R: Asker>(
+    alloc: Global,
+    tree: &mut R,
+    location: &CleanPath,
+    text: &str,
+) -> Result<CleanPath, ResolveError<JoinRefusal>>
+    ensures { Resolves (R.asking tree.old) (R.asking tree.new) result (if path_eq (clean [] text.now) location.now then whole location.now else inside text.now) }
+{
+    let at = CleanPath::read(alloc, &CleanPath::root(alloc), text)?;
+    if at == *location {
+        return search_whole(alloc, tree, location);
+    }
+    let found = place(alloc, tree, text, &at)?;
+    file_of(alloc, text, found)
+}
+
+// What a search by a text comes to.
+fn file_of(
+    alloc: Global,
+    text: &str,
+    found: Searched,
+) -> Result<CleanPath, ResolveError<JoinRefusal>>
+    ensures { IsDecided result (searched text.now found) }
+{
+    match found {
+        Searched::File(file) => Ok(file),
+        Searched::Nothing => {
+            let text = Text::of(alloc, text)?;
+            Err(ResolveError::Refused(JoinRefusal::NotFound { text }))
+        }
+        Searched::Entry => Err(ResolveError::Refused(JoinRefusal::NotBuilt)),
+    }
 }
 
 // The text behind a location, taken by the letter.
@@ -74,44 +101,4 @@ fn text_behind(alloc: Global, location: &CleanPath, subpath: &str) -> Result<Str
     text.push_str("/")?;
     text.push_str(subpath)?;
     Ok(text)
-}
-
-// The search of a place behind a location.
-fn search_inside<R: Asker>(
-    alloc: Global,
-    tree: &mut R,
-    via: Via,
-    location: &CleanPath,
-    text: &str,
-) -> Result<Verdict, ReadError>
-    ensures { Asks (R.asking tree.old) (R.asking tree.new) result (inside via location.now text.now) }
-{
-    let at = CleanPath::read(alloc, &CleanPath::root(alloc), text)?;
-    if at == *location {
-        return search_whole(alloc, tree, via, location);
-    }
-    if !at.is_below(location) {
-        return Ok(Verdict::Refused(JoinRefusal::NotBuilt));
-    }
-    let found = place(alloc, tree, text, &at)?;
-    verdict_of(alloc, tree, via, text, found)
-}
-
-/// The search at a bound location: without a subpath that of the folder, else that of the place behind it.
-pub fn search_bound<R: Asker>(
-    alloc: Global,
-    tree: &mut R,
-    via: Via,
-    location: &CleanPath,
-    subpath: &Option<Text>,
-) -> Result<Verdict, ReadError>
-    ensures { Asks (R.asking tree.old) (R.asking tree.new) result (bound via location.now subpath.now) }
-{
-    match subpath {
-        None => search_whole(alloc, tree, via, location),
-        Some(subpath) => {
-            let text = text_behind(alloc, location, subpath.as_str())?;
-            search_inside(alloc, tree, via, location, text.as_str())
-        }
-    }
 }

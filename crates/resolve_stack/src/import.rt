@@ -1,17 +1,20 @@
 // The top call: the verdict of a request over any tree, with the trail that decides it.
-ghost use Rattle.std.specs.Prelude.{◌≡◌, IsTrue, IfOk, IsErrOf, IfSome, length};
-ghost use Rattle.tree_core.specs.Tree.{Files, HasCause, put_times};
-ghost use Rattle.tree_core.specs.Asks.{Settles, IsNext, FailsAt};
+ghost use Rattle.std.specs.Prelude.{◌≡◌, IsTrue, IfOk, IsErrOf, length};
+ghost use Rattle.tree_core.specs.Tree.{Files, Agrees, HasCause, put_times};
+ghost use Rattle.tree_core.specs.Asks.{Asks, Settles, AgreeWith, FailsAt};
 ghost use Rattle.resolve_stack.specs.Verdict.{verdict};
 ghost use Rattle.resolve_stack.specs.Through.{IsFound};
-ghost use Rattle.resolve_stack.specs.ImportFault.{as_read};
+ghost use Rattle.resolve_stack.specs.Request.{asked_for};
+ghost use Rattle.resolve_stack.specs.ImportFault.{as_read, TellsNext};
 ghost use Rattle.resolve_stack.specs.declared.import.ImportError.TheVariants.{TreeFault};
 
-use crate::join::decide;
-use crate::{FileName, Outcome, Project};
+use crate::join::join;
+use crate::request::Request;
+use crate::{Outcome, Project, Verdict};
 use std::alloc::Global;
+use swc_loader::FileName;
 use thiserror::Error;
-use tree_core::{ReadError, Recorder, Tree};
+use tree_core::{Asker, ReadError, Recorder, ResolveError, Tree};
 
 /// Why there is no verdict.
 #[derive(Clone, Copy, Debug, PartialEq, Eq, Error)]
@@ -38,7 +41,7 @@ impl From<ReadError> for ImportError {
     }
 }
 
-/// Which file a specifier means, asked from an importer of the project: the verdict of the order of search on the tree, with the trail that decides it.
+/// Which file a specifier means, asked from an importer of the project: the verdict of the order of search, with the trail that decides it.
 pub fn resolve_import<T: Tree>(
     alloc: Global,
     tree: &mut T,
@@ -46,28 +49,48 @@ pub fn resolve_import<T: Tree>(
     importer: &FileName,
     specifier: &str,
 ) -> Result<Outcome, ImportError>
-    // The verdict and the trail are those of the order, and each tree that agrees with the trail has the same verdict.
-    ensures settled { IfOk result (λ o. Settles (T.stands_for tree.old) o.verdict o.trail (verdict project.now.cwd importer.now specifier.now)) }
-
+    // The verdict and the trail are those of the order on each tree that agrees with the trail.
+    ensures settled { IfOk result (λ o. Settles o.verdict o.trail (verdict project.now (asked_for importer.now specifier.now))) }
+    // Each tree that the object stands for agrees with the trail.
+    ensures agree { IfOk result (λ o. AgreeWith (T.state tree.old).stands_for o.trail) }
     // A file found through a row lies below the location of the row that binds the name asked for.
-    ensures found { IfOk result (λ o. (t : Files) → IsTrue (T.stands_for tree.old t) → IsFound t project.now.cwd importer.now specifier.now o.verdict) }
-
-    ensures stands { T.stands_for tree.new ≡ T.stands_for tree.old }
-    ensures cause { HasCause (T.faults tree.old) (T.faults tree.new) (as_read result) }
-    ensures told { IsErrOf result TreeFault → IfSome (T.told tree.new) (λ q. IsNext (T.stands_for tree.old) q (verdict project.now.cwd importer.now specifier.now)) }
-
+    ensures found { IfOk result (λ o. (t : Files) → Agrees t o.trail → IsFound t project.now (asked_for importer.now specifier.now) o.verdict) }
+    ensures stands { (T.state tree.new).stands_for ≡ (T.state tree.old).stands_for }
+    ensures cause { HasCause (T.state tree.old).faults (T.state tree.new).faults (as_read result) }
+    // Where the tree tells the question that a fault refused, it is the order's next one.
+    ensures told { IsErrOf result TreeFault → TellsNext (T.state tree.old).stands_for (T.state tree.new).told (verdict project.now (asked_for importer.now specifier.now)) }
     // The tree was asked once for each question of the trail.
-    ensures put { IfOk result (λ o. T.questions tree.new ≡ put_times (length o.trail) (T.questions tree.old)) }
-
+    ensures put { IfOk result (λ o. (T.state tree.new).questions ≡ put_times (length o.trail) (T.state tree.old).questions) }
     // The tree was asked once for each question before the refused one, and once for that one.
-    ensures fails { IsErrOf result TreeFault → FailsAt (T.stands_for tree.old) (T.questions tree.old) (T.questions tree.new) (verdict project.now.cwd importer.now specifier.now) }
+    ensures fails { IsErrOf result TreeFault → FailsAt (T.state tree.old).stands_for (T.state tree.old).questions (T.state tree.new).questions (verdict project.now (asked_for importer.now specifier.now)) }
 {
     let mut recorder = Recorder::new(alloc, tree);
-    let decided = decide(alloc, &mut recorder, project.cwd(), importer, specifier);
+    let request = Request {
+        importer,
+        specifier,
+    };
+    let decided = decide(alloc, &mut recorder, project, &request);
     let (trail, lent) = recorder.into_parts();
     let _end = lent;
     Ok(Outcome {
         verdict: decided?,
         trail,
     })
+}
+
+// How the request ends: a refusal of the order is a verdict too.
+fn decide<R: Asker>(
+    alloc: Global,
+    tree: &mut R,
+    project: &Project,
+    request: &Request<'_>,
+) -> Result<Verdict, ReadError>
+    ensures { Asks (R.asking tree.old) (R.asking tree.new) result (verdict project.now (asked_for request.now.importer.now request.now.specifier.now)) }
+{
+    match join(alloc, tree, project, request) {
+        Ok(resolution) => Ok(Verdict::Answered(resolution)),
+        Err(ResolveError::Refused(refusal)) => Ok(Verdict::Refused(refusal)),
+        Err(ResolveError::TreeFault) => Err(ReadError::Fault),
+        Err(ResolveError::NoMemory) => Err(ReadError::NoMemory),
+    }
 }

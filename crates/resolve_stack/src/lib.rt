@@ -2,20 +2,18 @@
 #![tactic(auto)]
 
 mod bound_search;
-mod candidates;
 mod import;
 mod join;
+pub mod laws;
 mod location;
 mod project;
-mod resolution;
-mod search;
-mod shape;
+mod request;
 mod specifier;
 mod verdict;
 
 pub use import::{ImportError, resolve_import};
 pub use project::{Project, ProjectError, Settings};
-pub use resolution::{FileName, Found, Resolution, Via};
+pub use swc_loader::{FileName, Found, Resolution, Via};
 pub use verdict::{JoinRefusal, Outcome, Verdict};
 
 #[cfg(test)]

@@ -1,6 +1,6 @@
 // Which locations of rows are plain folders.
 ghost use Rattle.std.specs.Prelude.{◌≡◌};
-ghost use Rattle.resolve_stack.specs.Verdict.{is_special, is_plain};
+ghost use Rattle.resolve_stack.specs.Location.{is_special, is_plain};
 
 // A part of a location that a plain folder doesn't have.
 fn is_special(part: &str) -> bool

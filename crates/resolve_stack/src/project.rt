@@ -33,9 +33,9 @@ pub struct Project {
 }
 
 impl Model for Project {
-    ghost use Rattle.resolve_stack.specs.Settings.{Known};
+    ghost use Rattle.resolve_stack.specs.Settings.{ProjectSettings};
 
-    ghost Value = { Known };
+    ghost Value = { ProjectSettings };
 
     ghost view = { λ p. record { cwd = p.cwd } };
 }

@@ -1,6 +1,6 @@
 // What a specifier's text tells before any file is asked for.
 ghost use Rattle.std.specs.Prelude.{◌≡◌, List, ℕ};
-ghost use Rattle.resolve_stack.specs.Verdict.{is_bare, is_node_module};
+ghost use Rattle.resolve_stack.specs.Specifier.{is_bare, is_node_module};
 
 use tree_core::is_node_builtin;
 

@@ -1,5 +1,6 @@
 -- Searches that answer or refuse: how their errors are read, and what a step without questions comes to.
 use Rattle.std.specs.Prelude.{◌≡◌, Result, Ok, Err, refl}
+use Rattle.std.specs.Borrow.{Bor}
 use Rattle.tree_core.specs.declared.tree.ReadError.{ReadError}
 use Rattle.tree_core.specs.declared.tree.ReadError.TheVariants.{Fault, NoMemory}
 use Rattle.tree_core.specs.declared.resolve_error.ResolveError.{ResolveError}
@@ -39,3 +40,10 @@ IsDecided (Err error.NoMemory) r = Unit {0}
 infixl 10 ◌>>=◌
 abbrev pub ◌>>=◌ : {A B X : Type 0} → Plan (Result A X) → (A → Plan (Result B X)) → Plan (Result B X)
 p >>= then = p >>=? then
+
+-- the same for a step that lends its answer
+abbrev pub IsDecidedTo : {A X : Type 0} → Result (Bor A) (ResolveError X) → Result A X → Type 0
+IsDecidedTo (Ok a) r = r ≡ Ok a.now
+IsDecidedTo (Err (error.Refused x)) r = r ≡ Err x
+IsDecidedTo (Err error.TreeFault) r = ⊥
+IsDecidedTo (Err error.NoMemory) r = Unit {0}

@@ -1,11 +1,12 @@
-use Rattle.tree_core.proofs.Asking.{asks_then, asks_fails}
-use Rattle.resolve_stack.specs.Verdict.{whole}
+use Rattle.tree_core.specs.Resolving.{resolving}
+use Rattle.tree_core.proofs.Asking.{asks_then, asks_fails_in, asks_decided}
+use Rattle.resolve_stack.specs.BoundSearch.{whole}
 use Rattle.resolve_stack.proofs.bound_search.search_whole.Goals as goal
 
 pub returns-in_err-found : goal.returns-in_err-found
 unfolding whole
-returns-in_err-found g c = asks_fails _ _ c.from_residual.ensures.1 c.in_err-found.ensures
+returns-in_err-found g c = asks_fails_in resolving _ _ c.from_residual.ensures.1 c.in_err-found.ensures
 
 pub returns : goal.returns
 unfolding whole
-returns g c = asks_then _ c.in_ok-found.ensures (rw c.as_str.ensures.text at c.verdict_of.ensures)
+returns g c = asks_then _ c.in_ok-found.ensures (asks_decided _ (rw c.as_str.ensures.text at c.file_of.ensures))

@@ -1,21 +1,36 @@
-use Rattle.std.proofs.Common.{◌≡◌, IsTrue, arith, sym, subst}
+use Rattle.std.proofs.Common.{Err, arith, sym, subst}
 use Rattle.std.proofs.lemmas.Grind.{common_steps}
-use Rattle.tree_core.specs.Tree.{Files}
-use Rattle.tree_core.proofs.Asking.{settles, put_all}
+use Rattle.tree_core.proofs.Asking.{settles, put_all, is_next, fails_at}
+use Rattle.resolve_stack.specs.Request.{asked_for}
 use Rattle.resolve_stack.specs.declared.verdict.Verdict.{Verdict}
 use Rattle.resolve_stack.specs.Through.{IsFound}
+use Rattle.resolve_stack.proofs.Faults.{is_fault, tells_next, fails_there}
 use Rattle.resolve_stack.proofs.ThroughRows.{found}
 use Rattle.resolve_stack.proofs.import.resolve_import.Goals as goal
 
 pub returns-clause-settled : goal.returns-clause-settled
-returns-clause-settled g c = rw (← c.new-recorder.ensures.at, c.into_parts-trail.ensures.trail) (rw c.cwd.ensures at (settles c.new-recorder.ensures.trail c.in_ok-decided.ensures))
+returns-clause-settled g c = rw c.into_parts-trail.ensures.trail (settles c.new-recorder.ensures.trail c.in_ok-decided.ensures)
+
+pub returns-clause-agree : goal.returns-clause-agree
+returns-clause-agree g c = λ t stands.
+    c.into_parts-trail.ensures.agree t
+    (rw c.in_ok-decided.ensures.stands (rw c.new-recorder.ensures.at stands))
 
 pub returns-clause-found : goal.returns-clause-found
-returns-clause-found g c = λ t stands.
-    let settled = rw c.cwd.ensures at (settles c.new-recorder.ensures.trail c.in_ok-decided.ensures) in
-    let told : IsTrue (g.T.Tree.stands_for c.new-recorder.result.tree.now t) = rw c.new-recorder.ensures.at stands in
-    let P : Verdict → Type 0 = IsFound t c.args.project.now.cwd c.args.importer.now c.args.specifier.now in
-    subst P (sym (settled.verdict t told)) (found t c.args.project.now.cwd c.args.importer.now c.args.specifier.now)
+returns-clause-found g c = λ t agrees.
+    let settled = settles c.new-recorder.ensures.trail c.in_ok-decided.ensures in
+    let P : Verdict → Type 0 = IsFound t c.args.project.now (asked_for c.args.importer.now c.args.specifier.now) in
+    subst P (sym (settled.verdict t (rw c.into_parts-trail.ensures.trail at agrees))) (found t c.args.project.now (asked_for c.args.importer.now c.args.specifier.now))
 
 pub returns-clause-put : goal.returns-clause-put
 returns-clause-put g c = rw (← c.new-recorder.ensures.at, c.into_parts-trail.ensures.trail) (grind (arith, common_steps, put_all c.new-recorder.ensures.trail c.in_ok-decided.ensures))
+
+pub returns-in_err-decided-clause-told : goal.returns-in_err-decided-clause-told
+returns-in_err-decided-clause-told g c = λ is.
+    rw (← c.new-recorder.ensures.at)
+    (tells_next (grind (arith, common_steps)) (is_next (Err c.in_err-decided.field-0.0) c.new-recorder.ensures.trail (λ t stands. c.decide-decided.new.tree.agrees t (rw c.in_err-decided.ensures.stands stands)) c.in_err-decided.ensures (is_fault _ _ c.from_residual.ensures.1 is)))
+
+pub returns-in_err-decided-clause-fails : goal.returns-in_err-decided-clause-fails
+returns-in_err-decided-clause-fails g c = λ is.
+    rw (← c.new-recorder.ensures.at)
+    (fails_there (grind (arith, common_steps)) (fails_at (Err c.in_err-decided.field-0.0) c.new-recorder.ensures.trail (λ t stands. c.decide-decided.new.tree.agrees t (rw c.in_err-decided.ensures.stands stands)) c.in_err-decided.ensures (is_fault _ _ c.from_residual.ensures.1 is)))

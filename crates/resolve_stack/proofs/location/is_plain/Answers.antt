@@ -1,7 +1,7 @@
 use Rattle.std.proofs.Common.{not, ap, lit<, rules}
 use Rattle.std.proofs.lemmas.Iterator.Search.{any_from_yields_List}
 use Rattle.std.proofs.lemmas.Iterator.Splits.{YieldsList-from_str_split}
-use Rattle.resolve_stack.specs.Verdict.{is_special}
+use Rattle.resolve_stack.specs.Location.{is_special}
 use Rattle.resolve_stack.proofs.location.is_plain.Goals as goal
 
 pub returns : goal.returns

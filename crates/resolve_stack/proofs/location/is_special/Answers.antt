@@ -1,5 +1,4 @@
-use Rattle.std.proofs.Common.{◌≡◌, ◌||◌, ◌&&◌, true, false, Bool, nat_lt, nat_eq, length, bytes_eq, codes, sym, arith, lt-ltb}
-use Rattle.std.specs.List.{ends_with}
+use Rattle.std.proofs.Common.{◌≡◌, ◌||◌, ◌&&◌, true, false, Bool, codes, lt-ltb}
 use Rattle.std.proofs.lemmas.Str.Pattern.{ends_text}
 use Rattle.resolve_stack.proofs.location.is_special.Goals as goal
 

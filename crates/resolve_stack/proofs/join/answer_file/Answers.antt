@@ -1,21 +1,22 @@
 use Rattle.std.proofs.Common.{◌≡◌, ◌∙◌}
-use Rattle.tree_core.proofs.Asking.{asks_then, asks_done, asks_fails, asks_starved}
-use Rattle.resolve_stack.specs.Verdict.{answered, spelled}
-use Rattle.resolve_stack.proofs.Bounds.{through-is}
-use Rattle.resolve_stack.proofs.bound_search.answer_file.Goals as goal
-use Rattle.resolve_stack.proofs.bound_search.answer_file.Goals.{in-Some, in-None+in_ok-name-in-None}
+use Rattle.tree_core.specs.Resolving.{resolving}
+use Rattle.tree_core.proofs.Asking.{asks_then, asks_done, asks_fails_in, asks_starved_in}
+use Rattle.resolve_stack.specs.Rows.{answered, spelled}
+use Rattle.resolve_stack.proofs.Answered.{through-is}
+use Rattle.resolve_stack.proofs.join.answer_file.Goals as goal
+use Rattle.resolve_stack.proofs.join.answer_file.Goals.{in-Some, in-None+in_ok-name-in-None}
 
 pub returns-in_err-canonical : goal.returns-in_err-canonical
 unfolding answered
-returns-in_err-canonical g c = asks_fails _ _ c.from_residual.ensures.1 c.in_err-canonical.ensures
+returns-in_err-canonical g c = asks_fails_in resolving _ _ c.from_residual.ensures.1 c.in_err-canonical.ensures
 
 pub returns-in_err-path : goal.returns-in_err-path
 unfolding answered
-returns-in_err-path g c = asks_then _ c.in_ok-canonical.ensures (asks_starved _ c.from_residual-in_err-path.ensures.1)
+returns-in_err-path g c = asks_then _ c.in_ok-canonical.ensures (asks_starved_in resolving _ c.from_residual-in_err-path.ensures.1)
 
 pub returns-in_err-name-in-None : goal.returns-in_err-name-in-None
 unfolding answered
-returns-in_err-name-in-None g c = asks_then _ c.in_ok-canonical.ensures (asks_starved _ c.from_residual-in_err-name-in-None.ensures.1)
+returns-in_err-name-in-None g c = asks_then _ c.in_ok-canonical.ensures (asks_starved_in resolving _ c.from_residual-in_err-name-in-None.ensures.1)
 
 pub returns : goal.returns
 unfolding answered

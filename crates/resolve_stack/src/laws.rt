@@ -1,0 +1,12 @@
+// What the order comes to on each tree, and which questions it puts. `resolve_import` has it by its contract.
+ghost use Rattle.resolve_stack.specs.OnTree.{VerdictOnTree, BoundOnTree};
+
+/// The verdict of a request, said as a function of the tree, with its questions.
+pub fn verdict_on_tree()
+    ensures { VerdictOnTree }
+{}
+
+/// The search at a bound location, said as a function of the tree, with its questions.
+pub fn bound_on_tree()
+    ensures { BoundOnTree }
+{}
