@@ -13,3 +13,6 @@ pub mod WayParts
 pub mod Twice
 pub mod Journeys
 pub mod Pieces
+pub mod Agreed
+pub mod LentWays
+pub mod Lanes

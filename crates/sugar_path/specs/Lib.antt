@@ -1,6 +1,8 @@
 pub mod Component
 pub mod ComponentTypes
 pub mod Laws
+pub mod Lent
+pub mod LentParts
 pub mod Parent
 pub mod ParentEnd
 pub mod Path

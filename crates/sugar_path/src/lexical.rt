@@ -5,10 +5,12 @@ ghost use Rattle.std.specs.Str.Lossy.{utf8_lossy};
 ghost use Rattle.std.specs.Cow.{cow_str_bytes, IsBorrowedStr};
 ghost use Rattle.sugar_path.specs.Path.{is_absolute};
 ghost use Rattle.sugar_path.specs.Route.{place, normal, from_folder};
+ghost use Rattle.sugar_path.specs.Lent.{IsWayLent};
 ghost use Rattle.sugar_path.specs.Relative.{needs_folder, relative_from};
 ghost use Rattle.sugar_path.specs.PathTypes.{path_bytes, cow_bytes, is_borrowed, folder_of, is_known, absolute_if_known};
 
 use crate::faults::TryError;
+use crate::lent::lent_way;
 use crate::normal::{is_here, is_normal, is_place, needs_folder};
 use crate::path::{CwdAnswer, Path, PathBuf, PathCow};
 use crate::reading::{is_absolute, normal_of, place_below, place_of};
@@ -61,7 +63,8 @@ pub trait SugarPath<'a>: Sealed {
     ) -> Result<PathCow<'a>, AllocError>
         requires { IsTrue (not (needs_folder (path_bytes base) (bytes self)) || is_absolute (path_bytes cwd)) }
         ensures path { IfOk result (λ p. cow_bytes p ≡ relative_from (path_bytes cwd.entry) (path_bytes base.entry) (bytes self)) }
-        ensures owned { IfOk result (λ p. IsTrue (not (is_borrowed p))) };
+        ensures borrowed { IfOk result (λ p. IsTrue (is_borrowed p) ↔ IsWayLent (path_bytes base.entry) (bytes self)) }
+        ensures lent { IsWayLent (path_bytes base.entry) (bytes self) → IsOk result };
 
     /// As `relative_with`, where the working folder is known if it is needed.
     fn relative(
@@ -72,7 +75,8 @@ pub trait SugarPath<'a>: Sealed {
     ) -> Result<PathCow<'a>, AllocError>
         requires { IsTrue (not (needs_folder (path_bytes base) (bytes self)) || is_absolute (folder_of cwd.now)) }
         ensures path { IfOk result (λ p. cow_bytes p ≡ relative_from (folder_of cwd.now) (path_bytes base.entry) (bytes self)) }
-        ensures owned { IfOk result (λ p. IsTrue (not (is_borrowed p))) };
+        ensures borrowed { IfOk result (λ p. IsTrue (is_borrowed p) ↔ IsWayLent (path_bytes base.entry) (bytes self)) }
+        ensures lent { IsWayLent (path_bytes base.entry) (bytes self) → IsOk result };
 
     /// As `relative_with`, with a fault where the working folder is needed and unknown.
     fn try_relative(
@@ -83,7 +87,8 @@ pub trait SugarPath<'a>: Sealed {
     ) -> Result<PathCow<'a>, TryError>
         requires { IsTrue (absolute_if_known cwd.now) }
         ensures path { IfOk result (λ p. cow_bytes p ≡ relative_from (folder_of cwd.now) (path_bytes base.entry) (bytes self)) }
-        ensures owned { IfOk result (λ p. IsTrue (not (is_borrowed p))) }
+        ensures borrowed { IfOk result (λ p. IsTrue (is_borrowed p) ↔ IsWayLent (path_bytes base.entry) (bytes self)) }
+        ensures lent { IsWayLent (path_bytes base.entry) (bytes self) → IsOk result }
         ensures no_cwd { (result ≡ Err TryError.NoCwd) ↔ (IsTrue (needs_folder (path_bytes base.entry) (bytes self)) × IsTrue (not (is_known cwd.now))) };
 
     /// The path as text.
@@ -154,6 +159,9 @@ impl<'a> SugarPath<'a> for Path<'a> {
         base: Path<'_>,
         cwd: Path<'_>,
     ) -> Result<PathCow<'a>, AllocError> {
+        if let Some(way) = lent_way(base.bytes(), self.bytes()) {
+            return Ok(PathCow::Borrowed(Path::of_bytes(way)));
+        }
         let way = relative_of(alloc, cwd.bytes(), base.bytes(), self.bytes())?;
         Ok(PathCow::Owned(PathBuf::from(way)))
     }

@@ -7,6 +7,7 @@ mod component;
 mod faults;
 mod joined;
 pub mod laws;
+mod lent;
 mod lexical;
 mod lexical_buf;
 mod normal;

@@ -147,20 +147,73 @@ fn texts_are_cleaned(rt: HostRuntime) -> Result<(), Fail> {
     Ok(())
 }
 
+// So many mixed bytes, behind some others.
+fn mixed_bytes(alloc: Global, offset: usize, len: usize) -> Result<Vec<u8>, AllocError> {
+    let mut bytes = Vec::new(alloc);
+    for _ in 0..offset {
+        bytes.push(255)?;
+    }
+    for i in 0..len {
+        bytes.push((i.wrapping_mul(37).wrapping_add(11) % 251) as u8)?;
+    }
+    Ok(bytes)
+}
+
+// The same bytes, but for one, in which each bit is another.
+fn inverted_at(alloc: Global, bytes: &[u8], at: usize) -> Result<Vec<u8>, AllocError> {
+    let mut other = Vec::new(alloc);
+    for (i, byte) in bytes.iter().enumerate() {
+        other.push(if i == at { !*byte } else { *byte })?;
+    }
+    Ok(other)
+}
+
 #[test]
 fn equal_bytes_are_counted(rt: HostRuntime) -> Result<(), Fail> {
-    for (left, right, count) in [
-        ("", "", 0),
-        ("a", "", 0),
-        ("abc", "abd", 2),
-        ("ab", "abc", 2),
-        ("xbc", "abc", 0),
-    ] {
-        assert_eq!(rt;
-            common_prefix_len(left.as_bytes(), right.as_bytes()),
-            count,
-            "{left}, {right}"
-        );
+    for len in 0..257 {
+        let bytes = mixed_bytes(rt.alloc(), 0, len)?;
+        let same = mixed_bytes(rt.alloc(), 0, len)?;
+        assert_eq!(rt; common_prefix_len(&bytes, &same), len);
+        for at in 0..len {
+            let other = inverted_at(rt.alloc(), &bytes, at)?;
+            assert_eq!(rt; common_prefix_len(&bytes, &other), at, "of {len} bytes");
+        }
+    }
+    Ok(())
+}
+
+#[test]
+fn bytes_are_counted_as_far_as_the_shorter_end(rt: HostRuntime) -> Result<(), Fail> {
+    for left in 0..257 {
+        let bytes = mixed_bytes(rt.alloc(), 0, left)?;
+        for right in 0..257 {
+            let others = mixed_bytes(rt.alloc(), 0, right)?;
+            assert_eq!(rt; common_prefix_len(&bytes, &others), left.min(right));
+        }
+    }
+    Ok(())
+}
+
+#[test]
+fn bytes_are_counted_at_each_offset(rt: HostRuntime) -> Result<(), Fail> {
+    for left in 0..16 {
+        let bytes = mixed_bytes(rt.alloc(), left, 300)?;
+        for right in 0..16 {
+            let others = mixed_bytes(rt.alloc(), right, 300)?;
+            for len in 0..257 {
+                let (Some(part), Some(other)) = (
+                    bytes.as_slice().get(left..left + len),
+                    others.as_slice().get(right..right + len),
+                ) else {
+                    panic!(rt; "a list of {len} bytes is too short");
+                };
+                assert_eq!(rt;
+                    common_prefix_len(part, other),
+                    len,
+                    "at {left} and {right}"
+                );
+            }
+        }
     }
     Ok(())
 }

@@ -144,52 +144,68 @@ fn the_working_folder_is_asked_where_needed(rt: HostRuntime) -> Result<(), Fail>
     Ok(())
 }
 
-// A target and a base, and the way from the base to the target, where both are read from `/w/x`.
-fn ways() -> [(&'static str, &'static str, &'static str); 32] {
+// A target and a base, and the way from the base to the target, where both are read from `/w/x`,
+// and whether that is lent.
+fn ways() -> [(&'static str, &'static str, &'static str, bool); 41] {
     [
-        ("/var", "/var/lib", ".."),
-        ("/bin", "/var/lib", "../../bin"),
-        ("/var/lib", "/var/lib", ""),
-        ("/var/apache", "/var/lib", "../apache"),
-        ("/var/lib", "/var/", "lib"),
-        ("/var/lib", "/", "var/lib"),
-        ("/", "/var/lib", "../.."),
+        ("/var", "/var/lib", "..", false),
+        ("/bin", "/var/lib", "../../bin", false),
+        ("/var/lib", "/var/lib", "", true),
+        ("/var/apache", "/var/lib", "../apache", false),
+        ("/var/lib", "/var/", "lib", true),
+        ("/var/lib", "/", "var/lib", true),
+        ("/", "/var/lib", "../..", false),
         (
             "/foo/test/bar/package.json",
             "/foo/test",
             "bar/package.json",
+            true,
         ),
-        ("/Users/a/web/b", "/Users/a/web/b/test/mails", "../.."),
-        ("/foo/bar/baz", "/foo/bar/baz-quux", "../baz"),
-        ("/foo/bar/baz-quux", "/foo/bar/baz", "../baz-quux"),
-        ("/baz", "/baz-quux", "../baz"),
-        ("/a/b", "/a/c/d", "../../b"),
-        ("/a/../b", "/b/./", ""),
-        ("//a//b", "/a/", "b"),
-        ("/..", "/", ""),
-        ("src/lib.rs", "/w/x", "src/lib.rs"),
-        ("/w/y", "z", "../../y"),
-        ("workspace/dist", "workspace", "dist"),
-        ("a", "b", "../a"),
-        ("./a", "a/", ""),
-        ("../a", "../b", "../a"),
-        ("../a/b", "../a", "b"),
-        ("../a", "b", "../../a"),
-        ("b", "../a", "../x/b"),
-        ("..", "a", "../.."),
-        ("", "", ""),
-        ("a/b", "", "a/b"),
-        ("", "a/b", "../.."),
-        ("a/../b", "c/../b", ""),
-        ("../../a", "../..", "a"),
-        ("../../..", "a", "../../.."),
+        (
+            "/Users/a/web/b",
+            "/Users/a/web/b/test/mails",
+            "../..",
+            false,
+        ),
+        ("/foo/bar/baz", "/foo/bar/baz-quux", "../baz", false),
+        ("/foo/bar/baz-quux", "/foo/bar/baz", "../baz-quux", false),
+        ("/baz", "/baz-quux", "../baz", false),
+        ("/a/b", "/a/c/d", "../../b", false),
+        ("/a/../b", "/b/./", "", false),
+        ("//a//b", "/a/", "b", false),
+        ("/..", "/", "", false),
+        ("src/lib.rs", "/w/x", "src/lib.rs", false),
+        ("/w/y", "z", "../../y", false),
+        ("workspace/dist", "workspace", "dist", false),
+        ("a", "b", "../a", false),
+        ("./a", "a/", "", false),
+        ("../a", "../b", "../a", false),
+        ("../a/b", "../a", "b", false),
+        ("../a", "b", "../../a", false),
+        ("b", "../a", "../x/b", false),
+        ("..", "a", "../..", false),
+        ("", "", "", false),
+        ("a/b", "", "a/b", false),
+        ("", "a/b", "../..", false),
+        ("a/../b", "c/../b", "", false),
+        ("../../a", "../..", "a", false),
+        ("../../..", "a", "../../..", false),
+        ("/a/b/c", "/a", "b/c", true),
+        ("/a/./b", "/a", "b", false),
+        ("/a/b", "/a/.", "b", false),
+        ("/a//b", "/a", "b", false),
+        ("/a/b//", "/a//", "b", true),
+        ("/a/é", "/a", "é", true),
+        ("/", "//", "", true),
+        ("/ab", "/a", "../ab", false),
+        ("a/b", "a", "b", false),
     ]
 }
 
 #[test]
 fn ways_lead_from_base_to_target(rt: HostRuntime) -> Result<(), Fail> {
     let folder = Path::of_text("/w/x");
-    for (target, base, way) in ways() {
+    for (target, base, way, lent) in ways() {
         let path = Path::of_text(target);
         let found = path.relative_with(rt.alloc(), Path::of_text(base), folder)?;
         assert_eq!(rt;
@@ -197,8 +213,9 @@ fn ways_lead_from_base_to_target(rt: HostRuntime) -> Result<(), Fail> {
             way.as_bytes(),
             "from {base} to {target}"
         );
-        assert!(rt;
-            matches!(&found, PathCow::Owned(_)),
+        assert_eq!(rt;
+            matches!(&found, PathCow::Borrowed(_)),
+            lent,
             "from {base} to {target}"
         );
     }

@@ -1,19 +1,25 @@
-use Rattle.std.proofs.Common.{◌==◌, ◌∙◌, nat_eq, rules, ap, ℕ}
-use Rattle.std.specs.List.{zip}
-use Rattle.std.specs.Slice.Iter.{iter_rest}
-use Rattle.std.proofs.lemmas.Iterator.{YieldsList-from_slice, YieldsList-from_zip}
-use Rattle.std.proofs.lemmas.Iterator.Consumers.{YieldsList-at, count_from_yields_List}
-use Rattle.std.proofs.lemmas.Iterator.Search.{YieldsList-from_take_while}
-use Rattle.std.proofs.lemmas.List.Folds.{length-prefix_len}
-use Rattle.sugar_path.proofs.WayParts.{prefix_len-zip}
+use Rattle.std.proofs.Common.{◌≡◌, ◌+◌, arith, ◌∙◌, ap, sym}
+use Rattle.sugar_path.proofs.Lanes.{shared, block-at, block-next, rest-le}
 use Rattle.sugar_path.proofs.prefix.common_prefix_len.Goals as goal
 
-pub returns : goal.returns
-returns c =
-    count_from_yields_List _ c.count.result c.count.ensures.ran
-    (YieldsList-from_take_while _ (λ p. p.0 == p.1)
-    (YieldsList-at c.take_while.ensures.source (YieldsList-from_zip
-    (YieldsList-from_slice c.args.left.now (ap iter_rest c.zip.ensures.first ∙ c.iter.ensures.rest))
-    (YieldsList-from_slice c.args.right.now c.zip.ensures.second.0)))
-    c.take_while.ensures.closure c.take_while.ensures.done (λ x b q k. search rules))
-    ∙ length-prefix_len (λ (p : ℕ × ℕ). p.0 == p.1) (zip c.args.left.now c.args.right.now) ∙ prefix_len-zip nat_eq c.args.left.now c.args.right.now
+pub overflow_add-at : goal.overflow_add-at
+overflow_add-at c =
+    let block = block-at c.loop-at.at _ c.args.left.now c.args.right.now c.equal_lanes-equal.result c.loop-at-test.true c.min-end.ensures c.equal_lanes-equal.ensures in
+    omega (arith, block.0, c.loop-at-test.true, c.min-end.type_inv)
+
+pub returns-then-equal-lt32 : goal.returns-then-equal-lt32
+returns-then-equal-lt32 c =
+    let block = block-at c.loop-at.at _ c.args.left.now c.args.right.now c.equal_lanes-equal.result c.loop-at-test.true c.min-end.ensures c.equal_lanes-equal.ensures in
+    ap (λ k. c.loop-at.at + k) (sym (block.1 c.if-equal-lt32.true)) ∙ c.loop-at.invariant.equal
+
+pub loop-at-preserved : goal.loop-at-preserved
+loop-at-preserved c =
+    let block = block-at c.loop-at.at _ c.args.left.now c.args.right.now c.equal_lanes-equal.result c.loop-at-test.true c.min-end.ensures c.equal_lanes-equal.ensures in
+    let all : c.equal_lanes-equal.result ≡ 32 = omega (arith, block.0, c.if-equal-lt32.false) in
+    let next = block-next c.loop-at.at (shared c.args.left.now c.args.right.now) c.args.left.now c.args.right.now c.loop-at.invariant.equal (block.2 c.if-equal-lt32.false) in
+    record { within = omega (arith, all, c.loop-at-test.true); equal = rw all next }
+
+pub overflow_add-result : goal.overflow_add-result
+overflow_add-result c =
+    let le = rest-le c.loop-at.at c.min-end.result c.equal_bytes.result c.args.left.now c.args.right.now c.min-end.ensures c.loop-at.invariant.equal c.equal_bytes.ensures in
+    omega (arith, le, c.min-end.type_inv)

@@ -1,0 +1,58 @@
+// A relative path that stands in the text of its target, so that nothing is copied.
+ghost use Rattle.std.specs.Prelude.{◌≡◌, ◌↔◌, ◌⊎◌, [], List, ℕ, IfSome, IsSome, IsTrue, option_map};
+ghost use Rattle.sugar_path.specs.Route.{place};
+ghost use Rattle.sugar_path.specs.Relative.{relative_from};
+ghost use Rattle.sugar_path.specs.Lent.{without_last_slashes, IsInOrder, IsWayLent};
+ghost use Rattle.sugar_path.specs.LentParts.{IsRestBehind};
+
+use crate::normal::is_place;
+use crate::reading::is_absolute;
+
+/// The relative path from a base to a target, if it stands at the end of the target.
+pub(crate) fn lent_way<'a>(base: &[u8], target: &'a [u8]) -> Option<&'a [u8]>
+    ensures lent { IsSome result ↔ IsWayLent base.now target.now }
+    ensures way { IfSome result (λ w. (cwd : List ℕ) → w.now ≡ relative_from cwd base.now target.now) }
+{
+    match rest_behind(without_last_slashes(base), without_last_slashes(target)) {
+        Some(way) if is_in_order(base) && is_in_order(target) => Some(way),
+        _ => None,
+    }
+}
+
+// What follows a front in a text: nothing, or what stands behind a slash.
+fn rest_behind<'a>(front: &[u8], text: &'a [u8]) -> Option<&'a [u8]>
+    ensures { IsRestBehind front.now text.now (option_map (λ r. r.now) result) }
+{
+    match text.strip_prefix(front) {
+        None => None,
+        Some(rest) if rest.is_empty() => Some(rest),
+        Some(rest) => rest.strip_prefix(b"/"),
+    }
+}
+
+// Whether a path is absolute, UTF-8, and in order but for the separators at its end.
+fn is_in_order(path: &[u8]) -> bool
+    ensures { IsTrue result ↔ IsInOrder path.now }
+{
+    is_absolute(path)
+        && is_empty_or_place(without_last_slashes(path))
+        && std::str::from_utf8(path).is_ok()
+}
+
+// Whether nothing is left of a path, or it is its own place.
+fn is_empty_or_place(path: &[u8]) -> bool
+    ensures { IsTrue result ↔ ((path.now ≡ []) ⊎ (place path.now ≡ path.now)) }
+{
+    path.is_empty() || is_place(path)
+}
+
+// The path without the separators at its end.
+fn without_last_slashes(path: &[u8]) -> &[u8]
+    ensures { result.now ≡ without_last_slashes path.now }
+{
+    let mut front = path;
+    while let Some(shorter) = front.strip_suffix(b"/") {
+        front = shorter;
+    }
+    front
+}
