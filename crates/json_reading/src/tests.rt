@@ -1,5 +1,5 @@
 // Values of each kind, read.
-use crate::{FromJson, FromJsonError, field, field_or, holds_float};
+use crate::{FromJson, FromJsonError, field_or, holds_float};
 use serde_json::Value;
 use std::test::Fail;
 use sugar_path::{List, Text};
@@ -18,6 +18,40 @@ fn floats_are_told(rt: HostRuntime) -> Result<(), Fail> {
     ] {
         let value = Value::from_str(rt.alloc(), text)?;
         assert_eq!(rt; holds_float(&value), told, "in {text}");
+    }
+    Ok(())
+}
+
+// Whether a value is read as pairs of a name and a flag that may be null.
+#[test]
+fn each_kind_is_read_or_refused(rt: HostRuntime) -> Result<(), Fail> {
+    for (text, read) in [
+        ("[]", true),
+        (r#"[["a", true], ["b", null]]"#, true),
+        (r#"[["a", 1]]"#, false),
+        (r#"[["a"]]"#, false),
+        (r#"[["a", true, true]]"#, false),
+        (r#"{"a": true}"#, false),
+    ] {
+        let value = Value::from_str(rt.alloc(), text)?;
+        match List::<(Text, Option<bool>)>::from_json(rt.alloc(), &value) {
+            Ok(_) => assert!(rt; read, "{text} is read"),
+            Err(e) => assert_eq!(rt; (e, read), (FromJsonError::OtherKind, false), "{text}"),
+        }
+    }
+    Ok(())
+}
+
+// A member that is absent has what stands for it, and one that is null is of another kind.
+#[test]
+fn only_an_absent_field_has_a_default(rt: HostRuntime) -> Result<(), Fail> {
+    for (text, told) in [
+        (r#"{"a": false}"#, Ok(false)),
+        ("{}", Ok(true)),
+        (r#"{"a": null}"#, Err(FromJsonError::OtherKind)),
+    ] {
+        let value = Value::from_str(rt.alloc(), text)?;
+        assert_eq!(rt; field_or(rt.alloc(), &value, "a", true), told, "in {text}");
     }
     Ok(())
 }

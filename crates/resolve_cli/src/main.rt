@@ -1,26 +1,7 @@
-//! The program: reads a document, resolves its requests and writes a line for each.
+//! The program: a document on the standard input, and a line for each of its requests on the standard output.
 #![tactic(auto)]
 
-mod cause;
-mod document;
-mod fields;
-mod json_text;
-mod memory_sinks;
-mod memory_sources;
-mod reading;
-mod report;
-mod run;
-mod sink;
-mod source;
-mod standard_streams;
-mod status;
-#[cfg(test)]
-mod tests;
-mod writing;
-
-use run::run;
-use standard_streams::{ReaderSource, WriterSink};
-use status::Status;
+use cli_core::{ReaderSource, Status, WriterSink, run};
 use std::env;
 use std::io::ErrorKind;
 use std::process::ExitCode;

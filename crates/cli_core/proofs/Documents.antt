@@ -1,0 +1,47 @@
+-- Projects, trees and verdicts of a document.
+use Rattle.std.proofs.Common.{◌≡◌, ℕ, Bool, true, false, IsTrue, List, Ok, Err, refl, sym, ap, ◌∙◌, subst}
+use Rattle.std.proofs.lemmas.Slice.Eq.{bytes_eq-Decides}
+use Rattle.sugar_path.specs.Path.{IsCleanPath, path_in, text_of}
+use Rattle.sugar_path.proofs.Parts.{IsPath-path_in, path_in-text_of}
+use Rattle.tree_core.specs.Asks.{Settles}
+use Rattle.tree_core.specs.Tree.{Files, is_clean_path}
+use Rattle.tree_core.specs.declared.question.Question.{Question}
+use Rattle.tree_core.specs.declared.question.Reply.{Reply}
+use Rattle.tree_core.specs.Memory.{same_files}
+use Rattle.resolve_stack.specs.Settings.{Known}
+use Rattle.tree_core.proofs.Entries.{same_files-is, same_files-refl}
+use Rattle.resolve_stack.specs.Verdict.{verdict}
+use Rattle.resolve_stack.specs.declared.verdict.Verdict.{Verdict}
+use Rattle.cli_core.specs.Document.{project_of, verdict_on}
+use Rattle.cli_core.specs.declared.given.Request.{Request}
+use Rattle.cli_core.specs.declared.cause.Cause.TheVariants.{SettingsFault}
+use Rattle.std.specs.Prelude.{codes}
+
+clean_path_tested : (t : List ℕ) → IsCleanPath t → is_clean_path t ≡ true
+clean_path_tested t (p, names, is) = (bytes_eq-Decides t (text_of (path_in t))).1 (is ∙ ap text_of (sym (ap path_in is ∙ path_in-text_of p names)))
+
+by_test : (b : Bool) → (b ≡ true → ⊥) → b ≡ false
+by_test true never = absurd (never refl)
+by_test false never = refl
+
+unclean_path_tested : (t : List ℕ) → ¬ (IsCleanPath t) → is_clean_path t ≡ false
+unclean_path_tested t unclean = by_test (is_clean_path t) (λ h. unclean (path_in t, IsPath-path_in t, (bytes_eq-Decides t (text_of (path_in t))).0 h))
+
+-- a clean working folder makes a project
+pub project_of-clean : (cwd : List ℕ) (project : Known) → IsCleanPath cwd → project.cwd ≡ path_in cwd → project_of cwd ≡ Ok project
+unfolding project_of
+project_of-clean cwd project clean is = rw (clean_path_tested cwd clean) (ap (λ p. Ok (record { cwd = p })) (sym is))
+
+-- any other is a fault
+pub project_of-unclean : (cwd field : List ℕ) → field ≡ codes "cwd" → ¬ (IsCleanPath cwd) → project_of cwd ≡ Err (SettingsFault field)
+unfolding project_of
+project_of-unclean cwd field is unclean = rw (unclean_path_tested cwd unclean) (ap (λ f. Err (SettingsFault f)) (sym is))
+
+-- what settles on the trees that a tree in memory stands for settles on its files
+pub settled_here : (files : Files) (project : Known) (request : Request) (v : Verdict) (steps : List (Question × Reply)) → Settles (λ t. same_files files t) v steps (verdict project.cwd request.from request.specifier) → v ≡ verdict_on files project request
+unfolding verdict_on
+settled_here files project request v steps s = s.verdict files (same_files-refl files)
+
+-- a tree in memory that stands for the same trees has the same files
+pub same_kept : (now before : Files) → ◌≡◌ {A = Files → Bool} (λ t. same_files now t) (λ t. same_files before t) → now ≡ before
+same_kept now before same = same_files-is now before (subst IsTrue (sym (ap (λ (f : Files → Bool). f before) same)) (same_files-refl before))

@@ -1,0 +1,36 @@
+-- The causes against a document, and what a call that may find one answers.
+use Rattle.std.specs.Prelude.{◌≡◌, ℕ, List, codes, Result, Ok, Err}
+use Rattle.cli_core.specs.declared.cause.Field.{Field}
+use Rattle.cli_core.specs.declared.cause.Field.TheVariants.{Cwd, Target, PreserveSymlinks, NodeModules, Alias, Ts, Lock, Files, Requests}
+use Rattle.cli_core.specs.declared.cause.Cause.{Cause}
+use Rattle.cli_core.specs.declared.cause.DocumentError.{DocumentError}
+use Rattle.cli_core.specs.declared.cause.DocumentError.TheVariants.{Refused, NoMemory}
+
+-- a field's key in a document
+abbrev pub name_of : Field → List ℕ
+name_of Cwd = codes "cwd"
+name_of Target = codes "target"
+name_of PreserveSymlinks = codes "preserve_symlinks"
+name_of NodeModules = codes "node_modules"
+name_of Alias = codes "alias"
+name_of Ts = codes "ts"
+name_of Lock = codes "lock"
+name_of Files = codes "files"
+name_of Requests = codes "requests"
+
+-- a call meets what is wanted of it: it answers that, or want of memory
+abbrev pub Meets : {A : Type 0} → Result A DocumentError → Result A Cause → Type 0
+Meets (Ok a) wanted = wanted ≡ Ok a
+Meets (Err (Refused cause)) wanted = wanted ≡ Err cause
+Meets (Err NoMemory) wanted = Unit {0}
+
+-- a call's answer, seen by what it stands for
+abbrev pub answer_seen : {A B : Type 0} → (A → B) → Result A DocumentError → Result B DocumentError
+answer_seen seen (Ok a) = Ok (seen a)
+answer_seen seen (Err e) = Err e
+
+-- one step behind the other: the first cause ends all
+infixl 10 ◌>>=◌
+abbrev pub ◌>>=◌ : {A B : Type 0} → Result A Cause → (A → Result B Cause) → Result B Cause
+Ok a >>= next = next a
+Err cause >>= next = Err cause

@@ -1,0 +1,105 @@
+-- The lines that are written: for each verdict the compact text of a JSON object whose keys stand in byte order.
+use Rattle.std.specs.Prelude.{ℕ, List, [], ◌∷◌, ◌++◌, codes, flat_map, Option, Some, None}
+use Rattle.json.specs.Print.{quoted}
+use Rattle.serde_json.specs.Data.{Data, null, string, object, no_members, member}
+use Rattle.serde_json.specs.Written.{compact_text}
+use Rattle.resolve_stack.specs.declared.resolution.FileName.{FileName}
+use Rattle.resolve_stack.specs.declared.resolution.FileName.TheVariants.{Real, Custom, Anon}
+use Rattle.resolve_stack.specs.declared.resolution.Found.{Found}
+use Rattle.pnp_core.specs.declared.error.HydrationCause.{HydrationCause}
+use Rattle.pnp_core.specs.declared.error.HydrationCause.TheVariants.{NotText, NoPayload, BadJson, NoTopLevel}
+use Rattle.resolve_stack.specs.declared.verdict.JoinRefusal.{JoinRefusal}
+use Rattle.resolve_stack.specs.declared.verdict.JoinRefusal.TheVariants.{FailedManifestHydration, UndeclaredDependency, NotFound, NotBuilt}
+use Rattle.pnp_core.specs.declared.manifest.PackageLocator.{PackageLocator}
+use Rattle.resolve_stack.specs.declared.resolution.Resolution.{Resolution}
+use Rattle.resolve_stack.specs.declared.verdict.Verdict.{Verdict}
+use Rattle.resolve_stack.specs.declared.verdict.Verdict.TheVariants.{Answered, Refused}
+use Rattle.resolve_stack.specs.declared.resolution.Via.{Via}
+use Rattle.cli_core.specs.Cause.{name_of}
+use Rattle.cli_core.specs.declared.cause.Cause.{Cause}
+use Rattle.cli_core.specs.declared.cause.Cause.TheVariants as cause
+
+abbrev pub text_or_null : Option (List ℕ) → Data
+text_or_null None = null
+text_or_null (Some t) = string t
+
+-- what answers: a file's text or a custom name
+abbrev pub name_value : FileName → Data
+name_value (Real t) = object (member (codes "real") (string t) no_members)
+name_value (Custom t) = object (member (codes "custom") (string t) no_members)
+name_value Anon = null
+
+-- the row through which a file was found
+abbrev pub via_value : Option Via → Data
+via_value None = null
+via_value (Some via) = object
+    (member (codes "location") (string via.location)
+    (member (codes "name") (string via.name)
+    (member (codes "reference") (string via.reference) no_members)))
+
+-- the file that was found
+abbrev pub found_value : Option Found → Data
+found_value None = null
+found_value (Some found) = object
+    (member (codes "file") (string found.file)
+    (member (codes "via") (via_value found.via) no_members))
+
+abbrev pub answer_value : Resolution → Data
+answer_value answer = object
+    (member (codes "answer") (name_value answer.filename)
+    (member (codes "found") (found_value answer.found)
+    (member (codes "slug") (text_or_null answer.slug) no_members)))
+
+abbrev pub cause_name : HydrationCause → List ℕ
+cause_name NotText = codes "NotText"
+cause_name NoPayload = codes "NoPayload"
+cause_name BadJson = codes "BadJson"
+cause_name NoTopLevel = codes "NoTopLevel"
+
+abbrev pub issuer_value : PackageLocator → Data
+issuer_value issuer = object
+    (member (codes "name") (string issuer.name)
+    (member (codes "reference") (string issuer.reference) no_members))
+
+-- a refusal by its kind, with what it tells
+abbrev pub refusal_value : JoinRefusal → Data
+refusal_value (FailedManifestHydration cause manifest) = object
+    (member (codes "cause") (string (cause_name cause))
+    (member (codes "kind") (string (codes "FailedManifestHydration"))
+    (member (codes "manifest") (string manifest) no_members)))
+refusal_value (UndeclaredDependency undeclared) = object
+    (member (codes "dependency") (string undeclared.dependency_name)
+    (member (codes "issuer") (issuer_value undeclared.issuer_locator)
+    (member (codes "kind") (string (codes "UndeclaredDependency"))
+    (member (codes "message") (string undeclared.message)
+    (member (codes "path") (string undeclared.issuer_path)
+    (member (codes "request") (string undeclared.request) no_members))))))
+refusal_value (NotFound text) = object
+    (member (codes "kind") (string (codes "NotFound"))
+    (member (codes "text") (string text) no_members))
+refusal_value NotBuilt = object (member (codes "kind") (string (codes "NotBuilt")) no_members)
+
+abbrev pub verdict_value : Verdict → Data
+verdict_value (Answered answer) = answer_value answer
+verdict_value (Refused refusal) = object (member (codes "refused") (refusal_value refusal) no_members)
+
+-- the line of a verdict
+unfoldable pub verdict_line : Verdict → List ℕ
+verdict_line verdict = compact_text (verdict_value verdict) ++ 10 ∷ []
+
+-- the lines of verdicts, in order
+abbrev pub verdict_lines : List Verdict → List ℕ
+verdict_lines verdicts = flat_map verdict_line verdicts
+
+-- a cause, with its texts as JSON
+abbrev pub cause_text : Cause → List ℕ
+cause_text cause.NotJson = codes "not-json"
+cause_text (cause.BadField field) = codes "bad-field " ++ name_of field
+cause_text (cause.NotBuilt field) = codes "not-built " ++ name_of field
+cause_text (cause.BadTree path None) = codes "bad-tree " ++ quoted path
+cause_text (cause.BadTree path (Some other)) = codes "bad-tree " ++ quoted path ++ 32 ∷ quoted other
+cause_text (cause.SettingsFault field) = codes "bad-project SettingsFault " ++ field
+
+-- the line of a refused document
+unfoldable pub cause_line : Cause → List ℕ
+cause_line cause = codes "refused: " ++ cause_text cause ++ 10 ∷ []

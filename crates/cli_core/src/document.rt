@@ -1,0 +1,119 @@
+// What a document asks, and the report on it.
+ghost use Rattle.std.specs.Prelude.{◌≡◌, ◌++◌, IfOk, OnErr, string_bytes};
+ghost use Rattle.std.specs.FinMap as finite;
+ghost use Rattle.cli_core.specs.Cause.{Meets, answer_seen};
+ghost use Rattle.cli_core.specs.Document.{lines_of, project_of, put_file, put_files, report, verdict_on};
+ghost use Rattle.cli_core.specs.Report.{verdict_line};
+
+use crate::cause::{Cause, DocumentError};
+use crate::fields::{Document, read_fields};
+use crate::given::{GivenFile, Request};
+use crate::json_text::read_json;
+use crate::report::line_of_verdict;
+use resolve_stack::{ImportError, Project, ProjectError, Settings, Verdict, resolve_import};
+use std::alloc::{AllocError, Global};
+use sugar_path::Text;
+use tree_core::{MemoryTree, PutError};
+
+/// The report on a document's bytes: the lines of the verdicts on its requests, in order; or the first cause against it.
+#[tactic(auto, unfolding(crate::specs::Document::report, crate::specs::Document::document))]
+pub fn report_for(alloc: Global, bytes: &[u8]) -> Result<String, DocumentError>
+    ensures { Meets (answer_seen string_bytes result) (report bytes.now) }
+{
+    let value = read_json(alloc, bytes)?;
+    let Document {
+        cwd,
+        files,
+        requests,
+    } = read_fields(alloc, &value)?;
+    let tree = tree_of(alloc, files.as_slice())?;
+    let project = project_in(alloc, cwd)?;
+    Ok(lines_on(alloc, tree, &project, requests.as_slice())?)
+}
+
+// The tree of a document's files.
+pub(crate) fn tree_of(alloc: Global, files: &[GivenFile]) -> Result<MemoryTree, DocumentError>
+    ensures { Meets (answer_seen (λ t. t.files) result) (put_files finite.empty files.now) }
+{
+    let mut tree = MemoryTree::new(alloc);
+    for file in files {
+        put(alloc, &mut tree, file)?;
+    }
+    Ok(tree)
+}
+
+// Puts one file into the tree.
+#[tactic(auto, unfolding(crate::specs::Document::put_file))]
+fn put(alloc: Global, tree: &mut MemoryTree, file: &GivenFile) -> Result<(), DocumentError>
+    ensures { Meets (answer_seen (λ _. tree.new.files) result) (put_file tree.old.files file.now) }
+{
+    let put = tree.put(
+        file.path.as_str(),
+        file.content.as_slice(),
+        file.canonical.as_str(),
+    );
+    let other = match put {
+        Ok(()) => return Ok(()),
+        Err(PutError::Unclean) => None,
+        Err(PutError::Conflict { other }) => Some(other),
+        Err(PutError::NoMemory) => return Err(DocumentError::NoMemory),
+    };
+    let path = file.path.try_clone(alloc)?;
+    Err(DocumentError::Refused(Cause::BadTree { path, other }))
+}
+
+// The project of a working folder.
+fn project_in(alloc: Global, cwd: Text) -> Result<Project, DocumentError>
+    ensures { Meets result (project_of cwd) }
+{
+    match Project::new(alloc, Settings { cwd }) {
+        Ok(project) => Ok(project),
+        Err(ProjectError::SettingsFault { field }) => {
+            Err(DocumentError::Refused(Cause::SettingsFault { field }))
+        }
+        Err(ProjectError::NoMemory) => Err(DocumentError::NoMemory),
+    }
+}
+
+// The lines of the verdicts, in order.
+fn lines_on(
+    alloc: Global,
+    tree: MemoryTree,
+    project: &Project,
+    requests: &[Request],
+) -> Result<String, AllocError>
+    ensures { IfOk result (λ lines.
+        string_bytes lines ≡ lines_of tree.files project.now requests.now) }
+{
+    let mut tree = tree;
+    let mut lines = String::new(alloc);
+    for request in requests {
+        let verdict = verdict_of(alloc, &mut tree, project, request)?;
+        let line = line_of_verdict(alloc, &verdict)?;
+        lines.push_str(line.as_str())?;
+    }
+    Ok(lines)
+}
+
+// The verdict on one request. A tree in memory refuses no question.
+fn verdict_of(
+    alloc: Global,
+    tree: &mut MemoryTree,
+    project: &Project,
+    request: &Request,
+) -> Result<Verdict, AllocError>
+    ensures verdict { IfOk result (λ v. v ≡ verdict_on tree.old.files project.now request.now) }
+    ensures files { tree.new.files ≡ tree.old.files }
+{
+    match resolve_import(
+        alloc,
+        tree,
+        project,
+        &request.from,
+        request.specifier.as_str(),
+    ) {
+        Ok(outcome) => Ok(outcome.verdict),
+        Err(ImportError::NoMemory) => Err(AllocError),
+        Err(ImportError::TreeFault) => unreachable!(),
+    }
+}

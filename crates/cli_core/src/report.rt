@@ -1,0 +1,184 @@
+// Writes verdicts as lines of JSON, and the line of a refused document.
+ghost use Rattle.std.specs.Prelude.{◌≡◌, IfOk, string_bytes};
+ghost use Rattle.json.specs.Print.{quoted};
+ghost use Rattle.serde_json.specs.View.{view};
+ghost use Rattle.cli_core.specs.Report.{answer_value, cause_line, cause_name, cause_text, found_value, issuer_value, name_value, refusal_value, text_or_null, verdict_line, verdict_value, via_value};
+
+use crate::cause::Cause;
+use pnp_core::{HydrationCause, PackageLocator, UndeclaredDependency};
+use resolve_stack::{FileName, Found, JoinRefusal, Resolution, Verdict, Via};
+use serde_json::{Value, json};
+use std::alloc::{AllocError, Global};
+use sugar_path::Text;
+
+/// The line of a verdict, with its line end.
+#[tactic(auto, unfolding(crate::specs::Report::verdict_line))]
+pub fn line_of_verdict(alloc: Global, verdict: &Verdict) -> Result<String, AllocError>
+    ensures { IfOk result (λ line. string_bytes line ≡ verdict_line verdict.now) }
+{
+    let value = value_of_verdict(alloc, verdict)?;
+    let mut line = value.to_string(alloc)?;
+    line.push_str("\n")?;
+    Ok(line)
+}
+
+fn value_of_verdict(alloc: Global, verdict: &Verdict) -> Result<Value, AllocError>
+    ensures { IfOk result (λ value. view value ≡ verdict_value verdict.now) }
+{
+    match verdict {
+        Verdict::Answered(answer) => value_of_answer(alloc, answer),
+        Verdict::Refused(refusal) => {
+            let refused = value_of_refusal(alloc, refusal)?;
+            json!(in alloc; {"refused": refused})
+        }
+    }
+}
+
+fn value_of_answer(alloc: Global, answer: &Resolution) -> Result<Value, AllocError>
+    ensures { IfOk result (λ value. view value ≡ answer_value answer.now) }
+{
+    let name = value_of_name(alloc, &answer.filename)?;
+    let found = value_of_found(alloc, &answer.found)?;
+    let slug = value_of_text(alloc, &answer.slug)?;
+    json!(in alloc; {"answer": name, "found": found, "slug": slug})
+}
+
+fn value_of_name(alloc: Global, name: &FileName) -> Result<Value, AllocError>
+    ensures { IfOk result (λ value. view value ≡ name_value name.now) }
+{
+    match name {
+        FileName::Real(text) => json!(in alloc; {"real": text.as_str()}),
+        FileName::Custom(text) => json!(in alloc; {"custom": text.as_str()}),
+        FileName::Anon => Ok(Value::Null),
+    }
+}
+
+fn value_of_text(alloc: Global, text: &Option<Text>) -> Result<Value, AllocError>
+    ensures { IfOk result (λ value. view value ≡ text_or_null text.now) }
+{
+    match text {
+        None => Ok(Value::Null),
+        Some(text) => Value::try_from_str(alloc, text.as_str()),
+    }
+}
+
+fn value_of_found(alloc: Global, found: &Option<Found>) -> Result<Value, AllocError>
+    ensures { IfOk result (λ value. view value ≡ found_value found.now) }
+{
+    match found {
+        None => Ok(Value::Null),
+        Some(found) => {
+            let via = value_of_via(alloc, &found.via)?;
+            json!(in alloc; {"file": found.file.as_str(), "via": via})
+        }
+    }
+}
+
+fn value_of_via(alloc: Global, via: &Option<Via>) -> Result<Value, AllocError>
+    ensures { IfOk result (λ value. view value ≡ via_value via.now) }
+{
+    match via {
+        None => Ok(Value::Null),
+        Some(via) => json!(in alloc; {
+            "location": via.location.as_str(),
+            "name": via.name.as_str(),
+            "reference": via.reference.as_str()
+        }),
+    }
+}
+
+fn value_of_refusal(alloc: Global, refusal: &JoinRefusal) -> Result<Value, AllocError>
+    ensures { IfOk result (λ value. view value ≡ refusal_value refusal.now) }
+{
+    match refusal {
+        JoinRefusal::FailedManifestHydration { cause, manifest } => {
+            json!(in alloc; {
+                "cause": name_of_cause(*cause),
+                "kind": "FailedManifestHydration",
+                "manifest": manifest.as_str()
+            })
+        }
+        JoinRefusal::UndeclaredDependency(undeclared) => value_of_undeclared(alloc, undeclared),
+        JoinRefusal::NotFound { text } => {
+            json!(in alloc; {"kind": "NotFound", "text": text.as_str()})
+        }
+        JoinRefusal::NotBuilt => json!(in alloc; {"kind": "NotBuilt"}),
+    }
+}
+
+ghost use Rattle.resolve_stack.specs.declared.verdict.JoinRefusal.TheVariants as refusal;
+
+fn value_of_undeclared(
+    alloc: Global,
+    undeclared: &UndeclaredDependency,
+) -> Result<Value, AllocError>
+    ensures { IfOk result (λ value. view value ≡ refusal_value (refusal.UndeclaredDependency undeclared.now)) }
+{
+    let issuer = value_of_issuer(alloc, &undeclared.issuer_locator)?;
+    json!(in alloc; {
+        "dependency": undeclared.dependency_name.as_str(),
+        "issuer": issuer,
+        "kind": "UndeclaredDependency",
+        "message": undeclared.message.as_str(),
+        "path": undeclared.issuer_path.as_str(),
+        "request": undeclared.request.as_str()
+    })
+}
+
+fn value_of_issuer(alloc: Global, issuer: &PackageLocator) -> Result<Value, AllocError>
+    ensures { IfOk result (λ value. view value ≡ issuer_value issuer.now) }
+{
+    json!(in alloc; {"name": issuer.name.as_str(), "reference": issuer.reference.as_str()})
+}
+
+fn name_of_cause(cause: HydrationCause) -> &'static str
+    ensures { result.now ≡ cause_name cause }
+{
+    match cause {
+        HydrationCause::NotText => "NotText",
+        HydrationCause::NoPayload => "NoPayload",
+        HydrationCause::BadJson => "BadJson",
+        HydrationCause::NoTopLevel => "NoTopLevel",
+    }
+}
+
+/// The line of a refused document, with its line end.
+#[tactic(auto, unfolding(crate::specs::Report::cause_line))]
+pub fn line_of_cause(alloc: Global, cause: &Cause) -> Result<String, AllocError>
+    ensures { IfOk result (λ line. string_bytes line ≡ cause_line cause.now) }
+{
+    let text = text_of_cause(alloc, cause)?;
+    format!(in alloc; "refused: {text}\n")
+}
+
+fn text_of_cause(alloc: Global, cause: &Cause) -> Result<String, AllocError>
+    ensures { IfOk result (λ text. string_bytes text ≡ cause_text cause.now) }
+{
+    match cause {
+        Cause::NotJson => String::from_str(alloc, "not-json"),
+        Cause::BadField(field) => format!(in alloc; "bad-field {}", field.name()),
+        Cause::NotBuilt(field) => format!(in alloc; "not-built {}", field.name()),
+        Cause::BadTree { path, other: None } => {
+            let path = quoted_text(alloc, path)?;
+            format!(in alloc; "bad-tree {path}")
+        }
+        Cause::BadTree {
+            path,
+            other: Some(other),
+        } => {
+            let path = quoted_text(alloc, path)?;
+            let other = quoted_text(alloc, other)?;
+            format!(in alloc; "bad-tree {path} {other}")
+        }
+        Cause::SettingsFault { field } => {
+            format!(in alloc; "bad-project SettingsFault {}", field.as_str())
+        }
+    }
+}
+
+// A text as JSON.
+fn quoted_text(alloc: Global, text: &Text) -> Result<String, AllocError>
+    ensures { IfOk result (λ line. string_bytes line ≡ quoted text.now) }
+{
+    Value::try_from_str(alloc, text.as_str())?.to_string(alloc)
+}

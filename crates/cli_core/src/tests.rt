@@ -1,0 +1,224 @@
+// The bare name from an owned file, and what each cause and each fault comes to.
+use crate::memory_sinks::{BytesSink, PlainSink};
+use crate::memory_sources::{BytesSource, PlainSource};
+use crate::running::run;
+use crate::sink::Sink;
+use crate::source::{Source, SourceFault};
+use std::alloc::{AllocError, Global};
+use std::test::Fail;
+use sugar_path::{Bytes, List};
+use tree_core::MemoryTree;
+
+mod refusals;
+mod trail;
+
+// A file that its manifest's top-level package owns imports a package by its bare name.
+pub(crate) fn bare_name() -> &'static str {
+    r#"{"cwd": "/w", "target": "node", "files": [{"path": "/w/a.js", "text": ""}, {"path": "/w/.pnp.cjs", "text": "const RAW_RUNTIME_STATE =\n'{\"dependencyTreeRoots\":[{\"name\":\"app\",\"reference\":\"workspace:.\"}],\"enableTopLevelFallback\":true,\"ignorePatternData\":null,\"fallbackExclusionList\":[[\"app\",[\"workspace:.\"]]],\"fallbackPool\":[],\"packageRegistryData\":[[null,[[null,{\"packageLocation\":\"./\",\"packageDependencies\":[[\"foo\",\"npm:1.0.0\"]]}]]],[\"app\",[[\"workspace:.\",{\"packageLocation\":\"./\",\"packageDependencies\":[[\"foo\",\"npm:1.0.0\"]]}]]],[\"foo\",[[\"npm:1.0.0\",{\"packageLocation\":\"./.yarn/foo/\",\"packageDependencies\":[[\"foo\",\"npm:1.0.0\"]]}]]]]}';\n"}, {"path": "/w/.yarn/foo/index.js", "hex": ""}], "requests": [{"from": "/w/a.js", "specifier": "foo"}]}"#
+}
+
+fn its_line() -> &'static str {
+    r#"{"answer":{"real":"/w/.yarn/foo/index.js"},"found":{"file":"/w/.yarn/foo/index.js","via":{"location":"/w/.yarn/foo","name":"foo","reference":"npm:1.0.0"}},"slug":null}
+"#
+}
+
+// Documents, and what is written for each.
+fn documents() -> &'static str {
+    r#"|refused: not-json
+{"cwd":"/w"}x|refused: not-json
+[]|refused: bad-field cwd
+{"cwd":"/w","target":"deno"}|refused: bad-field target
+{"cwd":"/w","target":"node"}|refused: bad-field files
+{"cwd":"/w","files":[{"path":"/w/a","hex":"0A"}],"requests":[]}|refused: bad-field files
+{"cwd":"/w","files":[{"path":"/w/a","text":"","hex":""}],"requests":[]}|refused: bad-field files
+{"cwd":"/w","files":[],"requests":[{"specifier":"a"}]}|refused: bad-field requests
+{"cwd":"/w","files":[],"requests":[]}|refused: not-built target
+{"cwd":"/w","target":"node","preserve_symlinks":true,"files":[],"requests":[]}|refused: not-built preserve_symlinks
+{"cwd":"/w","target":"node","node_modules":false,"files":[],"requests":[]}|refused: not-built node_modules
+{"cwd":"/w","target":"node","alias":{"a":"b"},"files":[],"requests":[]}|refused: not-built alias
+{"cwd":"/w","target":"node","ts":{"base_url":"/w","paths":[]},"files":[],"requests":[]}|refused: not-built ts
+{"cwd":"/w","target":"node","lock":"","files":[],"requests":[]}|refused: not-built lock
+{"cwd":"/w","target":"node","lock":"","files":[{"path":"a","text":""}],"requests":[]}|refused: not-built lock
+{"cwd":"w","target":"node","files":[{"path":"a","text":""}],"requests":[]}|refused: bad-tree "a"
+{"cwd":"w","target":"node","files":[{"path":"/a","text":"","canonical":"/"}],"requests":[]}|refused: bad-tree "/a"
+{"cwd":"w","target":"node","files":[{"path":"/a/b","text":""},{"path":"/a","text":""}],"requests":[]}|refused: bad-tree "/a" "/a/b"
+{"cwd":"w","target":"node","files":[{"path":"/a","text":""}],"requests":[]}|refused: bad-project SettingsFault cwd
+{"cwd":"/w","target":"node","files":[{"path":"/a","text":""},{"path":"/a","hex":"0a"}],"requests":[]}|
+{"cwd":"/w","target":"node","files":[],"requests":[{"from":null,"specifier":"./a"}]}|{"refused":{"kind":"NotBuilt"}}"#
+}
+
+// The status of a run on some words.
+fn code_of<S: Source, K: Sink>(
+    alloc: Global,
+    words: &str,
+    source: &mut S,
+    sink: &mut K,
+) -> Result<u8, AllocError> {
+    let mut split = Vec::new(alloc);
+    for word in words.split_whitespace() {
+        split.push(String::from_str(alloc, word)?)?;
+    }
+    Ok(run(alloc, &split, source, sink, &mut MemoryTree::new(alloc)).code())
+}
+
+// Whether a run on some words and a document ends with a status and has written a text.
+pub(crate) fn comes_to(
+    alloc: Global,
+    words: &str,
+    document: &[u8],
+    code: u8,
+    written: &str,
+) -> Result<bool, AllocError> {
+    let mut source = PlainSource::new(Bytes::of(alloc, document)?);
+    let mut sink = PlainSink::new(alloc, 4096)?;
+    let came = code_of(alloc, words, &mut source, &mut sink)?;
+    Ok(came == code && sink.written() == written.as_bytes())
+}
+
+// A line as it is written; nothing for no line.
+pub(crate) fn ended(alloc: Global, line: &str) -> Result<String, AllocError> {
+    if line.is_empty() {
+        return Ok(String::new(alloc));
+    }
+    format!(in alloc; "{line}\n")
+}
+
+#[test]
+fn a_bare_name_is_answered(rt: HostRuntime) -> Result<(), Fail> {
+    let document = bare_name().as_bytes();
+    assert!(rt; comes_to(rt.alloc(), "resolve", document, 0, its_line())?);
+    Ok(())
+}
+
+#[test]
+fn each_cause_has_its_line(rt: HostRuntime) -> Result<(), Fail> {
+    let mut tried = 0u8;
+    for row in documents().lines() {
+        let (document, line) = row.split_once('|').ok_or("a document")?;
+        let code = u8::from(line.starts_with("refused: "));
+        let line = ended(rt.alloc(), line)?;
+        let came = comes_to(
+            rt.alloc(),
+            "resolve",
+            document.as_bytes(),
+            code,
+            line.as_str(),
+        )?;
+        assert!(rt; came, "at {document}");
+        tried = tried.saturating_add(1);
+    }
+    assert_eq!(rt; tried, 21);
+    Ok(())
+}
+
+// Whatever the byte behind which the document of the bare name ends, it isn't JSON.
+#[test]
+fn a_document_is_cut(rt: HostRuntime) -> Result<(), Fail> {
+    let document = bare_name().as_bytes();
+    for end in 0..document.len() {
+        let came = comes_to(
+            rt.alloc(),
+            "resolve",
+            &document[..end],
+            1,
+            "refused: not-json\n",
+        )?;
+        assert!(rt; came, "at {end}");
+    }
+    Ok(())
+}
+
+#[test]
+fn other_words_are_no_command(rt: HostRuntime) -> Result<(), Fail> {
+    for words in ["", "resolved", "resolve --trail"] {
+        let came = comes_to(rt.alloc(), words, bare_name().as_bytes(), 2, "")?;
+        assert!(rt; came, "at {words}");
+    }
+    Ok(())
+}
+
+// The status of the bare name with a source that refuses one read.
+fn code_with_read_refused(
+    alloc: Global,
+    read: u64,
+    sink: &mut PlainSink,
+) -> Result<u8, AllocError> {
+    let document = Bytes::of(alloc, bare_name().as_bytes())?;
+    let mut source = BytesSource::new(document, List::from(vec![in alloc; read]?));
+    code_of(alloc, "resolve", &mut source, sink)
+}
+
+// Two reads take the document and find its end, and a third is not made.
+#[test]
+fn a_source_fails_at_each_read(rt: HostRuntime) -> Result<(), Fail> {
+    for read in 1..4u64 {
+        let mut sink = PlainSink::new(rt.alloc(), 4096)?;
+        let code = code_with_read_refused(rt.alloc(), read, &mut sink)?;
+        assert_eq!(rt; code, if read < 3 { 3 } else { 0 }, "at read {read}");
+        assert_eq!(rt; sink.written().is_empty(), read < 3, "at read {read}");
+    }
+    Ok(())
+}
+
+// The status of the bare name with a sink that has some room and refuses one write.
+fn code_with_write_refused(
+    alloc: Global,
+    room: usize,
+    write: u64,
+    written: &str,
+) -> Result<Option<u8>, AllocError> {
+    let mut source = PlainSource::new(Bytes::of(alloc, bare_name().as_bytes())?);
+    let mut sink = BytesSink::new(alloc, room, List::from(vec![in alloc; write]?))?;
+    let code = code_of(alloc, "resolve", &mut source, &mut sink)?;
+    Ok((sink.written() == written.as_bytes()).then_some(code))
+}
+
+// A room for less than the line ends in a fault, and so does a refused write: a front of the line was written.
+#[test]
+fn a_sink_fails_at_each_write(rt: HostRuntime) -> Result<(), Fail> {
+    for room in 0..its_line().len() {
+        for write in 1..4u64 {
+            let front = its_line().get(..if write == 1 { 0 } else { room });
+            let came = code_with_write_refused(rt.alloc(), room, write, front.ok_or("a front")?)?;
+            assert_eq!(rt; came, Some(4), "at room {room}");
+        }
+    }
+    Ok(())
+}
+
+// With room for the whole line there is one write, so that a second can't be refused.
+#[test]
+fn a_sink_with_room_fails_at_the_first_write(rt: HostRuntime) -> Result<(), Fail> {
+    let room = its_line().len();
+    for (write, line, code) in [(1, "", 4), (2, its_line(), 0)] {
+        let came = code_with_write_refused(rt.alloc(), room, write, line)?;
+        assert_eq!(rt; came, Some(code), "at write {write}");
+        let came = code_with_write_refused(rt.alloc(), room.saturating_add(1), write, line)?;
+        assert_eq!(rt; came, Some(code), "at write {write}");
+    }
+    Ok(())
+}
+
+// A source without an end.
+#[derive(Drop)]
+struct Endless;
+
+impl Source for Endless {
+    ghost use Rattle.std.specs.Prelude.{None};
+
+    ghost left = { λ _. None };
+
+    ghost faults = { λ _. 0 };
+
+    fn read(&mut self, buffer: &mut [u8]) -> Result<usize, SourceFault> {
+        Ok(buffer.len())
+    }
+}
+
+#[test]
+fn a_source_without_an_end_is_too_long(rt: HostRuntime) -> Result<(), Fail> {
+    let mut sink = PlainSink::new(rt.alloc(), 4096)?;
+    assert_eq!(rt; code_of(rt.alloc(), "resolve", &mut Endless, &mut sink)?, 5);
+    assert!(rt; sink.written().is_empty());
+    Ok(())
+}
