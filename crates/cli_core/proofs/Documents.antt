@@ -3,13 +3,14 @@ use Rattle.std.proofs.Common.{◌≡◌, ℕ, Bool, true, false, IsTrue, List, O
 use Rattle.std.proofs.lemmas.Slice.Eq.{bytes_eq-Decides}
 use Rattle.sugar_path.specs.Path.{IsCleanPath, path_in, text_of}
 use Rattle.sugar_path.proofs.Parts.{IsPath-path_in, path_in-text_of}
-use Rattle.tree_core.specs.Asks.{Settles}
+use Rattle.tree_core.specs.Asks.{Settles, AgreeWith}
 use Rattle.tree_core.specs.Tree.{Files, is_clean_path}
 use Rattle.tree_core.specs.declared.question.Question.{Question}
 use Rattle.tree_core.specs.declared.question.Reply.{Reply}
 use Rattle.tree_core.specs.Memory.{same_files}
-use Rattle.resolve_stack.specs.Settings.{Known}
+use Rattle.resolve_stack.specs.Settings.{ProjectSettings}
 use Rattle.tree_core.proofs.Entries.{same_files-is, same_files-refl}
+use Rattle.resolve_stack.specs.Request.{asked_for}
 use Rattle.resolve_stack.specs.Verdict.{verdict}
 use Rattle.resolve_stack.specs.declared.verdict.Verdict.{Verdict}
 use Rattle.cli_core.specs.Document.{project_of, verdict_on}
@@ -28,7 +29,7 @@ unclean_path_tested : (t : List ℕ) → ¬ (IsCleanPath t) → is_clean_path t 
 unclean_path_tested t unclean = by_test (is_clean_path t) (λ h. unclean (path_in t, IsPath-path_in t, (bytes_eq-Decides t (text_of (path_in t))).0 h))
 
 -- a clean working folder makes a project
-pub project_of-clean : (cwd : List ℕ) (project : Known) → IsCleanPath cwd → project.cwd ≡ path_in cwd → project_of cwd ≡ Ok project
+pub project_of-clean : (cwd : List ℕ) (project : ProjectSettings) → IsCleanPath cwd → project.cwd ≡ path_in cwd → project_of cwd ≡ Ok project
 unfolding project_of
 project_of-clean cwd project clean is = rw (clean_path_tested cwd clean) (ap (λ p. Ok (record { cwd = p })) (sym is))
 
@@ -37,10 +38,10 @@ pub project_of-unclean : (cwd field : List ℕ) → field ≡ codes "cwd" → ¬
 unfolding project_of
 project_of-unclean cwd field is unclean = rw (unclean_path_tested cwd unclean) (ap (λ f. Err (SettingsFault f)) (sym is))
 
--- what settles on the trees that a tree in memory stands for settles on its files
-pub settled_here : (files : Files) (project : Known) (request : Request) (v : Verdict) (steps : List (Question × Reply)) → Settles (λ t. same_files files t) v steps (verdict project.cwd request.from request.specifier) → v ≡ verdict_on files project request
+-- a verdict that a trail settles is that of a tree in memory whose trees agree with the trail
+pub settled_here : (files : Files) (project : ProjectSettings) (request : Request) (v : Verdict) (steps : List (Question × Reply)) → Settles v steps (verdict project (asked_for request.from request.specifier)) → AgreeWith (λ t. same_files files t) steps → v ≡ verdict_on files project request
 unfolding verdict_on
-settled_here files project request v steps s = s.verdict files (same_files-refl files)
+settled_here files project request v steps s agree = s.verdict files (agree files (same_files-refl files))
 
 -- a tree in memory that stands for the same trees has the same files
 pub same_kept : (now before : Files) → ◌≡◌ {A = Files → Bool} (λ t. same_files now t) (λ t. same_files before t) → now ≡ before

@@ -5,7 +5,8 @@ use Rattle.sugar_path.specs.Path.{path_in}
 use Rattle.tree_core.specs.Plan.{answer}
 use Rattle.tree_core.specs.Tree.{Files, is_clean_path}
 use Rattle.tree_core.specs.Memory.{refusal, with_file}
-use Rattle.resolve_stack.specs.Settings.{Known}
+use Rattle.resolve_stack.specs.Settings.{ProjectSettings}
+use Rattle.resolve_stack.specs.Request.{asked_for}
 use Rattle.resolve_stack.specs.Verdict.{verdict}
 use Rattle.resolve_stack.specs.declared.verdict.Verdict.{Verdict}
 use Rattle.tree_core.specs.declared.memory.PutError.{PutError}
@@ -41,13 +42,13 @@ put_files t (file ∷ files) = do
   put_files more files
 
 -- the project of a working folder
-unfoldable pub project_of : List ℕ → Result Known Cause
+unfoldable pub project_of : List ℕ → Result ProjectSettings Cause
 project_of cwd = cond (is_clean_path cwd) (Ok (record { cwd = path_in cwd })) (Err (SettingsFault (codes "cwd")))
 
 -- what is asked: a tree, a project and requests
 pub record Given : Type 0 where
   pub files : Files
-  pub project : Known
+  pub project : ProjectSettings
   pub requests : List Request
 
 -- what a document asks, or the first cause against it
@@ -60,11 +61,11 @@ document bytes = do
   Ok (record { files = files; project = project; requests = fields.requests })
 
 -- the verdict on a request, on a tree
-unfoldable pub verdict_on : Files → Known → Request → Verdict
-verdict_on t project request = answer t (verdict project.cwd request.from request.specifier)
+unfoldable pub verdict_on : Files → ProjectSettings → Request → Verdict
+verdict_on t project request = answer t (verdict project (asked_for request.from request.specifier))
 
 -- the lines of the verdicts on requests, in order
-abbrev pub lines_of : Files → Known → List Request → List ℕ
+abbrev pub lines_of : Files → ProjectSettings → List Request → List ℕ
 lines_of t project requests = verdict_lines (map (verdict_on t project) requests)
 
 -- the report on a document, or the first cause against it

@@ -6,8 +6,8 @@ use Rattle.hex.specs.Hex.{decode_of}
 use Rattle.serde_json.specs.Data.{Data, null, boolean, number, string, array, object}
 use Rattle.serde_json.specs.Find.{get, as_str}
 use Rattle.json_reading.specs.Reading.{◌>>=◌, field_by, present_or}
-use Rattle.resolve_stack.specs.declared.resolution.FileName.{FileName}
-use Rattle.resolve_stack.specs.declared.resolution.FileName.TheVariants.{Real, Custom, Anon}
+use Rattle.swc_loader.specs.declared.resolution.FileName.{FileName}
+use Rattle.swc_loader.specs.declared.resolution.FileName.TheVariants.{Real, Custom, Anon}
 use Rattle.cli_core.specs.declared.given.GivenFile.{GivenFile}
 use Rattle.cli_core.specs.declared.given.Request.{Request}
 

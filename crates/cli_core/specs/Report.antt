@@ -3,18 +3,18 @@ use Rattle.std.specs.Prelude.{ℕ, List, [], ◌∷◌, ◌++◌, codes, flat_ma
 use Rattle.json.specs.Print.{quoted}
 use Rattle.serde_json.specs.Data.{Data, null, string, object, no_members, member}
 use Rattle.serde_json.specs.Written.{compact_text}
-use Rattle.resolve_stack.specs.declared.resolution.FileName.{FileName}
-use Rattle.resolve_stack.specs.declared.resolution.FileName.TheVariants.{Real, Custom, Anon}
-use Rattle.resolve_stack.specs.declared.resolution.Found.{Found}
+use Rattle.swc_loader.specs.declared.resolution.FileName.{FileName}
+use Rattle.swc_loader.specs.declared.resolution.FileName.TheVariants.{Real, Custom, Anon}
+use Rattle.swc_loader.specs.declared.resolution.Found.{Found}
 use Rattle.pnp_core.specs.declared.error.HydrationCause.{HydrationCause}
 use Rattle.pnp_core.specs.declared.error.HydrationCause.TheVariants.{NotText, NoPayload, BadJson, NoTopLevel}
 use Rattle.resolve_stack.specs.declared.verdict.JoinRefusal.{JoinRefusal}
-use Rattle.resolve_stack.specs.declared.verdict.JoinRefusal.TheVariants.{FailedManifestHydration, UndeclaredDependency, NotFound, NotBuilt}
+use Rattle.resolve_stack.specs.declared.verdict.JoinRefusal.TheVariants.{FailedManifestHydration, UndeclaredDependency, Outside, NotFound, NotBuilt}
 use Rattle.pnp_core.specs.declared.manifest.PackageLocator.{PackageLocator}
-use Rattle.resolve_stack.specs.declared.resolution.Resolution.{Resolution}
+use Rattle.swc_loader.specs.declared.resolution.Resolution.{Resolution}
 use Rattle.resolve_stack.specs.declared.verdict.Verdict.{Verdict}
 use Rattle.resolve_stack.specs.declared.verdict.Verdict.TheVariants.{Answered, Refused}
-use Rattle.resolve_stack.specs.declared.resolution.Via.{Via}
+use Rattle.swc_loader.specs.declared.resolution.Via.{Via}
 use Rattle.cli_core.specs.Cause.{name_of}
 use Rattle.cli_core.specs.declared.cause.Cause.{Cause}
 use Rattle.cli_core.specs.declared.cause.Cause.TheVariants as cause
@@ -74,6 +74,10 @@ refusal_value (UndeclaredDependency undeclared) = object
     (member (codes "message") (string undeclared.message)
     (member (codes "path") (string undeclared.issuer_path)
     (member (codes "request") (string undeclared.request) no_members))))))
+refusal_value (Outside file location) = object
+    (member (codes "file") (string file)
+    (member (codes "kind") (string (codes "Outside"))
+    (member (codes "location") (string location) no_members)))
 refusal_value (NotFound text) = object
     (member (codes "kind") (string (codes "NotFound"))
     (member (codes "text") (string text) no_members))

@@ -99,6 +99,13 @@ fn value_of_refusal(alloc: Global, refusal: &JoinRefusal) -> Result<Value, Alloc
             })
         }
         JoinRefusal::UndeclaredDependency(undeclared) => value_of_undeclared(alloc, undeclared),
+        JoinRefusal::Outside { file, location } => {
+            json!(in alloc; {
+                "file": file.as_str(),
+                "kind": "Outside",
+                "location": location.as_str()
+            })
+        }
         JoinRefusal::NotFound { text } => {
             json!(in alloc; {"kind": "NotFound", "text": text.as_str()})
         }
