@@ -91,7 +91,7 @@ fn begins_group(rest: &[char]) -> bool
 
 /// Whether something that isn't supported begins here.
 fn is_unsupported(reader: &Reader, rest: &[char]) -> bool
-    ensures { result ≡ is_unsupported reader.now.mode rest.now }
+    ensures { result ≡ is_unsupported (reading reader.now).mode rest.now }
 {
     reader.may_escape() && begins_unsupported_escape(rest)
         || reader.may_open() && begins_named_group(rest)
@@ -99,14 +99,14 @@ fn is_unsupported(reader: &Reader, rest: &[char]) -> bool
 
 /// Whether a group begins here within too many others.
 fn is_too_deep(reader: &Reader, rest: &[char]) -> bool
-    ensures { result ≡ is_too_deep (length reader.now.groups.items) reader.now.mode rest.now }
+    ensures { result ≡ is_too_deep (length (reading reader.now).groups) (reading reader.now).mode rest.now }
 {
     reader.may_open() && begins_group(rest) && reader.depth() >= DEPTH_LIMIT
 }
 
 /// Whether something that is refused begins here, whatever the grammar says.
 fn refused(reader: &Reader, rest: &[char], place: usize) -> Result<(), PatternError>
-    ensures { Refuses (length reader.now.groups.items) reader.now.mode rest.now place result }
+    ensures { Refuses (length (reading reader.now).groups) (reading reader.now).mode rest.now place result }
 {
     if is_unsupported(reader, rest) {
         return Err(PatternError::Unsupported { place });
@@ -119,10 +119,10 @@ fn refused(reader: &Reader, rest: &[char], place: usize) -> Result<(), PatternEr
 
 /// The byte of the `{` of the braces that the reader is in.
 fn braces_place(reader: &Reader, place: usize) -> usize
-    requires { length reader.now.braces.items < place }
-    ensures { result + (length reader.now.braces.items + 1) ≡ place }
+    requires { length (reading reader.now).braces < place }
+    ensures { result + (length (reading reader.now).braces + 1) ≡ place }
 {
-    place - reader.braces.len() - 1
+    place - reader.braces_len() - 1
 }
 
 /// Takes the character at that number, which is at the byte `place`.
