@@ -1,4 +1,5 @@
-//! Patterns: regular expressions after ECMAScript without flags, and whether one is found in a text.
+//! Patterns: regular expressions after ECMAScript without flags, and whether one is found in a
+//! text.
 #![tactic(auto)]
 
 mod alive;

@@ -11,7 +11,7 @@ use std::alloc::{AllocError, Global};
 
 // How a reader takes a character.
 #[derive(Clone, Copy, Debug, PartialEq, Eq)]
-pub enum Taken {
+pub(crate) enum Taken {
     // Some pattern begins so.
     Yes,
     // No pattern begins so.
@@ -22,16 +22,17 @@ pub enum Taken {
 
 // An open group, and the greatest product of counts before it in its alternatives.
 #[derive(Clone, Copy, Debug)]
-pub struct Group {
+pub(crate) struct Group {
     kind: Open,
     product: u32,
 }
 
 // A pattern's text so far.
 #[derive(Drop)]
-pub struct Reader {
+pub(crate) struct Reader {
     alloc: Global,
-    // For each open group, and for the whole, its alternatives and the terms of its last one, and then an atom that no term follows yet.
+    // For each open group, and for the whole, its alternatives and the terms of its last one, and
+    // then an atom that no term follows yet.
     pieces: Vec<Piece>,
     groups: Vec<Group>,
     mode: Mode,
@@ -55,7 +56,7 @@ impl Reader {
     ghost use Rattle.es_pattern.specs.Refusals.{may_escape, may_open, pending};
 
     // A reader of a whole text.
-    pub fn new(alloc: Global) -> Result<Reader, AllocError>
+    pub(crate) fn new(alloc: Global) -> Result<Reader, AllocError>
         ensures { IfOk result (λ reader. reading reader ≡ start) }
     {
         let mut reader = Reader {
@@ -74,7 +75,7 @@ impl Reader {
     }
 
     // Takes the next character of the text.
-    pub fn take(&mut self, c: char) -> Result<Taken, AllocError>
+    pub(crate) fn take(&mut self, c: char) -> Result<Taken, AllocError>
         ensures { IfOk result (λ taken. Takes (step c (reading self.old))
             (overcounts_at c (reading self.old)) (reading self.old) taken (reading self.new)) }
     {
@@ -94,7 +95,7 @@ impl Reader {
     }
 
     // The pieces of the whole text, if it is a pattern.
-    pub fn finish(mut self) -> Result<Option<Vec<Piece>>, AllocError>
+    pub(crate) fn finish(mut self) -> Result<Option<Vec<Piece>>, AllocError>
         ensures { IfOk result (λ pieces. option_map (λ p. tree_of p.items) pieces
             ≡ finished (reading self)) }
     {
@@ -139,7 +140,7 @@ impl Reader {
 
     // How many groups are open.
     #[tactic(auto, using(crate::proofs::Readers::same_depth))]
-    pub fn depth(&self) -> usize
+    pub(crate) fn depth(&self) -> usize
         ensures { result ≡ length (reading self.now).groups + pending (reading self.now).mode }
     {
         if self.mode == Mode::Paren {
@@ -150,14 +151,14 @@ impl Reader {
     }
 
     // How many characters of the braces were read.
-    pub fn braces_len(&self) -> usize
+    pub(crate) fn braces_len(&self) -> usize
         ensures { result ≡ length (reading self.now).braces }
     {
         self.braces.len()
     }
 
     // Whether an escape may begin here, as far as the text before tells.
-    pub fn may_escape(&self) -> bool
+    pub(crate) fn may_escape(&self) -> bool
         ensures { result ≡ may_escape (reading self.now).mode }
     {
         !matches!(
@@ -171,7 +172,7 @@ impl Reader {
     }
 
     // Whether a group may begin here.
-    pub fn may_open(&self) -> bool
+    pub(crate) fn may_open(&self) -> bool
         ensures { result ≡ may_open (reading self.now).mode }
     {
         matches!(

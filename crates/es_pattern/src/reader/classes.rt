@@ -171,7 +171,8 @@ impl Reader {
         Ok(Taken::Yes)
     }
 
-    // Begins the digits of an escape in a class, if the range that has begun can end at one of them.
+    // Begins the digits of an escape in a class, if the range that has begun can end at one of
+    // them.
     fn begin_class_hex(&mut self, first: Option<char>, greatest: char, left: u32) -> Taken
         ensures { Steps (if can_end first greatest then Some
             (at (Mode.ClassHex first 0 left) (reading self.old)) else None) result
