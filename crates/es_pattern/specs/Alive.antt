@@ -1,5 +1,5 @@
 -- The steps of a program that are alive at a place. Contracts of private functions alone cite it.
-use Rattle.std.specs.Prelude.{◌≡◌, ℕ, zero, suc, ◌+◌, ◌-◌, ◌≤◌, nat_le, cond, Bool, true, false, List, [], ◌∷◌, ◌⊎◌, length, Contains}
+use Rattle.std.specs.Prelude.{◌≡◌, ℕ, zero, suc, ◌+◌, ◌-◌, ◌<◌, ◌≤◌, nat_le, cond, Bool, true, false, List, [], ◌∷◌, ◌⊎◌, length, Contains}
 use Rattle.es_pattern.specs.declared.step.Step.{Step}
 use Rattle.es_pattern.specs.declared.step.Step.TheVariants.{Pass, Fork, Jump, Back}
 use Rattle.es_pattern.specs.declared.step.Direction.{Direction}
@@ -57,6 +57,10 @@ pub record Arrives (direction : Direction) (passes : ℕ → ℕ → ℕ → Typ
   pub before : (at j q : ℕ) → IsAlive passes begins program at j → After direction j place → Goes passes program at j q place → q ≤ length program → Contains waiting q
   pub none_taken : (q : ℕ) → Has taken q → ⊥
   pub none_next : next ≡ []
+
+-- from the one place to before the other nothing waits, and no walk begins
+abbrev pub IsIdle : (ℕ → Bool) → Alive → ℕ → ℕ → Type 0
+IsIdle begins alive from to = (k : ℕ) → from ≤ k → k < to → (alive.waiting.items ≡ []) × (begins k ≡ false)
 
 -- the steps that are still to be taken, and what waits
 abbrev pub untaken : List ℕ → ℕ → ℕ

@@ -46,7 +46,7 @@ struct Search<'a> {
 }
 
 impl<'a> Search<'a> {
-    ghost use Rattle.std.specs.Prelude.{◌≡◌, ◌||◌, ◌≤◌, ◌<◌, ◌/◌, ◌++◌, ◌∷◌, [], ℕ, Bool, false, IfOk, IsTrue, IsNone, ◌↔◌, MatchOption, OnOk, length, slice_get, Some};
+    ghost use Rattle.std.specs.Prelude.{◌≡◌, ◌||◌, ◌≤◌, ◌<◌, ◌/◌, ◌++◌, ◌∷◌, ◌+◌, [], ℕ, Bool, false, IfOk, IsTrue, IsNone, ◌↔◌, MatchOption, OnOk, length, slice_get, Some};
     ghost use Rattle.std.specs.Global.{Vec};
     ghost use Rattle.es_pattern.specs.Tree.{CharRange};
     ghost use Rattle.es_pattern.specs.Spans.{IsFound, fits};
@@ -66,9 +66,9 @@ impl<'a> Search<'a> {
       class_passing,
       untold_count,
     };
-    ghost use Rattle.es_pattern.specs.Alive.{PassedBy, SettledBy, Settling, SettlingBy, weight};
+    ghost use Rattle.es_pattern.specs.Alive.{ArrivesBy, IsIdle, PassedBy, SettledBy, Settling, SettlingBy, weight};
     ghost use Rattle.es_pattern.specs.NumberSet.{has};
-    ghost use Rattle.es_pattern.specs.Begins.{may_begin, may_stay, may_take, takes_at};
+    ghost use Rattle.es_pattern.specs.Begins.{NoneBegins, may_begin, may_stay, may_take, takes_at};
     ghost use Rattle.es_pattern.specs.Compiled.{AllParts, IsProgramOf, part_steps};
 
     // Whether the pattern is found. All walks go on side by side, from each place where one may
@@ -80,19 +80,75 @@ impl<'a> Search<'a> {
     {
         let mut tables = self.no_tables()?;
         let mut alive = Alive::new(self.alloc, self.program.steps.len())?;
-        for place in 0..self.text.len() + 1 {
-            if self.begins_at(place) {
-                alive.begin()?;
-            }
-            if alive.waiting.is_empty() {
-                if !self.begins_later() {
-                    return Ok(false);
-                }
-            } else if self.pass(&mut tables, place, &mut alive)? {
+        let mut from = 0;
+        while let Some(place) = self.next_place(from, &alive) {
+            self.begin_at(place, &mut alive)?;
+            if self.pass(&mut tables, place, &mut alive)? {
                 return Ok(true);
             }
+            from = place + 1;
         }
         Ok(false)
+    }
+
+    // The next place, from this one on, where a step waits or a walk may begin.
+    fn next_place(&self, from: usize, alive: &Alive) -> Option<usize>
+        requires { IsProgramOf self.now.pieces.now self.now.program.now }
+        ensures { MatchOption result
+            (IsIdle (may_begin (tree_of self.now.pieces.now) self.now.text.now) alive.now from
+            (length self.now.text.now + 1))
+            (λ place. (from ≤ place) × (place ≤ length self.now.text.now)
+            × IsIdle (may_begin (tree_of self.now.pieces.now) self.now.text.now) alive.now from
+            place) }
+    {
+        if from > self.text.len() {
+            return None;
+        }
+        if !alive.waiting.is_empty() || self.begins_at(from) {
+            return Some(from);
+        }
+        if !self.begins_later() {
+            return None;
+        }
+        self.next_taking(from + 1)
+    }
+
+    // The next place, from this one on, with a character that a walk may begin with.
+    fn next_taking(&self, from: usize) -> Option<usize>
+        requires program { IsProgramOf self.now.pieces.now self.now.program.now }
+        requires later { 0 < from }
+        requires within { from ≤ length self.now.text.now + 1 }
+        requires moves { may_stay (tree_of self.now.pieces.now) ≡ false }
+        ensures { MatchOption result
+            (NoneBegins (tree_of self.now.pieces.now) self.now.text.now from
+            (length self.now.text.now + 1))
+            (λ place. (from ≤ place) × (place ≤ length self.now.text.now)
+            × NoneBegins (tree_of self.now.pieces.now) self.now.text.now from place) }
+    {
+        for place in from..self.text.len() {
+            if self.takes_at(place) {
+                return Some(place);
+            }
+        }
+        None
+    }
+
+    // Lets a walk begin at a place, if one may.
+    fn begin_at(&self, place: usize, alive: &mut Alive) -> Result<(), AllocError>
+        requires program { IsProgramOf self.now.pieces.now self.now.program.now }
+        requires place { place ≤ length self.now.text.now }
+        ensures room { length alive.new.taken.words.items ≡ length alive.old.taken.words.items }
+        ensures begun { OnOk result (ArrivesBy Direction.Forward self.now.pieces.now
+            self.now.text.now (may_begin (tree_of self.now.pieces.now) self.now.text.now)
+            self.now.program.now.steps.items place alive.old
+            → SettlingBy Direction.Forward self.now.pieces.now self.now.text.now
+            (may_begin (tree_of self.now.pieces.now) self.now.text.now)
+            self.now.program.now.steps.items place alive.new) }
+    {
+        if self.begins_at(place) {
+            alive.begin()?;
+        }
+        Ok(())
     }
 
     // Whether a walk may begin at a place.
@@ -162,7 +218,7 @@ impl<'a> Search<'a> {
         ensures { IfOk result
             (λ tables. AllTell self.now.pieces.now self.now.text.now tables.items) }
     {
-        let mut tables = Vec::new(self.alloc);
+        let mut tables = Vec::with_capacity(self.alloc, self.pieces.len())?;
         for _piece in self.pieces {
             tables.push(None)?;
         }
