@@ -1,5 +1,5 @@
 -- The steps of a program that are alive at a place. Contracts of private functions alone cite it.
-use Rattle.std.specs.Prelude.{◌≡◌, ℕ, zero, suc, ◌+◌, ◌-◌, ◌<◌, ◌≤◌, nat_le, cond, Bool, true, false, List, [], ◌∷◌, ◌⊎◌, length, Contains}
+use Rattle.std.specs.Prelude.{◌≡◌, ℕ, zero, suc, ◌+◌, ◌*◌, ◌-◌, ◌<◌, ◌≤◌, nat_le, cond, Bool, true, false, List, [], ◌∷◌, ◌⊎◌, length, Contains}
 use Rattle.es_pattern.specs.declared.step.Step.{Step}
 use Rattle.es_pattern.specs.declared.step.Step.TheVariants.{Pass, Fork, Jump, Back}
 use Rattle.es_pattern.specs.declared.step.Direction.{Direction}
@@ -12,6 +12,7 @@ use Rattle.es_pattern.specs.Program.{Goes, IsAlive}
 use Rattle.es_pattern.specs.Passing.{After, Passes}
 use Rattle.es_pattern.specs.NumberSet.{Has, has}
 
+-- the step, if it stands in a program of that size or at its end
 abbrev pub if_within : ℕ → ℕ → List ℕ
 if_within size q = cond (nat_le q size) (q ∷ []) []
 
@@ -69,6 +70,10 @@ untaken taken (suc n) = cond (has taken n) 0 3 + untaken taken n
 
 abbrev pub weight : ℕ → Alive → ℕ
 weight size alive = untaken alive.taken.words.items (size + 1) + length alive.waiting.items
+
+-- The steps that are still to be taken, and those of the next place, three for each: no step that is taken makes it more. So there are never more at the next place than the program has.
+abbrev pub crowd : ℕ → Alive → ℕ
+crowd size alive = untaken alive.taken.words.items (size + 1) + 3 * length alive.next.items
 
 -- the same of the sets
 abbrev pub SettlingBy : Direction → List Piece → List ℕ → (ℕ → Bool) → List Step → ℕ → Alive → Type 0

@@ -3,7 +3,7 @@ ghost use Rattle.std.specs.Prelude.{◌≡◌, Bool, ℕ, ◌<◌, ◌≤◌, �
 ghost use Rattle.es_pattern.specs.Spans.{fits};
 ghost use Rattle.es_pattern.specs.Pieces.{tree_of};
 ghost use Rattle.es_pattern.specs.Begins.{may_take};
-ghost use Rattle.es_pattern.specs.Size.{most_steps};
+ghost use Rattle.es_pattern.specs.Size.{AllBounded, most_steps};
 ghost use Rattle.es_pattern.specs.Passing.{AllClassed};
 ghost use Rattle.es_pattern.specs.Compiled.{
   AllParts,
@@ -41,11 +41,13 @@ pub(crate) struct Program {
 
 impl Program {
     // The program of a pattern's pieces.
-    #[tactic(auto, using(crate::proofs::Sizes::steps_bounded))]
+    #[tactic(auto, using(crate::proofs::Sizes::steps_bounded, crate::proofs::Sizes::parts_bounded))]
     pub(crate) fn new(alloc: Global, pieces: &[Piece]) -> Result<Program, AllocError>
         ensures made { IfOk result (IsProgramOf pieces.now) }
         ensures bounded { IfOk result
             (λ program. length program.steps.items ≤ most_steps (tree_of pieces.now)) }
+        ensures lookaheads_bounded { IfOk result
+            (λ program. AllBounded pieces.now program.lookaheads.items) }
     {
         Ok(Program {
             steps: steps_of(alloc, pieces)?,

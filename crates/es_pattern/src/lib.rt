@@ -20,6 +20,7 @@ mod search;
 mod step;
 #[cfg(test)]
 mod tests;
+mod walk;
 
 pub use error::PatternError;
 pub use pattern::Pattern;

@@ -11,6 +11,7 @@ use crate::compile::Program;
 use crate::passing::{fits, is_boundary};
 use crate::piece::{CharRange, Piece};
 use crate::step::{Direction, Step};
+use crate::walk::Walk;
 use std::alloc::{AllocError, Global};
 
 // Whether the pattern of these pieces, with their program, is found in the text.
@@ -66,7 +67,8 @@ impl<'a> Search<'a> {
       class_passing,
       untold_count,
     };
-    ghost use Rattle.es_pattern.specs.Alive.{ArrivesBy, IsIdle, PassedBy, SettledBy, Settling, SettlingBy, weight};
+    ghost use Rattle.es_pattern.specs.Alive.{ArrivesBy, IsIdle, PassedBy, SettledBy, Settling, SettlingBy, crowd, weight};
+    ghost use Rattle.es_pattern.specs.Walk.{IsAskedOn, IsReady, SettledOn, SettlingOn};
     ghost use Rattle.es_pattern.specs.NumberSet.{has};
     ghost use Rattle.es_pattern.specs.Begins.{NoneBegins, may_begin, may_stay, may_take, takes_at};
     ghost use Rattle.es_pattern.specs.Compiled.{AllParts, IsProgramOf, part_steps};
@@ -200,6 +202,9 @@ impl<'a> Search<'a> {
         ensures told { OnOk result
             (AllTell self.now.pieces.now self.now.text.now tables.new.items) }
         ensures room { length alive.new.taken.words.items ≡ length alive.old.taken.words.items }
+        // At the next place no more steps wait than the program has, and its end.
+        ensures few { OnOk result (alive.old.next.items ≡ []
+            → length alive.new.waiting.items ≤ length self.now.program.now.steps.items + 1) }
         ensures passed { IfOk result
             (λ ended. (begins : ℕ → Bool) → SettlingBy Direction.Forward self.now.pieces.now
             self.now.text.now begins self.now.program.now.steps.items place alive.old
@@ -241,6 +246,8 @@ impl<'a> Search<'a> {
         ensures told { OnOk result
             (AllTell self.now.pieces.now self.now.text.now tables.new.items) }
         ensures room { length alive.new.taken.words.items ≡ length alive.old.taken.words.items }
+        ensures few { OnOk result (crowd (length self.now.program.now.steps.items) alive.new
+            ≤ crowd (length self.now.program.now.steps.items) alive.old) }
         ensures settled { OnOk result
             ((begins : ℕ → Bool) → SettlingBy Direction.Forward self.now.pieces.now
             self.now.text.now begins self.now.program.now.steps.items place alive.old
@@ -248,10 +255,12 @@ impl<'a> Search<'a> {
             self.now.program.now.steps.items place alive.new) }
     {
         while let Some(number) = self.settle(
-            Direction::Forward,
-            &self.program.steps,
-            tables,
-            place,
+            &Walk {
+                direction: Direction::Forward,
+                steps: &self.program.steps,
+                tables,
+                place,
+            },
             alive,
         )? {
             self.tell(tables, number)?;
@@ -357,43 +366,39 @@ impl<'a> Search<'a> {
         for behind in 0..self.text.len() + 1 {
             let place = self.text.len() - behind;
             alive.begin()?;
-            let _asked = self.settle(Direction::Backward, steps, tables, place, &mut alive)?;
+            let walk = Walk {
+                direction: Direction::Backward,
+                steps,
+                tables,
+                place,
+            };
+            let _asked = self.settle(&walk, &mut alive)?;
             table.push(negated != alive.taken.contains(steps.len()))?;
             alive.go_on();
         }
         Ok(table)
     }
 
-    // Takes the steps that wait at a place and all that follow there, up to a lookahead that has
-    // to be told first.
-    fn settle(
-        &self,
-        direction: Direction,
-        steps: &[Step],
-        tables: &[Option<Vec<bool>>],
-        place: usize,
-        alive: &mut Alive,
-    ) -> Result<Option<usize>, AllocError>
-        requires told { AllTell self.now.pieces.now self.now.text.now tables.now }
-        requires classed { AllClassed self.now.pieces.now self.now.program.now.classes.items }
-        requires place { place ≤ length self.now.text.now }
-        requires room { length steps.now / 64 < length alive.old.taken.words.items }
+    // Takes the steps that wait at a walk's place and all that follow there, up to a lookahead that
+    // has to be told first.
+    fn settle(&self, walk: &Walk<'_>, alive: &mut Alive) -> Result<Option<usize>, AllocError>
+        requires ready { IsReady self.now.pieces.now self.now.text.now
+            self.now.program.now.classes.items walk.now }
+        requires room { length walk.now.steps.now / 64 < length alive.old.taken.words.items }
         ensures asked { IfOk result
-            (λ asked. MatchOption asked (Unit {0})
-            (IsAsked self.now.pieces.now tables.now steps.now)) }
+            (λ asked. MatchOption asked (Unit {0}) (IsAskedOn self.now.pieces.now walk.now)) }
         ensures room { length alive.new.taken.words.items ≡ length alive.old.taken.words.items }
-        ensures settled { IfOk result
-            (λ asked. (begins : ℕ → Bool)
-            → SettlingBy direction self.now.pieces.now self.now.text.now begins steps.now place
-            alive.old
-            → MatchOption asked (SettledBy direction self.now.pieces.now self.now.text.now begins
-            steps.now place alive.new)
-            (λ _. SettlingBy direction self.now.pieces.now self.now.text.now begins steps.now
-            place alive.new)) }
+        ensures settled { IfOk result (λ asked. (begins : ℕ → Bool)
+            → SettlingOn self.now.pieces.now self.now.text.now begins walk.now alive.old
+            → MatchOption asked
+            (SettledOn self.now.pieces.now self.now.text.now begins walk.now alive.new)
+            (λ _. SettlingOn self.now.pieces.now self.now.text.now begins walk.now alive.new)) }
+        ensures few { OnOk result (crowd (length walk.now.steps.now) alive.new
+            ≤ crowd (length walk.now.steps.now) alive.old) }
     {
         while let Some(at) = alive.waiting.pop() {
             if !alive.taken.contains(at) {
-                let asked = self.take(direction, steps, tables, place, at, alive)?;
+                let asked = self.take(walk, at, alive)?;
                 if asked.is_some() {
                     return Ok(asked);
                 }
@@ -406,76 +411,67 @@ impl<'a> Search<'a> {
     // again then.
     fn take(
         &self,
-        direction: Direction,
-        steps: &[Step],
-        tables: &[Option<Vec<bool>>],
-        place: usize,
+        walk: &Walk<'_>,
         at: usize,
         alive: &mut Alive,
     ) -> Result<Option<usize>, AllocError>
-        requires told { AllTell self.now.pieces.now self.now.text.now tables.now }
-        requires classed { AllClassed self.now.pieces.now self.now.program.now.classes.items }
-        requires place { place ≤ length self.now.text.now }
-        requires room { length steps.now / 64 < length alive.old.taken.words.items }
+        requires ready { IsReady self.now.pieces.now self.now.text.now
+            self.now.program.now.classes.items walk.now }
+        requires room { length walk.now.steps.now / 64 < length alive.old.taken.words.items }
         requires fresh { has alive.old.taken.words.items at ≡ false }
         ensures asked { IfOk result
-            (λ asked. MatchOption asked (Unit {0})
-            (IsAsked self.now.pieces.now tables.now steps.now)) }
+            (λ asked. MatchOption asked (Unit {0}) (IsAskedOn self.now.pieces.now walk.now)) }
         ensures room { length alive.new.taken.words.items ≡ length alive.old.taken.words.items }
-        ensures taken { OnOk result
-            ((begins : ℕ → Bool)
-            → Settling direction (Passes direction self.now.pieces.now self.now.text.now) begins
-            steps.now place (alive.old.waiting.items ++ at ∷ []) alive.old.taken.words.items
-            alive.old.next.items
-            → SettlingBy direction self.now.pieces.now self.now.text.now begins steps.now place
-            alive.new) }
-        ensures lighter { IfOk result
-            (λ asked. IsNone asked
-            → weight (length steps.now) alive.new ≤ weight (length steps.now) alive.old) }
+        ensures taken { OnOk result ((begins : ℕ → Bool)
+            → Settling walk.now.direction
+            (Passes walk.now.direction self.now.pieces.now self.now.text.now) begins
+            walk.now.steps.now walk.now.place (alive.old.waiting.items ++ at ∷ [])
+            alive.old.taken.words.items alive.old.next.items
+            → SettlingOn self.now.pieces.now self.now.text.now begins walk.now alive.new) }
+        // It is taken once at a place, and at most two others wait for it there.
+        ensures lighter { IfOk result (λ asked. IsNone asked
+            → weight (length walk.now.steps.now) alive.new
+            ≤ weight (length walk.now.steps.now) alive.old) }
+        ensures few { OnOk result (crowd (length walk.now.steps.now) alive.new
+            ≤ crowd (length walk.now.steps.now) alive.old) }
     {
-        let Some(step) = steps.get(at) else {
+        let Some(step) = walk.steps.get(at) else {
             alive.taken.insert(at);
             return Ok(None);
         };
         let mut passing = Passing::Stops;
         if let Step::Pass(number) = step {
-            let Some(told) = self.passing(direction, tables, *number, place) else {
+            let Some(told) = self.passing(walk, *number) else {
                 alive.waiting.push(at)?;
                 return Ok(Some(*number));
             };
             passing = told;
         }
-        alive.take(*step, passing, at, steps.len())?;
+        alive.take(*step, passing, at, walk.steps.len())?;
         Ok(None)
     }
 
-    // What the piece of this number does at a place, unless it's a lookahead that has to be told
-    // first.
-    fn passing(
-        &self,
-        direction: Direction,
-        tables: &[Option<Vec<bool>>],
-        number: usize,
-        place: usize,
-    ) -> Option<Passing>
-        requires told { AllTell self.now.pieces.now self.now.text.now tables.now }
-        requires classed { AllClassed self.now.pieces.now self.now.program.now.classes.items }
-        requires place { place ≤ length self.now.text.now }
-        ensures { MatchOption result (IsUntold self.now.pieces.now tables.now number)
-            (PassesAs direction self.now.pieces.now self.now.text.now number place) }
+    // What the piece of this number does at a walk's place, unless it's a lookahead that has to be
+    // told first.
+    fn passing(&self, walk: &Walk<'_>, number: usize) -> Option<Passing>
+        requires { IsReady self.now.pieces.now self.now.text.now
+            self.now.program.now.classes.items walk.now }
+        ensures { MatchOption result (IsUntold self.now.pieces.now walk.now.tables.now number)
+            (PassesAs walk.now.direction self.now.pieces.now self.now.text.now number
+            walk.now.place) }
     {
         let Some(piece) = self.pieces.get(number) else {
             return Some(Passing::Stops);
         };
         let holds = match piece {
             Piece::OneOf { negated, ranges } => {
-                let next = self.ahead(direction, place);
+                let next = walk.ahead(self.text);
                 return Some(self.passing_class(number, *negated, ranges, next));
             }
-            Piece::TextStart => place == 0,
-            Piece::TextEnd => place == self.text.len(),
-            Piece::WordBoundary { negated } => is_boundary(self.text, place) != *negated,
-            Piece::Lookahead { .. } => self.told(tables, number, place)?,
+            Piece::TextStart => walk.place == 0,
+            Piece::TextEnd => walk.place == self.text.len(),
+            Piece::WordBoundary { negated } => is_boundary(self.text, walk.place) != *negated,
+            Piece::Lookahead { .. } => self.told(walk.tables, number, walk.place)?,
             _ => false,
         };
         Some(stays_if(holds))
@@ -531,17 +527,6 @@ impl<'a> Search<'a> {
         match self.program.classes.get(number) {
             Some(class) if c.is_ascii() => class.get(c as usize).copied().unwrap_or(false),
             _ => fits(negated, ranges, c),
-        }
-    }
-
-    // The next character on the way.
-    fn ahead(&self, direction: Direction, place: usize) -> Option<char>
-        ensures { result ≡ ahead_of direction self.now.text.now place }
-    {
-        match direction {
-            Direction::Forward => self.text.get(place).copied(),
-            Direction::Backward if place == 0 => None,
-            Direction::Backward => self.text.get(place - 1).copied(),
         }
     }
 }
