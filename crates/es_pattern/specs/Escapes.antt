@@ -1,14 +1,11 @@
 -- What escapes stand for, as in ECMAScript.
 use Rattle.std.specs.Prelude.{ℕ, ◌-◌, ◌&&◌, ◌||◌, ◌==◌, Bool, cond, nat_le, List, [], ◌∷◌, Option, Some, None}
+pub use Rattle.std.specs.Char.{is_ascii_digit, is_ascii_punctuation}
 use Rattle.es_pattern.specs.Tree.{CharRange}
 
 -- the characters from the one to the other
 abbrev pub range : ℕ → ℕ → CharRange
 range first last = record { first = first; last = last }
-
--- `0` to `9`
-abbrev pub is_digit : ℕ → Bool
-is_digit c = nat_le 48 c && nat_le c 57
 
 -- `\d`, `\D`, `\w`, `\W`, `\s`, `\S`, by the letter
 abbrev pub set_of : ℕ → Option (List CharRange)
@@ -23,14 +20,10 @@ set_of letter =
     (Some (range 0 8 ∷ range 0xe 0x1f ∷ range 0x21 0x9f ∷ range 0xa1 0x167f ∷ range 0x1681 0x1fff ∷ range 0x200b 0x2027 ∷ range 0x202a 0x202e ∷ range 0x2030 0x205e ∷ range 0x2060 0x2fff ∷ range 0x3001 0xfefe ∷ range 0xff00 0x10ffff ∷ []))
     None)))))
 
--- ASCII's punctuation
-abbrev pub is_punctuation : ℕ → Bool
-is_punctuation c = nat_le 33 c && nat_le c 47 || nat_le 58 c && nat_le c 64 || nat_le 91 c && nat_le c 96 || nat_le 123 c && nat_le c 126
-
 -- `\t`, `\n`, `\v`, `\f`, `\r`, and ASCII punctuation for itself
 abbrev pub escaped : ℕ → Option ℕ
 escaped letter =
-    cond (letter == 116) (Some 9) (cond (letter == 110) (Some 10) (cond (letter == 118) (Some 11) (cond (letter == 102) (Some 12) (cond (letter == 114) (Some 13) (cond (is_punctuation letter) (Some letter) None)))))
+    cond (letter == 116) (Some 9) (cond (letter == 110) (Some 10) (cond (letter == 118) (Some 11) (cond (letter == 102) (Some 12) (cond (letter == 114) (Some 13) (cond (is_ascii_punctuation letter) (Some letter) None)))))
 
 -- the value of a hexadecimal digit, of either case
 abbrev pub hex_value : ℕ → Option ℕ

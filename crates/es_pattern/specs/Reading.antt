@@ -3,7 +3,7 @@ use Rattle.std.specs.Prelude.{length, max, ℕ, ◌+◌, ◌-◌, ◌*◌, ◌==
 use Rattle.std.specs.List.{list_any}
 use Rattle.es_pattern.specs.Tree.{Tree, CharRange, nothing, one_of, text_start, text_end, word_boundary, sequence, choice, repetition, lookahead}
 use Rattle.es_pattern.specs.Pieces.{top, below}
-use Rattle.es_pattern.specs.Escapes.{range, is_digit, set_of, escaped, hex_value, is_surrogate}
+use Rattle.es_pattern.specs.Escapes.{range, is_ascii_digit, set_of, escaped, hex_value, is_surrogate}
 use Rattle.es_pattern.specs.Grammar.{never, char, any, number}
 use Rattle.es_pattern.specs.Limits.{is_above_limit, count_of}
 use Rattle.es_pattern.specs.declared.mode.Open.{Open}
@@ -151,7 +151,7 @@ abbrev pub may_be_comma : List ℕ → Bool
 may_be_comma braces = not (length braces == 0) && not (list_any (λ x. x == 44) braces)
 
 abbrev pub is_inner : List ℕ → ℕ → Bool
-is_inner braces c = is_digit c || (c == 44) && may_be_comma braces
+is_inner braces c = is_ascii_digit c || (c == 44) && may_be_comma braces
 
 abbrev pub in_braces : Bool → ℕ → Reading → Option Reading
 in_braces after_atom c r =
@@ -218,7 +218,7 @@ abbrev pub step_in : Mode → ℕ → Reading → Option Reading
 step_in Term c r = plain false false c r
 step_in Atom c r = plain true false c r
 step_in Quantified c r = plain false true c r
-step_in Zero c r = cond (is_digit c) None (plain true false c r)
+step_in Zero c r = cond (is_ascii_digit c) None (plain true false c r)
 step_in (Braces after_atom) c r = in_braces after_atom c r
 step_in Escape c r = with_set (set_of c) c r
 step_in (Hex value left) c r = hex_by (hex_value c) value left r
@@ -230,7 +230,7 @@ step_in ClassNext c r = next_item c r
 step_in ClassLast c r = cond (c == 93) (Some (class_end r)) None
 step_in (ClassChar first) c r = after_char first c r
 step_in (ClassDash first) c r = after_dash first c r
-step_in (ClassZero is_last) c r = cond (is_digit c) None (cond is_last (next_item c r) (after_char 0 c r))
+step_in (ClassZero is_last) c r = cond (is_ascii_digit c) None (cond is_last (next_item c r) (after_char 0 c r))
 step_in (ClassEscape first) c r = class_set (set_of c) first c r
 step_in (ClassHex first value left) c r = class_hex_by (hex_value c) first value left r
 

@@ -4,8 +4,6 @@ ghost use Rattle.es_pattern.specs.Grammar.{number};
 ghost use Rattle.es_pattern.specs.Reading.{bounds_of, second_bounds};
 ghost use Rattle.es_pattern.specs.Bounds.{Bounded, Counts, padded};
 
-use crate::escape::is_digit;
-
 // The greatest count of a quantifier.
 pub(crate) const LIMIT: u32 = 1000;
 
@@ -64,7 +62,7 @@ fn count_of(digits: &[char]) -> Option<u32>
     }
     let mut count = 0u32;
     for digit in digits {
-        if !is_digit(*digit) {
+        if !digit.is_ascii_digit() {
             return None;
         }
         count = (count * 10 + (*digit as u32 - 48)).min(LIMIT + 1);

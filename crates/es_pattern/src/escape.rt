@@ -3,8 +3,6 @@ ghost use Rattle.std.specs.Prelude.{◌≡◌, ◌≤◌, ◌<◌, IfOk, IfSome,
 ghost use Rattle.es_pattern.specs.Escapes.{
   escaped,
   hex_value,
-  is_digit,
-  is_punctuation,
   is_surrogate,
   range,
   set_of,
@@ -124,12 +122,6 @@ pub(crate) fn set_of(alloc: Global, letter: char) -> Result<Option<Vec<CharRange
     Ok(Some(ranges))
 }
 
-fn is_punctuation(c: char) -> bool
-    ensures { result ≡ is_punctuation c }
-{
-    matches!(c, '!'..='/' | ':'..='@' | '['..='`' | '{'..='~')
-}
-
 // The character that a letter or a punctuation mark stands for after a backslash, in a class and
 // outside alike.
 pub(crate) fn escaped(letter: char) -> Option<char>
@@ -141,14 +133,8 @@ pub(crate) fn escaped(letter: char) -> Option<char>
         'v' => Some('\u{b}'),
         'f' => Some('\u{c}'),
         'r' => Some('\r'),
-        _ => is_punctuation(letter).then_some(letter),
+        _ => letter.is_ascii_punctuation().then_some(letter),
     }
-}
-
-pub(crate) fn is_digit(c: char) -> bool
-    ensures { result ≡ is_digit c }
-{
-    matches!(c, '0'..='9')
 }
 
 // The value of a hexadecimal digit.

@@ -4,7 +4,6 @@ mod escapes;
 mod quantifiers;
 mod terms;
 
-use crate::escape::is_digit;
 use crate::mode::{Mode, Open};
 use crate::piece::{CharRange, Piece};
 use std::alloc::{AllocError, Global};
@@ -83,7 +82,7 @@ impl Reader {
             Mode::Term => self.take_plain(false, false, c),
             Mode::Atom => self.take_plain(true, false, c),
             Mode::Quantified => self.take_plain(false, true, c),
-            Mode::Zero if is_digit(c) => Ok(Taken::No),
+            Mode::Zero if c.is_ascii_digit() => Ok(Taken::No),
             Mode::Zero => self.take_plain(true, false, c),
             Mode::Braces { after_atom } => self.take_in_braces(after_atom, c),
             Mode::Escape => self.take_escape(c),

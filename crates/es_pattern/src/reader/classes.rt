@@ -3,7 +3,7 @@ ghost use Rattle.std.specs.Prelude.{◌≡◌};
 ghost use Rattle.es_pattern.specs.Reading.{can_end};
 
 use super::{Reader, Taken};
-use crate::escape::{escaped, greatest_from, hex_value, is_digit, set_of};
+use crate::escape::{escaped, greatest_from, hex_value, set_of};
 use crate::mode::Mode;
 use crate::piece::CharRange;
 use std::alloc::AllocError;
@@ -36,7 +36,7 @@ impl Reader {
             }
             Mode::ClassChar { first } => self.take_after_char(first, c),
             Mode::ClassDash { first } => self.take_after_dash(first, c),
-            Mode::ClassZero { .. } if is_digit(c) => Ok(Taken::No),
+            Mode::ClassZero { .. } if c.is_ascii_digit() => Ok(Taken::No),
             Mode::ClassZero { is_last: true } => self.take_next_item(c),
             Mode::ClassZero { is_last: false } => self.take_after_char('\0', c),
             Mode::ClassEscape { first } => self.take_class_escape(first, c),

@@ -4,7 +4,6 @@ ghost use Rattle.es_pattern.specs.Reading.{is_inner};
 
 use super::{Reader, Taken};
 use crate::braces::{Bounds, LIMIT, bounds_of};
-use crate::escape::is_digit;
 use crate::mode::Mode;
 use crate::piece::Piece;
 use std::alloc::AllocError;
@@ -118,5 +117,5 @@ impl Reader {
 fn is_inner(braces: &[char], c: char) -> bool
     ensures { result ≡ is_inner braces.now c }
 {
-    is_digit(c) || c == ',' && !braces.is_empty() && !braces.contains(&',')
+    c.is_ascii_digit() || c == ',' && !braces.is_empty() && !braces.contains(&',')
 }
