@@ -1,6 +1,6 @@
 -- The grammar of patterns, over the characters of their texts, after ECMAScript's without flags. Limits are left out.
 -- Each relation is between a text and what is left of it: the text begins with such a thing, and the rest follows.
-use Rattle.std.specs.Prelude.{◌≡◌, ℕ, zero, suc, ◌+◌, ◌-◌, ◌*◌, ◌≤◌, ◌||◌, ◌==◌, Bool, true, false, not, cond, List, [], ◌∷◌, ◌++◌, codes, Option, Some, None}
+use Rattle.std.specs.Prelude.{◌≡◌, ℕ, zero, suc, ◌+◌, ◌-◌, ◌*◌, ◌≤◌, ◌||◌, ◌==◌, Bool, true, false, not, List, [], ◌∷◌, ◌++◌, codes, Option, Some, None, if◌then◌else◌}
 use Rattle.es_pattern.specs.Tree.{Tree, CharRange, nothing, one_of, text_start, text_end, word_boundary, sequence, choice, repetition, lookahead}
 use Rattle.es_pattern.specs.Escapes.{range, is_ascii_digit, set_of, escaped, hex_value, is_surrogate}
 
@@ -19,7 +19,9 @@ any = one_of true (range 10 10 ∷ range 13 13 ∷ range 0x2028 0x2028 ∷ range
 -- decimal digits, at least one, with the value that they go on to
 abbrev pub number_from : ℕ → List ℕ → Option ℕ
 number_from value [] = Some value
-number_from value (c ∷ cs) = cond (is_ascii_digit c) (number_from (value * 10 + (c - 48)) cs) None
+number_from value (c ∷ cs) =
+    if is_ascii_digit c then number_from (value * 10 + (c - 48)) cs
+    else None
 
 abbrev pub number : List ℕ → Option ℕ
 number [] = None
