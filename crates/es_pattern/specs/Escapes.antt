@@ -1,6 +1,7 @@
 -- What escapes stand for, as in ECMAScript.
-use Rattle.std.specs.Prelude.{ℕ, ◌-◌, ◌&&◌, ◌||◌, ◌==◌, Bool, nat_le, List, [], ◌∷◌, Option, Some, None, if◌then◌else◌}
+use Rattle.std.specs.Prelude.{ℕ, ◌-◌, ◌&&◌, ◌||◌, ◌==◌, Bool, nat_le, nat_lt, List, [], ◌∷◌, Option, Some, None, if◌then◌else◌}
 pub use Rattle.std.specs.Char.{is_ascii_digit, is_ascii_punctuation}
+use Rattle.std.specs.Char.{digit_value}
 use Rattle.es_pattern.specs.Tree.{CharRange}
 
 -- the characters from the one to the other
@@ -31,11 +32,7 @@ escaped letter =
 
 -- the value of a hexadecimal digit, of either case
 abbrev pub hex_value : ℕ → Option ℕ
-hex_value c =
-    if nat_le 48 c && nat_le c 57 then Some (c - 48)
-    else if nat_le 65 c && nat_le c 70 then Some (c - 55)
-    else if nat_le 97 c && nat_le c 102 then Some (c - 87)
-    else None
+hex_value c = if nat_lt (digit_value c) 16 then Some (digit_value c) else None
 
 -- half of a pair of UTF-16, which is no character
 abbrev pub is_surrogate : ℕ → Bool

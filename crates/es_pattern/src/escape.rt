@@ -142,12 +142,7 @@ pub(crate) fn hex_value(digit: char) -> Option<u32>
     ensures value { result ≡ hex_value digit }
     ensures small { IfSome result (λ d. d < 16) }
 {
-    match digit {
-        '0'..='9' => Some(digit as u32 - 48),
-        'A'..='F' => Some(digit as u32 - 55),
-        'a'..='f' => Some(digit as u32 - 87),
-        _ => None,
-    }
+    digit.to_digit(16)
 }
 
 // Whether the number is that of a surrogate.
