@@ -244,6 +244,19 @@ c{2}?a{2}b{1,2}a{1,2}?\t\tfalse\n\
 ((?!\\t{1,3})(?!.-|)1??){1,3}?\tb._.\tfalse\n"
 }
 
+// The example of the crate's head.
+#[test]
+fn the_example(rt: HostRuntime) -> Result<(), Fail> {
+    let alloc = rt.alloc();
+    let pattern = Pattern::parse(alloc, "^src/.*\\.ts$")?;
+    assert!(rt; pattern.is_found(alloc, "src/index.ts")?);
+    assert!(rt; !pattern.is_found(alloc, "lib/index.ts")?);
+
+    let fault = Pattern::parse(alloc, "a**").err();
+    assert_eq!(rt; fault, Some(PatternError::Syntax { place: 2 }));
+    Ok(())
+}
+
 #[test]
 fn answers_as_v8_does(rt: HostRuntime) -> Result<(), Fail> {
     let mut rows = 0u32;
