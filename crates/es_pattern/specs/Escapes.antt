@@ -1,5 +1,5 @@
 -- What escapes stand for, as in ECMAScript.
-use Rattle.std.specs.Prelude.{ℕ, ◌-◌, ◌&&◌, ◌||◌, ◌==◌, Bool, nat_le, nat_lt, List, [], ◌∷◌, Option, Some, None, if◌then◌else◌}
+use Rattle.std.specs.Prelude.{ℕ, ◌&&◌, ◌==◌, Bool, nat_le, nat_lt, List, [], ◌∷◌, Option, Some, None, if◌then◌else◌}
 pub use Rattle.std.specs.Char.{is_ascii_digit, is_ascii_punctuation}
 use Rattle.std.specs.Char.{digit_value}
 use Rattle.es_pattern.specs.Tree.{CharRange}

@@ -1,5 +1,5 @@
 -- Which texts are refused, with which fault, and at which place. The leftmost fault is told; of faults that share a place a form that isn't supported comes first, and a syntax fault last. A place here counts characters, and the answer counts bytes.
-use Rattle.std.specs.Prelude.{◌≡◌, ℕ, ◌+◌, ◌≤◌, ◌<◌, ◌||◌, true, List, ◌∷◌, ◌++◌, codes, length, take, drop, encode_utf8_all, Option, Result, MatchResult, ◌⊎◌}
+use Rattle.std.specs.Prelude.{◌≡◌, ℕ, ◌+◌, ◌≤◌, ◌<◌, ◌||◌, true, List, ◌++◌, codes, length, take, drop, encode_utf8_all, Option, Result, MatchResult, ◌⊎◌}
 use Rattle.es_pattern.specs.declared.error.PatternError.{PatternError}
 use Rattle.es_pattern.specs.declared.error.PatternError.TheVariants.{Syntax, Unsupported, CountTooLarge, NoMemory}
 use Rattle.es_pattern.specs.Tree.{Tree}

@@ -1,11 +1,11 @@
 -- A walk that stands at a place of a text. Contracts of private functions alone cite it.
-use Rattle.std.specs.Prelude.{ℕ, ◌+◌, ◌*◌, ◌≤◌, Bool, List, length}
+use Rattle.std.specs.Prelude.{ℕ, ◌≤◌, Bool, List, length}
 use Rattle.std.specs.Global.{Vec}
 use Rattle.es_pattern.specs.declared.walk.Walk.{Walk}
 use Rattle.es_pattern.specs.declared.alive.Alive.{Alive}
 use Rattle.es_pattern.specs.declared.piece.Piece.{Piece}
 use Rattle.es_pattern.specs.Passing.{AllClassed, AllTell, IsAsked}
-use Rattle.es_pattern.specs.Alive.{SettledBy, SettlingBy, untaken}
+use Rattle.es_pattern.specs.Alive.{SettledBy, SettlingBy}
 
 -- steps can be taken at its place
 pub record IsReady (pieces : List Piece) (text : List ℕ) (classes : List (Vec Bool)) (walk : Walk) : Type 0 where

@@ -1,4 +1,4 @@
-use Rattle.std.proofs.Common.{ℕ, ◌+◌, ◌-◌, ◌<◌, ◌≤◌, ◌/◌, length}
+use Rattle.std.proofs.Common.{◌+◌, ◌-◌, ◌<◌, ◌≤◌, ◌/◌, length}
 use Rattle.es_pattern.specs.declared.step.Direction.TheVariants.{Forward}
 use Rattle.es_pattern.specs.Pieces.{tree_of}
 use Rattle.es_pattern.specs.Begins.{may_begin}
