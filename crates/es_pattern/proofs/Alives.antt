@@ -223,6 +223,15 @@ few_same (Back by) at size passing = by_test (nat_le by at)
     by_test true = omega arith
     by_test false = omega arith
 
+-- a step leads to at most one at the next place
+pub few_next : (s : Step) (at : ℕ) (passing : Passing) → length (next_place s at passing) ≤ 1
+few_next (Pass number) at Stops = omega arith
+few_next (Pass number) at Stays = omega arith
+few_next (Pass number) at Moves = omega arith
+few_next (Fork by) at passing = omega arith
+few_next (Jump by) at passing = omega arith
+few_next (Back by) at passing = omega arith
+
 module _ (d : Direction) (pieces : List Piece) (text : List ℕ) (begins : ℕ → Bool) (program : List Step) where
   abbrev ways : ℕ → ℕ → ℕ → Type 0
   ways = Passes d pieces text

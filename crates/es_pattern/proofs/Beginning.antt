@@ -2,7 +2,7 @@
 use Rattle.std.proofs.Common.{◌≡◌, ℕ, zero, suc, ◌+◌, ◌<◌, ◌≤◌, Bool, true, false, List, [], ◌∷◌, ◌++◌, ◌⊎◌, inl, inr, length, map, take, Option, Some, None, add-one, refl, sym, ap, subst, ◌∙◌, arith}
 use Rattle.std.specs.Prelude.{reverse, slice_get, slice_index, nat_lt, nat_le, min, ◌||◌, ◌&&◌, ◌==◌}
 use Rattle.std.proofs.lemmas.Bool.{and_parts, eq-eqb, ne_eqb, le-leb, leb-true, lt-ltb, false≢true}
-use Rattle.std.proofs.lemmas.Option.{slice_get-get_or}
+use Rattle.std.proofs.lemmas.Option.{slice_get-get_or, slice_get_past}
 use Rattle.std.proofs.lemmas.List.{reverse-append, append-nil, nil_from_length}
 use Rattle.es_pattern.specs.declared.begins.Begin.{Begin}
 use Rattle.es_pattern.specs.declared.piece.Piece.{Piece}
@@ -10,8 +10,8 @@ use Rattle.es_pattern.specs.declared.piece.Piece.TheVariants.{Nothing, OneOf, Te
 use Rattle.es_pattern.specs.Tree.{Tree, CharRange, nothing, one_of, text_start, text_end, word_boundary, sequence, choice, repetition, lookahead}
 use Rattle.es_pattern.specs.Spans.{Spans, Chain, fits}
 use Rattle.es_pattern.specs.Pieces.{top, below, with_piece, with_pieces, tree_of}
-use Rattle.es_pattern.proofs.NumberTests.{lt_or_le}
-use Rattle.es_pattern.specs.Begins.{may_stay, may_take, top_begin, begins_below, with_begin, with_begins, takes_at, may_begin}
+use Rattle.es_pattern.proofs.NumberTests.{lt_or_le, lt_or_same}
+use Rattle.es_pattern.specs.Begins.{may_stay, may_take, top_begin, begins_below, with_begin, with_begins, takes_at, may_begin, NoneBegins}
 
 -- the stack
 pub popped_some : (old new : List Begin) (b : Begin) → old ≡ new ++ b ∷ [] → (b ≡ top_begin (reverse old)) × (reverse new ≡ begins_below (reverse old))
@@ -209,3 +209,46 @@ none_later t text place none here m le y = by_order (lt_or_le place m)
     by_order : (place < m) ⊎ (m ≤ place) → ⊥
     by_order (inl lt) = let p = parts (may_stay t) (may_take t 128) none in none_begins t text m p.0 p.1 (omega (arith, lt)) y
     by_order (inr ge) = let same : m ≡ place = omega (arith, le, ge) in false≢true (sym here ∙ subst (λ (x : ℕ). may_begin t text x ≡ true) same y)
+
+-- places where no walk begins
+pub unbegun_here : (t : Tree) (text : List ℕ) (k : ℕ) → 0 < k → may_stay t ≡ false → takes_at (may_take t) (slice_get text k) ≡ false → may_begin t text k ≡ false
+unbegun_here t text k later stays takes = by_parts (nat_le k (length text)) (k == 0) (may_stay t) (takes_at (may_take t) (slice_get text k)) (ne_eqb k 0 (λ e. omega (arith, e, later))) stays takes
+  where
+    by_parts : (a b c d : Bool) → b ≡ false → c ≡ false → d ≡ false → a && (b || (c || d)) ≡ false
+    by_parts true false false false e f g = refl
+    by_parts false b c d e f g = refl
+    by_parts true true c d e f g = absurd (false≢true (sym e))
+    by_parts true false true d e f g = absurd (false≢true (sym f))
+    by_parts true false false true e f g = absurd (false≢true (sym g))
+
+pub unbegun_next : (t : Tree) (text : List ℕ) (from place : ℕ) → NoneBegins t text from place → may_begin t text place ≡ false → NoneBegins t text from (place + 1)
+unbegun_next t text from place none here k le lt = by_order (lt_or_same k place (omega (arith, lt)))
+  where
+    by_order : (k < place) ⊎ (k ≡ place) → may_begin t text k ≡ false
+    by_order (inl before) = none k le before
+    by_order (inr same) = subst (λ (x : ℕ). may_begin t text x ≡ false) (sym same) here
+
+pub unbegun_end : (t : Tree) (text : List ℕ) (from place : ℕ) → 0 < from → may_stay t ≡ false → length text ≤ place → NoneBegins t text from place → NoneBegins t text from (length text + 1)
+unbegun_end t text from place later stays past none k le lt = by_order (lt_or_le k place)
+  where
+    by_order : (k < place) ⊎ (place ≤ k) → may_begin t text k ≡ false
+    by_order (inl before) = none k le before
+    by_order (inr after) = unbegun_here t text k (omega (arith, later, le)) stays (ap (takes_at (may_take t)) (slice_get_past text k (omega (arith, past, after))))
+
+-- where none begins from there on, none begins at any place
+pub unbegun_later : (t : Tree) (text : List ℕ) (place : ℕ) → may_stay t || may_take t 128 ≡ false → may_begin t text place ≡ false → (m : ℕ) → place ≤ m → may_begin t text m ≡ false
+unbegun_later t text place none here m le = not_true (may_begin t text m) (none_later t text place none here m le)
+  where
+    not_true : (b : Bool) → (b ≡ true → ⊥) → b ≡ false
+    not_true true h = absurd (h refl)
+    not_true false h = refl
+
+-- a walk begins where it may stay
+pub unbegun_moves : (t : Tree) (text : List ℕ) (k : ℕ) → k ≤ length text → may_begin t text k ≡ false → may_stay t ≡ false
+unbegun_moves t text k le h = by_parts (nat_le k (length text)) (k == 0) (may_stay t) (takes_at (may_take t) (slice_get text k)) (le-leb k (length text) le) h
+  where
+    by_parts : (a b c d : Bool) → a ≡ true → a && (b || (c || d)) ≡ false → c ≡ false
+    by_parts true false false d e f = refl
+    by_parts true true c d e f = absurd (false≢true (sym f))
+    by_parts true false true d e f = absurd (false≢true (sym f))
+    by_parts false b c d e f = absurd (false≢true e)

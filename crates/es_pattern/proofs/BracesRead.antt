@@ -7,19 +7,19 @@ use Rattle.std.proofs.lemmas.List.Quantifiers.{position-Some}
 use Rattle.std.proofs.lemmas.Option.{some_pair_parts, none-some}
 use Rattle.std.proofs.lemmas.Bool.{false≢true, le-leb}
 use Rattle.std.proofs.lemmas.Bool.Decides.{nat_tests}
-use Rattle.es_pattern.specs.Escapes.{is_digit}
+use Rattle.es_pattern.specs.Escapes.{is_ascii_digit}
 use Rattle.es_pattern.specs.Grammar.{number, number_from, Bounds, exactly, at_least, between, BeginsBraces}
 use Rattle.es_pattern.specs.Reading.{bounds_of, bounds_by, second_bounds, pair_bounds, is_inner, may_be_comma}
 use Rattle.es_pattern.proofs.Digits.{digit_only, digit_within}
 
 abbrev AllDigits : List ℕ → Type 0
 AllDigits [] = Unit {0}
-AllDigits (c ∷ cs) = (is_digit c ≡ true) × AllDigits cs
+AllDigits (c ∷ cs) = (is_ascii_digit c ≡ true) × AllDigits cs
 
 -- digits and commas
 abbrev pub AllInner : List ℕ → Type 0
 AllInner [] = Unit {0}
-AllInner (c ∷ cs) = ((is_digit c ≡ true) ⊎ (c ≡ 44)) × AllInner cs
+AllInner (c ∷ cs) = ((is_ascii_digit c ≡ true) ⊎ (c ≡ 44)) × AllInner cs
 
 pub inner-append : (xs ys : List ℕ) → AllInner xs → AllInner ys → AllInner (xs ++ ys)
 inner-append [] ys hx hy = hy
@@ -38,11 +38,11 @@ number_digits : (ds : List ℕ) (n : ℕ) → number ds ≡ Some n → AllDigits
 number_digits [] n h = cc
 number_digits (c ∷ ds) n h = (digits_from 0 (c ∷ ds) n h, omega arith)
 
-digit_no_comma : (c : ℕ) → is_digit c ≡ true → c == 44 ≡ false
+digit_no_comma : (c : ℕ) → is_ascii_digit c ≡ true → c == 44 ≡ false
 digit_no_comma c h = grind (arith, nat_tests)
 
 -- a digit or a comma is no `}`
-pub inner_no_end : (y : ℕ) → (is_digit y ≡ true) ⊎ (y ≡ 44) → y ≡ 125 → ⊥
+pub inner_no_end : (y : ℕ) → (is_ascii_digit y ≡ true) ⊎ (y ≡ 44) → y ≡ 125 → ⊥
 inner_no_end y (inl d) e = omega (arith, digit_within y d, e)
 inner_no_end y (inr d) e = omega (arith, d, e)
 
@@ -149,23 +149,23 @@ compared (y ∷ bs) (x ∷ b) c w rest h e = by_cases (compared bs b c w rest h.
     by_cases (inl s) = inl (cc (heads, s.0), s.1)
     by_cases (inr s) = inr (s.0, cc (heads, s.1))
 
-digit_in : (ds : List ℕ) (bs : List ℕ) (c : ℕ) (more : List ℕ) → AllDigits ds → ds ≡ bs ++ c ∷ more → is_digit c ≡ true
+digit_in : (ds : List ℕ) (bs : List ℕ) (c : ℕ) (more : List ℕ) → AllDigits ds → ds ≡ bs ++ c ∷ more → is_ascii_digit c ≡ true
 digit_in [] [] c more h e = cc
 digit_in [] (y ∷ bs) c more h e = cc
-digit_in (d ∷ ds) [] c more h e = let same : d ≡ c = cc in subst (λ (x : ℕ). is_digit x ≡ true) same h.0
+digit_in (d ∷ ds) [] c more h e = let same : d ≡ c = cc in subst (λ (x : ℕ). is_ascii_digit x ≡ true) same h.0
 digit_in (d ∷ ds) (y ∷ bs) c more h e = digit_in ds bs c more h.1 cc
 
 -- a character in two runs of digits with a comma between them is a digit, or the comma
-comma_or_digit : (ds es bs : List ℕ) (c : ℕ) (more : List ℕ) → AllDigits ds → AllDigits es → ds ++ 44 ∷ es ≡ bs ++ c ∷ more → (is_digit c ≡ true) ⊎ ((c ≡ 44) × (bs ≡ ds))
+comma_or_digit : (ds es bs : List ℕ) (c : ℕ) (more : List ℕ) → AllDigits ds → AllDigits es → ds ++ 44 ∷ es ≡ bs ++ c ∷ more → (is_ascii_digit c ≡ true) ⊎ ((c ≡ 44) × (bs ≡ ds))
 comma_or_digit [] es [] c more hd he e = inr (cc, refl)
 comma_or_digit [] es (y ∷ bs) c more hd he e = inl (digit_in es bs c more he cc)
-comma_or_digit (d ∷ ds) es [] c more hd he e = inl (let same : d ≡ c = cc in subst (λ (x : ℕ). is_digit x ≡ true) same hd.0)
+comma_or_digit (d ∷ ds) es [] c more hd he e = inl (let same : d ≡ c = cc in subst (λ (x : ℕ). is_ascii_digit x ≡ true) same hd.0)
 comma_or_digit (d ∷ ds) es (y ∷ bs) c more hd he e = by_cases (comma_or_digit ds es bs c more hd.1 he cc)
   where
     heads : d ≡ y
     heads = cc
 
-    by_cases : (is_digit c ≡ true) ⊎ ((c ≡ 44) × (bs ≡ ds)) → (is_digit c ≡ true) ⊎ ((c ≡ 44) × (y ∷ bs ≡ d ∷ ds))
+    by_cases : (is_ascii_digit c ≡ true) ⊎ ((c ≡ 44) × (bs ≡ ds)) → (is_ascii_digit c ≡ true) ⊎ ((c ≡ 44) × (y ∷ bs ≡ d ∷ ds))
     by_cases (inl h) = inl h
     by_cases (inr h) = inr (h.0, cc (heads, h.1))
 
@@ -180,7 +180,7 @@ comma_allowed (d ∷ ds) h lt = rw (some_length, no_commas (d ∷ ds) h) refl
     some_length : length (d ∷ ds) == 0 ≡ false
     some_length = let lt : 0 < length (d ∷ ds) = omega arith in grind (arith, nat_tests)
 
-allowed : (bs ds : List ℕ) (c : ℕ) → AllDigits ds → 0 < length ds → (is_digit c ≡ true) ⊎ ((c ≡ 44) × (bs ≡ ds)) → is_inner bs c ≡ true
+allowed : (bs ds : List ℕ) (c : ℕ) → AllDigits ds → 0 < length ds → (is_ascii_digit c ≡ true) ⊎ ((c ≡ 44) × (bs ≡ ds)) → is_inner bs c ≡ true
 allowed bs ds c h lt (inl d) = rw d refl
 allowed bs ds c h lt (inr g) = subst (λ (x : ℕ). is_inner bs x ≡ true) (sym g.0) (subst (λ (x : List ℕ). may_be_comma x ≡ true) (sym g.1) (comma_allowed ds h lt))
 

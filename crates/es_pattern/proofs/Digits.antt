@@ -10,21 +10,21 @@ use Rattle.es_pattern.specs.declared.braces.Bounds.{Bounds}
 use Rattle.es_pattern.specs.Reading.{Reading, second_bounds, pair_bounds, bounds_by, in_braces_end, marked, quantified, charged, overcounts}
 use Rattle.es_pattern.specs.Limits.{is_above_limit, count_of}
 use Rattle.es_pattern.specs.Spans.{IsUpTo}
-use Rattle.es_pattern.specs.Escapes.{is_digit}
+use Rattle.es_pattern.specs.Escapes.{is_ascii_digit}
 use Rattle.es_pattern.specs.Grammar.{number, number_from}
 use Rattle.es_pattern.specs.Bounds.{padded, Counts, Bounded}
 use Rattle.es_pattern.proofs.NumberTests.{lt_from, within_bounds}
 
 -- a digit's number goes on only over a digit
-pub digit_only : (value c : ℕ) (cs : List ℕ) (n : ℕ) → number_from value (c ∷ cs) ≡ Some n → (is_digit c ≡ true) × (number_from (value * 10 + (c - 48)) cs ≡ Some n)
-digit_only value c cs n h = by_test (is_digit c) refl h
+pub digit_only : (value c : ℕ) (cs : List ℕ) (n : ℕ) → number_from value (c ∷ cs) ≡ Some n → (is_ascii_digit c ≡ true) × (number_from (value * 10 + (c - 48)) cs ≡ Some n)
+digit_only value c cs n h = by_test (is_ascii_digit c) refl h
   where
-    by_test : (b : Bool) → is_digit c ≡ b → cond b (number_from (value * 10 + (c - 48)) cs) None ≡ Some n → (is_digit c ≡ true) × (number_from (value * 10 + (c - 48)) cs ≡ Some n)
+    by_test : (b : Bool) → is_ascii_digit c ≡ b → cond b (number_from (value * 10 + (c - 48)) cs) None ≡ Some n → (is_ascii_digit c ≡ true) × (number_from (value * 10 + (c - 48)) cs ≡ Some n)
     by_test true e g = (e, g)
     by_test false e g = cc
 
 -- a digit's bounds
-pub digit_within : (c : ℕ) → is_digit c ≡ true → (48 ≤ c) × (c ≤ 57)
+pub digit_within : (c : ℕ) → is_ascii_digit c ≡ true → (48 ≤ c) × (c ≤ 57)
 digit_within c h = within_bounds 48 57 c h
 
 -- of two numbers of as many digits, the one that began smaller stays smaller

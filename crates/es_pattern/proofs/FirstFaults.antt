@@ -8,7 +8,7 @@ use Rattle.std.proofs.lemmas.Bool.{cases_lt, false≢true, eqb-true, and_parts, 
 use Rattle.std.proofs.lemmas.Bool.Decides.{nat_tests}
 use Rattle.es_pattern.specs.Tree.{Tree}
 use Rattle.es_pattern.specs.Pieces.{top, below}
-use Rattle.es_pattern.specs.Escapes.{is_digit}
+use Rattle.es_pattern.specs.Escapes.{is_ascii_digit}
 use Rattle.es_pattern.specs.Grammar.{IsPattern}
 use Rattle.es_pattern.specs.Limits.{is_above_limit, count_of, product_of}
 use Rattle.es_pattern.specs.Forms.{begins_unsupported_escape, begins_named_group, begins_group}
@@ -67,12 +67,12 @@ deep_head depth m text e = group_head text (and_parts (may_open m) (begins_group
 inner_apart : (bs : List ℕ) (c k : ℕ) → is_inner bs c ≡ true → c ≡ k → (k ≡ 92) ⊎ ((k ≡ 40) ⊎ (k ≡ 125)) → ⊥
 inner_apart bs c k h e which = by_inner (inner_is bs c h) which
   where
-    by_digit : is_digit c ≡ true → (k ≡ 92) ⊎ ((k ≡ 40) ⊎ (k ≡ 125)) → ⊥
+    by_digit : is_ascii_digit c ≡ true → (k ≡ 92) ⊎ ((k ≡ 40) ⊎ (k ≡ 125)) → ⊥
     by_digit d (inl a) = let at : c ≡ 92 = e ∙ a in grind (arith, nat_tests)
     by_digit d (inr (inl a)) = let at : c ≡ 40 = e ∙ a in grind (arith, nat_tests)
     by_digit d (inr (inr a)) = let at : c ≡ 125 = e ∙ a in grind (arith, nat_tests)
 
-    by_inner : (is_digit c ≡ true) ⊎ (c ≡ 44) → (k ≡ 92) ⊎ ((k ≡ 40) ⊎ (k ≡ 125)) → ⊥
+    by_inner : (is_ascii_digit c ≡ true) ⊎ (c ≡ 44) → (k ≡ 92) ⊎ ((k ≡ 40) ⊎ (k ≡ 125)) → ⊥
     by_inner (inl d) w = by_digit d w
     by_inner (inr d) (inl a) = absurd (omega (arith, d, e, a))
     by_inner (inr d) (inr (inl a)) = absurd (omega (arith, d, e, a))

@@ -1,9 +1,10 @@
 -- How large the number is that hexadecimal digits lead to, and the greatest character that they can lead to.
-use Rattle.std.proofs.Common.{◌≡◌, ℕ, ◌+◌, ◌-◌, ◌*◌, ◌<◌, ◌≤◌, Bool, true, false, cond, List, Some, None, refl, sym, ap, subst, ◌∙◌, arith}
-use Rattle.std.specs.Prelude.{◌&&◌, nat_le, nat_lt}
+use Rattle.std.proofs.Common.{◌≡◌, ℕ, ◌+◌, ◌*◌, ◌<◌, ◌≤◌, Bool, true, false, cond, List, Some, None, refl, sym, ap, subst, ◌∙◌, arith}
+use Rattle.std.specs.Prelude.{nat_lt}
 use Rattle.std.proofs.lemmas.Option.{same_Some}
-use Rattle.std.proofs.lemmas.Bool.{false≢true}
+use Rattle.std.proofs.lemmas.Bool.{false≢true, ltb-true}
 use Rattle.std.proofs.lemmas.Bool.Decides.{nat_tests}
+use Rattle.std.specs.Char.{digit_value}
 use Rattle.es_pattern.specs.Escapes.{hex_value, is_surrogate}
 use Rattle.es_pattern.specs.Grammar.{Hex}
 use Rattle.es_pattern.specs.Reading.{greatest_from, scalar}
@@ -11,19 +12,11 @@ use Rattle.es_pattern.proofs.NumberTests.{within_bounds}
 
 -- a hexadecimal digit is less than 16
 pub hex_digit : (c d : ℕ) → hex_value c ≡ Some d → d < 16
-hex_digit c d e = decimal (nat_le 48 c && nat_le c 57) refl e
+hex_digit c d e = by_test (nat_lt (digit_value c) 16) refl e
   where
-    lower : (b : Bool) → nat_le 97 c && nat_le c 102 ≡ b → cond b (Some (c - 87)) None ≡ Some d → d < 16
-    lower true h g = let same = same_Some (c - 87) d g in omega (arith, same, within_bounds 97 102 c h)
-    lower false h g = cc
-
-    upper : (b : Bool) → nat_le 65 c && nat_le c 70 ≡ b → cond b (Some (c - 55)) (cond (nat_le 97 c && nat_le c 102) (Some (c - 87)) None) ≡ Some d → d < 16
-    upper true h g = let same = same_Some (c - 55) d g in omega (arith, same, within_bounds 65 70 c h)
-    upper false h g = lower (nat_le 97 c && nat_le c 102) refl g
-
-    decimal : (b : Bool) → nat_le 48 c && nat_le c 57 ≡ b → cond b (Some (c - 48)) (cond (nat_le 65 c && nat_le c 70) (Some (c - 55)) (cond (nat_le 97 c && nat_le c 102) (Some (c - 87)) None)) ≡ Some d → d < 16
-    decimal true h g = let same = same_Some (c - 48) d g in omega (arith, same, within_bounds 48 57 c h)
-    decimal false h g = upper (nat_le 65 c && nat_le c 70) refl g
+    by_test : (b : Bool) → nat_lt (digit_value c) 16 ≡ b → cond b (Some (digit_value c)) None ≡ Some d → d < 16
+    by_test true h g = let same = same_Some (digit_value c) d g in omega (arith, same, ltb-true (digit_value c) 16 h)
+    by_test false h g = cc
 
 -- how large the number is that one digit more leads to
 one_digit : (v : ℕ) (text rest : List ℕ) (ch : ℕ) → Hex 1 v text rest ch → (v * 16 ≤ ch) × (ch ≤ v * 16 + 15)

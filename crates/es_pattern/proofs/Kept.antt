@@ -6,7 +6,7 @@ use Rattle.std.proofs.lemmas.Bool.{false≢true, eqb-true, ltb-false, leb-true}
 use Rattle.std.proofs.lemmas.Bool.Decides.{nat_tests}
 use Rattle.es_pattern.specs.Tree.{Tree, CharRange, nothing, one_of, text_start, text_end, word_boundary, sequence, choice, repetition, lookahead}
 use Rattle.es_pattern.specs.Pieces.{top, below}
-use Rattle.es_pattern.specs.Escapes.{is_digit, set_of, escaped, hex_value, is_surrogate}
+use Rattle.es_pattern.specs.Escapes.{is_ascii_digit, set_of, escaped, hex_value, is_surrogate}
 use Rattle.es_pattern.specs.Grammar.{char, any}
 use Rattle.es_pattern.specs.Limits.{product_of, count_of, is_above_limit}
 use Rattle.es_pattern.specs.declared.mode.Open.{Open}
@@ -223,7 +223,7 @@ step_sane : (m : Mode) (c : ℕ) (r s : Reading) → r.mode ≡ m → IsSaneIn m
 step_sane Term c r s m h e = plain_sane false false c r s e
 step_sane Atom c r s m h e = plain_sane true false c r s e
 step_sane Quantified c r s m h e = plain_sane false true c r s e
-step_sane Zero c r s m h e = if_else (is_digit c) _ _ s (IsSane s) e (λ y x. no_some s x) (λ n x. plain_sane true false c r s x)
+step_sane Zero c r s m h e = if_else (is_ascii_digit c) _ _ s (IsSane s) e (λ y x. no_some s x) (λ n x. plain_sane true false c r s x)
 step_sane (Braces after_atom) c r s m h e = in_braces_sane after_atom c r s m h e
 step_sane Escape c r s m h e = escape_sane c r s e
 step_sane (modes.Hex value left) c r s m h e = hex_sane value left c r s h e
@@ -238,8 +238,8 @@ step_sane ClassNext c r s m h e = next_item_sane c r s e
 step_sane ClassLast c r s m h e = if_else (c == 93) _ _ s (IsSane s) e (λ y x. sane_at _ s x tt) (λ n x. no_some s x)
 step_sane (modes.ClassChar first) c r s m h e = after_char_sane first c r s e
 step_sane (modes.ClassDash first) c r s m h e = after_dash_sane first c r s e
-step_sane (modes.ClassZero true) c r s m h e = if_else (is_digit c) _ _ s (IsSane s) e (λ y x. no_some s x) (λ n x. next_item_sane c r s x)
-step_sane (modes.ClassZero false) c r s m h e = if_else (is_digit c) _ _ s (IsSane s) e (λ y x. no_some s x) (λ n x. after_char_sane 0 c r s x)
+step_sane (modes.ClassZero true) c r s m h e = if_else (is_ascii_digit c) _ _ s (IsSane s) e (λ y x. no_some s x) (λ n x. next_item_sane c r s x)
+step_sane (modes.ClassZero false) c r s m h e = if_else (is_ascii_digit c) _ _ s (IsSane s) e (λ y x. no_some s x) (λ n x. after_char_sane 0 c r s x)
 step_sane (modes.ClassEscape first) c r s m h e = class_escape_sane first c r s h e
 step_sane (modes.ClassHex first value left) c r s m h e = class_hex_sane first value left c r s h e
 
@@ -510,7 +510,7 @@ step_measured : (m : Mode) (c : ℕ) (r s : Reading) → r.mode ≡ m → Measur
 step_measured Term c r s m h within e = base_measured false c r s h e
 step_measured Atom c r s m h within e = base_measured true c r s h e
 step_measured Quantified c r s m h within e = plain_measured false true c r s (λ y. refl) h e
-step_measured Zero c r s m h within e = if_else (is_digit c) _ _ s (IsMeasured s) e (λ y x. no_some s x) (λ n x. base_measured true c r s h x)
+step_measured Zero c r s m h within e = if_else (is_ascii_digit c) _ _ s (IsMeasured s) e (λ y x. no_some s x) (λ n x. base_measured true c r s h x)
 step_measured (Braces after_atom) c r s m h within e = in_braces_measured after_atom c r s m h within e
 step_measured Escape c r s m h within e = escape_measured (set_of c) c r s h e
 step_measured (modes.Hex value left) c r s m h within e = hex_measured (hex_value c) value left r s h e
@@ -527,8 +527,8 @@ step_measured ClassNext c r s m h within e = next_item_measured c r s h e
 step_measured ClassLast c r s m h within e = if_else (c == 93) _ _ s (IsMeasured s) e (λ y x. class_end_measured r s h x) (λ n x. no_some s x)
 step_measured (modes.ClassChar first) c r s m h within e = after_char_measured first c r s h e
 step_measured (modes.ClassDash first) c r s m h within e = after_dash_measured first c r s h e
-step_measured (modes.ClassZero true) c r s m h within e = if_else (is_digit c) _ _ s (IsMeasured s) e (λ y x. no_some s x) (λ n x. next_item_measured c r s h x)
-step_measured (modes.ClassZero false) c r s m h within e = if_else (is_digit c) _ _ s (IsMeasured s) e (λ y x. no_some s x) (λ n x. after_char_measured 0 c r s h x)
+step_measured (modes.ClassZero true) c r s m h within e = if_else (is_ascii_digit c) _ _ s (IsMeasured s) e (λ y x. no_some s x) (λ n x. next_item_measured c r s h x)
+step_measured (modes.ClassZero false) c r s m h within e = if_else (is_ascii_digit c) _ _ s (IsMeasured s) e (λ y x. no_some s x) (λ n x. after_char_measured 0 c r s h x)
 step_measured (modes.ClassEscape first) c r s m h within e = class_escape_measured (set_of c) first c r s h e
 step_measured (modes.ClassHex first value left) c r s m h within e = class_hex_measured (hex_value c) first value left r s h e
 

@@ -5,7 +5,7 @@ use Rattle.std.proofs.lemmas.Option.{same_Some}
 use Rattle.std.proofs.lemmas.Bool.{eqb-true, eqb-false}
 use Rattle.es_pattern.specs.Tree.{CharRange, one_of, nothing, text_start, text_end, word_boundary, choice, lookahead}
 use Rattle.es_pattern.specs.Pieces.{top, below}
-use Rattle.es_pattern.specs.Escapes.{is_digit, set_of, escaped, hex_value}
+use Rattle.es_pattern.specs.Escapes.{is_ascii_digit, set_of, escaped, hex_value}
 use Rattle.es_pattern.specs.Grammar.{any, char}
 use Rattle.es_pattern.specs.Limits.{count_of}
 use Rattle.es_pattern.specs.Places.{is_structural}
@@ -70,7 +70,7 @@ pub data OutsideMoves (d c : ℕ) (k : Kind) (e : ℕ) : Type 0 where
 
 -- in braces, after `(`, behind a backslash, in hexadecimal digits, in a class and just after `[`
 pub data BoundsMoves (bs : List ℕ) (d c : ℕ) (k : Kind) (e : ℕ) : Type 0 where
-  by_inner : (is_digit c ≡ true) ⊎ (c ≡ 44) → k ≡ in_bounds (bs ++ c ∷ []) → e ≡ d → BoundsMoves bs d c k e
+  by_inner : (is_ascii_digit c ≡ true) ⊎ (c ≡ 44) → k ≡ in_bounds (bs ++ c ∷ []) → e ≡ d → BoundsMoves bs d c k e
   by_other : OutsideMoves d c k e → BoundsMoves bs d c k e
 
 pub data ParenMoves (d c : ℕ) (k : Kind) (e : ℕ) : Type 0 where
@@ -363,7 +363,7 @@ step_moves_in : (m : Mode) (c : ℕ) (r s : Reading) → r.mode ≡ m → step_i
 step_moves_in Term c r s m e = plain_moves false false c r s e
 step_moves_in Atom c r s m e = plain_moves true false c r s e
 step_moves_in Quantified c r s m e = plain_moves false true c r s e
-step_moves_in Zero c r s m e = if_else (is_digit c) _ _ s (Moves (kind_in Zero r.braces) (length r.groups) c (kind s) (length s.groups)) e (λ y x. no_some s x) (λ n x. plain_moves true false c r s x)
+step_moves_in Zero c r s m e = if_else (is_ascii_digit c) _ _ s (Moves (kind_in Zero r.braces) (length r.groups) c (kind s) (length s.groups)) e (λ y x. no_some s x) (λ n x. plain_moves true false c r s x)
 step_moves_in (Braces after_atom) c r s m e = braces_moves after_atom c r s m e
 step_moves_in Escape c r s m e = escape_moves c r s e
 step_moves_in (modes.Hex value left) c r s m e = hex_moves value left c r s e
@@ -380,8 +380,8 @@ step_moves_in ClassLast c r s m e = if_else (c == 93) _ _ s (InsideMoves (length
     (λ y x. moved (InsideMoves (length r.groups) c) (class_end r) s x (by_end (eqb-true c 93 y) refl refl)) (λ n x. no_some s x)
 step_moves_in (modes.ClassChar first) c r s m e = after_char_moves first c r s e
 step_moves_in (modes.ClassDash first) c r s m e = after_dash_moves first c r s e
-step_moves_in (modes.ClassZero true) c r s m e = if_else (is_digit c) _ _ s (InsideMoves (length r.groups) c (kind s) (length s.groups)) e (λ y x. no_some s x) (λ n x. next_item_moves c r s x)
-step_moves_in (modes.ClassZero false) c r s m e = if_else (is_digit c) _ _ s (InsideMoves (length r.groups) c (kind s) (length s.groups)) e (λ y x. no_some s x) (λ n x. after_char_moves 0 c r s x)
+step_moves_in (modes.ClassZero true) c r s m e = if_else (is_ascii_digit c) _ _ s (InsideMoves (length r.groups) c (kind s) (length s.groups)) e (λ y x. no_some s x) (λ n x. next_item_moves c r s x)
+step_moves_in (modes.ClassZero false) c r s m e = if_else (is_ascii_digit c) _ _ s (InsideMoves (length r.groups) c (kind s) (length s.groups)) e (λ y x. no_some s x) (λ n x. after_char_moves 0 c r s x)
 step_moves_in (modes.ClassEscape first) c r s m e = class_escape_moves first c r s e
 step_moves_in (modes.ClassHex first value left) c r s m e = class_hex_moves first value left c r s e
 

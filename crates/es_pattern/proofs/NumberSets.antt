@@ -73,3 +73,11 @@ untaken_fewer old new (suc size) n kept was now lt = by_cases (cases_eq size n) 
         let other : size ≡ n → ⊥ = apart in
         let below : n < size = lt_from n size (omega (arith, lt)) (λ e. other (sym e)) in
         omega (arith, untaken_one (has old size) (has new size) (kept size), again below)
+
+pub untaken_most : (taken : List ℕ) (size : ℕ) → untaken taken size ≤ 3 * size
+untaken_most taken zero = omega arith
+untaken_most taken (suc size) = omega (arith, at_most (has taken size), untaken_most taken size)
+  where
+    at_most : (b : Bool) → ◌≤◌ (cond {A = ℕ} b 0 3) 3
+    at_most true = omega arith
+    at_most false = omega arith

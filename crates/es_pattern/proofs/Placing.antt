@@ -6,7 +6,7 @@ use Rattle.std.proofs.lemmas.List.{append_assoc, take-append-drop, take_at, drop
 use Rattle.std.proofs.lemmas.Option.{same_Some, option_and_then_some}
 use Rattle.std.proofs.lemmas.Bool.{false≢true, leb-true, and_parts}
 use Rattle.std.proofs.Math.Bool.{or-false}
-use Rattle.es_pattern.specs.Escapes.{is_digit}
+use Rattle.es_pattern.specs.Escapes.{is_ascii_digit}
 use Rattle.es_pattern.specs.Grammar.{Hex, BeginsCaret, Bounds}
 use Rattle.es_pattern.specs.Places.{Stands, Within, groups, class_in_groups, is_structural, BeginsQuestion, AfterBackslash, other_escape, two_digit_escape, four_digit_escape}
 use Rattle.es_pattern.specs.Places.{at_front, past_symbol, past_escape, in_group, in_marked_group, past_group, in_class, in_negated_class, past_class_char, past_class_escape, past_class}
@@ -49,7 +49,7 @@ behind_placed false d text rest h = h
 behind_placed true d text rest h = h
 
 -- digits and commas are symbols
-pub inner_symbol : (c : ℕ) → (is_digit c ≡ true) ⊎ (c ≡ 44) → is_structural c ≡ false
+pub inner_symbol : (c : ℕ) → (is_ascii_digit c ≡ true) ⊎ (c ≡ 44) → is_structural c ≡ false
 inner_symbol c (inl h) =
     let bounds = digit_within c h in
     rw (above_apart c 40 (omega (arith, bounds.0)), above_apart c 41 (omega (arith, bounds.0)), below_apart c 91 (omega (arith, bounds.1)), below_apart c 92 (omega (arith, bounds.1))) refl
@@ -231,7 +231,7 @@ stands_ends text place rest (past_class {depth = d} h) = further text 93 rest (s
 one_byte_more : (c : ℕ) (cs : List ℕ) → c < 128 → length (encode_utf8_all (c ∷ cs)) ≡ length (encode_utf8_all cs) + 1
 one_byte_more c cs low = omega (arith, length-append (encode_utf8 c) (encode_utf8_all cs), length-encode c, len_utf8_ascii c low)
 
-inner_low : (c : ℕ) → (is_digit c ≡ true) ⊎ (c ≡ 44) → c < 128
+inner_low : (c : ℕ) → (is_ascii_digit c ≡ true) ⊎ (c ≡ 44) → c < 128
 inner_low c (inl h) = omega (arith, digit_within c h)
 inner_low c (inr h) = omega (arith, h)
 

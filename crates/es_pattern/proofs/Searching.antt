@@ -18,7 +18,7 @@ use Rattle.es_pattern.specs.Pieces.{tree_of}
 use Rattle.es_pattern.specs.Program.{IsAlive}
 use Rattle.es_pattern.specs.Passing.{Passes, After, AllTell, Tells, Answers, IsTold, IsUntold, IsAsked, untold_count}
 use Rattle.es_pattern.specs.NumberSet.{has}
-use Rattle.es_pattern.specs.Alive.{Settled, Settling, Arrives, ArrivesBy, SettlingBy, SettledBy, PassedBy}
+use Rattle.es_pattern.specs.Alive.{IsIdle, Settled, Settling, Arrives, ArrivesBy, SettlingBy, SettledBy, PassedBy}
 use Rattle.es_pattern.specs.Compiled.{AllParts, steps_of, part_steps}
 use Rattle.es_pattern.proofs.Passings.{tree_at_is}
 use Rattle.es_pattern.proofs.Alives.{alive_within, arrives_first, arrives_next, none_alive, settled_by, settling_begun, settling_unbegun}
@@ -214,6 +214,9 @@ module _ (d : Direction) (pieces : List Piece) (text : List ℕ) (begins : ℕ �
       (subst (λ (v : Vec ℕ). Settling d (Passes d pieces text) begins steps place (old.waiting.items ++ 0 ∷ []) old.taken.words.items v.items) (sym g)
       (settling_begun d pieces text begins steps place old.waiting.items old.taken.words.items old.next.items yes_ a)))
 
+  pub unbegun_by : (place : ℕ) (alive : Alive) → begins place ≡ false → ArrivesBy d pieces text begins steps place alive → SettlingBy d pieces text begins steps place alive
+  unbegun_by place alive no_ a = settling_unbegun d pieces text begins steps place alive.waiting.items alive.taken.words.items alive.next.items no_ a
+
   pub next_by : (place after : ℕ) (old new : Alive) → After d place after → new.waiting ≡ old.next → new.next ≡ old.waiting → ((n : ℕ) → has new.taken.words.items n ≡ false) → SettledBy d pieces text begins steps place old
       → ArrivesBy d pieces text begins steps after new
   next_by place after old new a e f none s =
@@ -275,14 +278,18 @@ not_missing (Some x) h = (x, refl)
 pub found_if : {E : Type 0} (r : Result Bool E) (tree : Tree) (lent text : List ℕ) → lent ≡ text → IfOk r (λ found. IsTrue found ↔ IsFound tree lent) → IfOk r (λ found. IsTrue found ↔ IsFound tree text)
 found_if r tree lent text e h = subst (λ (t : List ℕ). IfOk r (λ found. IsTrue found ↔ IsFound tree t)) e h
 
--- a place at which a walk begins, or none does
-abbrev pub Started : List Piece → List ℕ → (ℕ → Bool) → List Step → ℕ → Alive → Type 0
-Started pieces text begins steps place alive = SettlingBy Forward pieces text begins steps place alive × (alive.waiting.items ≡ [] → (begins place ≡ false) × ArrivesBy Forward pieces text begins steps place alive)
+-- places at which nothing is alive
+pub idle_for : (pieces : List Piece) (text : List ℕ) (begins : ℕ → Bool) (steps : List Step) (alive : Alive) (n from : ℕ) → IsIdle begins alive from (from + n) → ArrivesBy Forward pieces text begins steps from alive → none_before pieces text begins steps from → ArrivesBy Forward pieces text begins steps (from + n) alive × none_before pieces text begins steps (from + n)
+idle_for pieces text begins steps alive zero from idle a none =
+    let same : from ≡ from + 0 = omega arith in subst (λ (x : ℕ). ArrivesBy Forward pieces text begins steps x alive × none_before pieces text begins steps x) same (a, none)
+idle_for pieces text begins steps alive (suc n) from idle a none =
+    let here = idle from (omega arith) (omega arith) in
+    let passed = idle_by pieces text begins steps from alive here.0 here.1 a in
+    subst (λ (x : ℕ). ArrivesBy Forward pieces text begins steps x alive × none_before pieces text begins steps x) (omega arith)
+    (idle_for pieces text begins steps alive n (from + 1) (λ k le lt. idle k (omega (arith, le)) (omega (arith, lt))) passed.arrives (none_further pieces text begins steps from none (passed.ends_not refl)))
 
-module _ (pieces : List Piece) (text : List ℕ) (begins : ℕ → Bool) (steps : List Step) (place : ℕ) where
-  pub started_begun : (old new : Alive) → new.waiting.items ≡ old.waiting.items ++ 0 ∷ [] → new.taken ≡ old.taken → new.next ≡ old.next → begins place ≡ true → ArrivesBy Forward pieces text begins steps place old → Started pieces text begins steps place new
-  started_begun old new e f g yes_ a =
-      (begun_by Forward pieces text begins steps place old new e f g yes_ a, λ empty. let l : 1 ≤ length new.waiting.items = omega (arith, ap length e, length-append old.waiting.items (0 ∷ [])) in absurd (omega (arith, l, ap length empty)))
-
-  pub started_unbegun : (alive : Alive) → begins place ≡ false → ArrivesBy Forward pieces text begins steps place alive → Started pieces text begins steps place alive
-  started_unbegun alive no_ a = (settling_unbegun Forward pieces text begins steps place alive.waiting.items alive.taken.words.items alive.next.items no_ a, λ empty. (no_, a))
+pub idle_till : (pieces : List Piece) (text : List ℕ) (begins : ℕ → Bool) (steps : List Step) (alive : Alive) (from to : ℕ) → from ≤ to → IsIdle begins alive from to → ArrivesBy Forward pieces text begins steps from alive → none_before pieces text begins steps from → ArrivesBy Forward pieces text begins steps to alive × none_before pieces text begins steps to
+idle_till pieces text begins steps alive from to le idle a none =
+    let same : from + (to - from) ≡ to = omega (arith, le) in
+    subst (λ (x : ℕ). ArrivesBy Forward pieces text begins steps x alive × none_before pieces text begins steps x) same
+    (idle_for pieces text begins steps alive (to - from) from (λ k first lt. idle k first (omega (arith, same, lt))) a none)

@@ -1,5 +1,5 @@
 -- How long a pattern's program is at most.
-use Rattle.std.proofs.Common.{◌≡◌, ℕ, zero, suc, ◌+◌, ◌*◌, ◌≤◌, max, List, [], ◌∷◌, ◌++◌, length, Option, Some, None, option_map, arith, length-append}
+use Rattle.std.proofs.Common.{◌≡◌, ℕ, zero, suc, ◌+◌, ◌*◌, ◌≤◌, max, List, [], ◌∷◌, ◌++◌, length, Option, Some, None, option_map, take, ap, arith, length-append}
 use Rattle.es_pattern.specs.declared.step.Step.{Step}
 use Rattle.es_pattern.specs.declared.step.Step.TheVariants.{Fork, Jump, Back}
 use Rattle.es_pattern.specs.declared.step.Direction.{Direction}
@@ -10,8 +10,10 @@ use Rattle.es_pattern.specs.Tree.{Tree}
 use Rattle.es_pattern.specs.Limits.{count_of}
 use Rattle.es_pattern.specs.Pieces.{top, below, with_piece, with_pieces, tree_of}
 use Rattle.es_pattern.specs.Program.{sequence_steps, copies, maybe_steps, repetition_steps}
-use Rattle.es_pattern.specs.Size.{most_steps}
-use Rattle.es_pattern.specs.Compiled.{top_code, code_below, with_code, codes_from, steps_of}
+use Rattle.es_pattern.specs.Size.{AllBounded, most_steps}
+use Rattle.es_pattern.specs.Compiled.{top_code, code_below, with_code, codes_from, steps_of, AllParts}
+use Rattle.std.specs.Global.{Vec}
+use Rattle.es_pattern.proofs.Searching.{the_part}
 
 length-copies : (n : ℕ) (a : List Step) → length (copies n a) ≡ n * length a
 length-copies zero a = omega arith
@@ -106,3 +108,6 @@ sized_from d number (p ∷ ps) cs ts s = sized_from d (suc number) ps (with_code
 -- a program has at most as many steps as the counts of its tree allow
 pub steps_bounded : (d : Direction) (pieces : List Piece) → length (steps_of d pieces) ≤ most_steps (tree_of pieces)
 steps_bounded d pieces = sized_top (codes_from d 0 pieces []) (with_pieces pieces []) (sized_from d 0 pieces [] [] tt)
+
+pub parts_bounded : (pieces : List Piece) (lookaheads : List (Vec Step)) → AllParts pieces lookaheads → AllBounded pieces lookaheads
+parts_bounded pieces lookaheads parts number negated steps at there = omega (arith, ap length (the_part pieces lookaheads number negated steps parts at there), steps_bounded Backward (take number pieces))

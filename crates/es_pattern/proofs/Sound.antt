@@ -6,7 +6,7 @@ use Rattle.std.proofs.lemmas.Option.{same_Some}
 use Rattle.std.proofs.lemmas.Bool.{false≢true, eqb-true, eqb-false, leb-true}
 use Rattle.es_pattern.specs.Tree.{Tree, CharRange, nothing, one_of, text_start, text_end, word_boundary, sequence, choice, repetition, lookahead}
 use Rattle.es_pattern.specs.Pieces.{top, below}
-use Rattle.es_pattern.specs.Escapes.{range, is_digit, set_of, escaped, hex_value, is_surrogate}
+use Rattle.es_pattern.specs.Escapes.{range, is_ascii_digit, set_of, escaped, hex_value, is_surrogate}
 use Rattle.es_pattern.specs.Grammar.{never, char, any, Mark, BeginsBraces, BeginsDigit, BeginsCaret, ClassChar, FirstChar, Items, alternatives, term, atom, Reads, IsPattern, is_plain, Hex}
 use Rattle.es_pattern.specs.Grammar.{star_mark, plus_mark, question_mark, braces_mark, named, zero_char, two_digits, four_digits, itself, class_escape, backspace, other_char, first_dash, no_item, last_dash, one_char, one_set, from_to, to_dash}
 use Rattle.es_pattern.specs.Grammar.{ends, bar, followed, at_start, at_end, at_boundary, at_no_boundary, ahead, not_ahead, once, greedy, lazy, dot, group, bare_group, class, negated_class, set_escape, char_escape, ordinary}
@@ -252,13 +252,13 @@ base_step after_atom c r s w t e h = by_cases (plain_step after_atom false c r s
     by_cases (inr l) = absurd (false≢true l.0)
 
 -- digits and commas stand for themselves
-pub digit_plain : (c : ℕ) → is_digit c ≡ true → is_plain c ≡ true
+pub digit_plain : (c : ℕ) → is_ascii_digit c ≡ true → is_plain c ≡ true
 digit_plain c h =
     let bounds = digit_within c h in
     all_false c (below_apart c 94 (omega (arith, bounds.1))) (above_apart c 36 (omega (arith, bounds.0))) (below_apart c 92 (omega (arith, bounds.1))) (above_apart c 46 (omega (arith, bounds.0))) (above_apart c 42 (omega (arith, bounds.0))) (above_apart c 43 (omega (arith, bounds.0)))
     (below_apart c 63 (omega (arith, bounds.1))) (above_apart c 40 (omega (arith, bounds.0))) (above_apart c 41 (omega (arith, bounds.0))) (below_apart c 91 (omega (arith, bounds.1))) (below_apart c 124 (omega (arith, bounds.1)))
 
-inner_atom : (c : ℕ) (rest : List ℕ) → (is_digit c ≡ true) ⊎ (c ≡ 44) → Reads (atom (char c)) (c ∷ rest) rest
+inner_atom : (c : ℕ) (rest : List ℕ) → (is_ascii_digit c ≡ true) ⊎ (c ≡ 44) → Reads (atom (char c)) (c ∷ rest) rest
 inner_atom c rest (inl h) = ordinary (digit_plain c h) (no_braces c rest (λ e. omega (arith, digit_within c h, e)))
 inner_atom c rest (inr h) = subst (λ (d : ℕ). Reads (atom (char d)) (d ∷ rest) rest) (sym h) (ordinary refl (no_braces 44 rest (λ e. absurd (omega (arith, e)))))
 
@@ -279,14 +279,14 @@ flushed_next false r rest t h no_b a =
     let later = flushed_chars_next r.braces (record (with_atom (char 123) r) { braces = [] }) rest t h a in
     atom_next r.trees r.groups t (char 123) (123 ∷ (r.braces ++ rest)) (r.braces ++ rest) (ordinary refl no_b) later
 
-pub inner_is : (bs : List ℕ) (c : ℕ) → is_inner bs c ≡ true → (is_digit c ≡ true) ⊎ (c ≡ 44)
-inner_is bs c h = by_digit (is_digit c) refl h
+pub inner_is : (bs : List ℕ) (c : ℕ) → is_inner bs c ≡ true → (is_ascii_digit c ≡ true) ⊎ (c ≡ 44)
+inner_is bs c h = by_digit (is_ascii_digit c) refl h
   where
-    by_comma : (b : Bool) → c == 44 ≡ b → b && may_be_comma bs ≡ true → (is_digit c ≡ true) ⊎ (c ≡ 44)
+    by_comma : (b : Bool) → c == 44 ≡ b → b && may_be_comma bs ≡ true → (is_ascii_digit c ≡ true) ⊎ (c ≡ 44)
     by_comma true e g = inr (eqb-true c 44 e)
     by_comma false e g = absurd (false≢true g)
 
-    by_digit : (b : Bool) → is_digit c ≡ b → b || (c == 44) && may_be_comma bs ≡ true → (is_digit c ≡ true) ⊎ (c ≡ 44)
+    by_digit : (b : Bool) → is_ascii_digit c ≡ b → b || (c == 44) && may_be_comma bs ≡ true → (is_ascii_digit c ≡ true) ⊎ (c ≡ 44)
     by_digit true e g = inl e
     by_digit false e g = by_comma (c == 44) refl g
 
@@ -542,7 +542,7 @@ step_completes Quantified c r s w t m e h = by_lazy (plain_step false true c r s
     by_lazy : InTerm r.trees r.groups (c ∷ w) t ⊎ ((true ≡ true) × (c ≡ 63) × InTerm r.trees r.groups w t) → InTerm r.trees r.groups (c ∷ w) t ⊎ ((v : List ℕ) × (c ∷ w ≡ 63 ∷ v) × InTerm r.trees r.groups v t)
     by_lazy (inl i) = inl i
     by_lazy (inr l) = inr (w, ap (λ (d : ℕ). d ∷ w) l.1, l.2)
-step_completes Zero c r s w t m e h = if_else (is_digit c) _ _ s (CompletesIn Zero r (c ∷ w) t) e (λ y x. no_some s x) (λ n x. ((λ d. false≢true (sym n ∙ d)), base_step true c r s w t x h))
+step_completes Zero c r s w t m e h = if_else (is_ascii_digit c) _ _ s (CompletesIn Zero r (c ∷ w) t) e (λ y x. no_some s x) (λ n x. ((λ d. false≢true (sym n ∙ d)), base_step true c r s w t x h))
 step_completes (Braces after_atom) c r s w t m e h = braces_step after_atom c r s w t m e h
 step_completes Escape c r s w t m e h = escape_step c r s w t e h
 step_completes (modes.Hex value left) c r s w t m e h = hex_step value left c r s w t e h
@@ -564,8 +564,8 @@ step_completes ClassLast c r s w t m e h = if_else (c == 93) _ _ s (CompletesIn 
     (λ y x. (w, ap (λ (d : ℕ). d ∷ w) (eqb-true c 93 y), completes_at (class_end r) s w t x h)) (λ n x. no_some s x)
 step_completes (modes.ClassChar first) c r s w t m e h = after_char_step first c r s w t e h
 step_completes (modes.ClassDash first) c r s w t m e h = after_dash_step first c r s w t e h
-step_completes (modes.ClassZero true) c r s w t m e h = if_else (is_digit c) _ _ s (CompletesIn (modes.ClassZero true) r (c ∷ w) t) e (λ y x. no_some s x) (λ n x. ((λ d. false≢true (sym n ∙ d)), next_item_step c r s w t x h))
-step_completes (modes.ClassZero false) c r s w t m e h = if_else (is_digit c) _ _ s (CompletesIn (modes.ClassZero false) r (c ∷ w) t) e (λ y x. no_some s x) (λ n x. ((λ d. false≢true (sym n ∙ d)), after_char_step 0 c r s w t x h))
+step_completes (modes.ClassZero true) c r s w t m e h = if_else (is_ascii_digit c) _ _ s (CompletesIn (modes.ClassZero true) r (c ∷ w) t) e (λ y x. no_some s x) (λ n x. ((λ d. false≢true (sym n ∙ d)), next_item_step c r s w t x h))
+step_completes (modes.ClassZero false) c r s w t m e h = if_else (is_ascii_digit c) _ _ s (CompletesIn (modes.ClassZero false) r (c ∷ w) t) e (λ y x. no_some s x) (λ n x. ((λ d. false≢true (sym n ∙ d)), after_char_step 0 c r s w t x h))
 step_completes (modes.ClassEscape first) c r s w t m e h = class_escape_step first c r s w t e h
 step_completes (modes.ClassHex first value left) c r s w t m e h = class_hex_step first value left c r s w t e h
 

@@ -5,7 +5,7 @@ use Rattle.std.proofs.lemmas.Option.{same_Some}
 use Rattle.std.proofs.lemmas.Bool.{false≢true, eqb-true, eq-eqb, ne_eqb, le-leb, false_from_ne_true, or_parts}
 use Rattle.std.proofs.lemmas.Bool.Decides.{nat_tests}
 use Rattle.es_pattern.specs.Tree.{Tree, CharRange}
-use Rattle.es_pattern.specs.Escapes.{range, is_digit, is_punctuation, set_of, escaped, hex_value, is_surrogate}
+use Rattle.es_pattern.specs.Escapes.{range, is_ascii_digit, is_ascii_punctuation, set_of, escaped, hex_value, is_surrogate}
 use Rattle.es_pattern.specs.Grammar.{char, BeginsDigit, CharEscape, ClassChar, FirstChar, Items, Hex}
 use Rattle.es_pattern.specs.Grammar.{named, zero_char, two_digits, four_digits, itself, class_escape, backspace, other_char, first_dash, no_item, last_dash, one_char, one_set, from_to, to_dash}
 use Rattle.es_pattern.specs.declared.mode.Mode.TheVariants.{ClassOpen, ClassFirst, ClassNext, ClassLast}
@@ -141,9 +141,9 @@ taking_after_char first c r w t i = by_test (c == 45) refl
 -- a character that a letter stands for in an escape is at most `~`
 escaped_small : (c d : ℕ) → escaped c ≡ Some d → d ≤ 126
 escaped_small c = at_most (c == 116) 9 _ (λ y. omega arith) (at_most (c == 110) 10 _ (λ y. omega arith) (at_most (c == 118) 11 _ (λ y. omega arith) (at_most (c == 102) 12 _ (λ y. omega arith) (at_most (c == 114) 13 _ (λ y. omega arith)
-    (at_most (is_punctuation c) c None (punctuation_small c) (λ d e. cc))))))
+    (at_most (is_ascii_punctuation c) c None (punctuation_small c) (λ d e. cc))))))
   where
-    punctuation_small : (c : ℕ) → is_punctuation c ≡ true → c ≤ 126
+    punctuation_small : (c : ℕ) → is_ascii_punctuation c ≡ true → c ≤ 126
     punctuation_small c h = grind (arith, nat_tests)
 
     at_most : (b : Bool) (v : ℕ) (o : Option ℕ) → (b ≡ true → v ≤ 126) → ((d : ℕ) → o ≡ Some d → d ≤ 126) → (d : ℕ) → cond b (Some v) o ≡ Some d → d ≤ 126
@@ -398,8 +398,8 @@ pub taking_class_dash : (first c : ℕ) (r : Reading) (w : List ℕ) (t : Tree) 
 taking_class_dash first c r w t m h = taking_after_dash first c r w t h
 
 pub taking_class_zero : (is_last : Bool) (c : ℕ) (r : Reading) (w : List ℕ) (t : Tree) → r.mode ≡ modes.ClassZero is_last → CompletesIn (modes.ClassZero is_last) r (c ∷ w) t → Taken (step_in (modes.ClassZero is_last) c r) w t
-taking_class_zero true c r w t m h = taken_else (is_digit c) _ _ w t (false_from_ne_true (is_digit c) h.0) (taking_next_item c r w t h.1)
-taking_class_zero false c r w t m h = taken_else (is_digit c) _ _ w t (false_from_ne_true (is_digit c) h.0) (taking_after_char 0 c r w t h.1)
+taking_class_zero true c r w t m h = taken_else (is_ascii_digit c) _ _ w t (false_from_ne_true (is_ascii_digit c) h.0) (taking_next_item c r w t h.1)
+taking_class_zero false c r w t m h = taken_else (is_ascii_digit c) _ _ w t (false_from_ne_true (is_ascii_digit c) h.0) (taking_after_char 0 c r w t h.1)
 
 pub taking_class_escape : (first : Option ℕ) (c : ℕ) (r : Reading) (w : List ℕ) (t : Tree) → r.mode ≡ modes.ClassEscape first → CompletesIn (modes.ClassEscape first) r (c ∷ w) t → Taken (step_in (modes.ClassEscape first) c r) w t
 taking_class_escape first c r w t m h = taking_escape first c r w t h

@@ -6,7 +6,7 @@ use Rattle.std.proofs.lemmas.Option.{none-some}
 use Rattle.std.proofs.lemmas.Bool.{false≢true, eqb-true, eqb-false, ne_eqb}
 use Rattle.es_pattern.specs.Tree.{Tree, CharRange, nothing, one_of, text_start, text_end, word_boundary, sequence, choice, lookahead}
 use Rattle.es_pattern.specs.Pieces.{top, below}
-use Rattle.es_pattern.specs.Escapes.{is_digit, set_of, escaped}
+use Rattle.es_pattern.specs.Escapes.{is_ascii_digit, set_of, escaped}
 use Rattle.es_pattern.specs.Grammar.{never, char, any, BeginsBraces, alternatives, term, atom, Reads, is_plain, CharEscape}
 use Rattle.es_pattern.specs.Grammar.{star_mark, plus_mark, question_mark, braces_mark, named, zero_char, two_digits, four_digits}
 use Rattle.es_pattern.specs.Grammar.{ends, bar, followed, at_start, at_end, at_boundary, at_no_boundary, ahead, not_ahead, once, greedy, lazy, dot, group, bare_group, class, negated_class, set_escape, char_escape, ordinary}
@@ -167,9 +167,9 @@ taking_quantified c r w t m (inr l) =
 
 -- after `\0` no digit may stand
 pub taking_zero : (c : ℕ) (r : Reading) (w : List ℕ) (t : Tree) → r.mode ≡ Zero → CompletesIn Zero r (c ∷ w) t → Taken (step_in Zero c r) w t
-taking_zero c r w t m h = by_digit (is_digit c) refl (base_taken true c r w t h.1)
+taking_zero c r w t m h = by_digit (is_ascii_digit c) refl (base_taken true c r w t h.1)
   where
-    by_digit : (b : Bool) → is_digit c ≡ b → Taken (plain true false c r) w t → Taken (cond (is_digit c) None (plain true false c r)) w t
+    by_digit : (b : Bool) → is_ascii_digit c ≡ b → Taken (plain true false c r) w t → Taken (cond (is_ascii_digit c) None (plain true false c r)) w t
     by_digit true e k = absurd (h.0 e)
     by_digit false e k = subst (λ (b : Bool). Taken (cond b None (plain true false c r)) w t) (sym e) k
 
@@ -290,8 +290,8 @@ itself_taken : (r : Reading) (c : ℕ) (w : List ℕ) (t : Tree) → is_plain c 
 itself_taken r c w t h i = let k = term_taken r c w t i in completes_at (with_atom (char c) r) k.2.0 w t (sym (plain_begun r c h) ∙ k.2.1) k.2.2
 
 -- digits and commas stand for themselves, and mark no quantifier
-inner_plain : (c : ℕ) → (is_digit c ≡ true) ⊎ (c ≡ 44) → (is_plain c ≡ true) × NoMark c × (c == 123 ≡ false)
-inner_plain c (inl d) = let h = digit_plain c d in (h, (apart_by is_plain c 42 h refl, apart_by is_plain c 43 h refl, apart_by is_plain c 63 h refl), apart_by is_digit c 123 d refl)
+inner_plain : (c : ℕ) → (is_ascii_digit c ≡ true) ⊎ (c ≡ 44) → (is_plain c ≡ true) × NoMark c × (c == 123 ≡ false)
+inner_plain c (inl d) = let h = digit_plain c d in (h, (apart_by is_plain c 42 h refl, apart_by is_plain c 43 h refl, apart_by is_plain c 63 h refl), apart_by is_ascii_digit c 123 d refl)
 inner_plain c (inr e) = subst (λ (k : ℕ). (is_plain k ≡ true) × NoMark k × (k == 123 ≡ false)) (sym e) (refl, (refl, refl, refl), refl)
 
 -- the characters of braces that are no quantifier

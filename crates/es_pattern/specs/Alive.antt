@@ -1,5 +1,5 @@
 -- The steps of a program that are alive at a place. Contracts of private functions alone cite it.
-use Rattle.std.specs.Prelude.{◌≡◌, ℕ, zero, suc, ◌+◌, ◌-◌, ◌≤◌, nat_le, cond, Bool, true, false, List, [], ◌∷◌, ◌⊎◌, length, Contains}
+use Rattle.std.specs.Prelude.{◌≡◌, ℕ, zero, suc, ◌+◌, ◌*◌, ◌-◌, ◌<◌, ◌≤◌, nat_le, Bool, true, false, List, [], ◌∷◌, ◌⊎◌, length, Contains, if◌then◌else◌}
 use Rattle.es_pattern.specs.declared.step.Step.{Step}
 use Rattle.es_pattern.specs.declared.step.Step.TheVariants.{Pass, Fork, Jump, Back}
 use Rattle.es_pattern.specs.declared.step.Direction.{Direction}
@@ -12,8 +12,9 @@ use Rattle.es_pattern.specs.Program.{Goes, IsAlive}
 use Rattle.es_pattern.specs.Passing.{After, Passes}
 use Rattle.es_pattern.specs.NumberSet.{Has, has}
 
+-- the step, if it stands in a program of that size or at its end
 abbrev pub if_within : ℕ → ℕ → List ℕ
-if_within size q = cond (nat_le q size) (q ∷ []) []
+if_within size q = if nat_le q size then q ∷ [] else []
 
 -- the next steps at the same place, and those at the next place
 abbrev pub same_place : Step → ℕ → ℕ → Passing → List ℕ
@@ -22,7 +23,7 @@ same_place (Pass number) at size Stays = (at + 1) ∷ []
 same_place (Pass number) at size Moves = []
 same_place (Fork by) at size passing = (at + 1) ∷ if_within size (at + by)
 same_place (Jump by) at size passing = if_within size (at + by)
-same_place (Back by) at size passing = cond (nat_le by at) ((at - by) ∷ []) []
+same_place (Back by) at size passing = if nat_le by at then (at - by) ∷ [] else []
 
 abbrev pub next_place : Step → ℕ → Passing → List ℕ
 next_place (Pass number) at Stops = []
@@ -58,13 +59,21 @@ pub record Arrives (direction : Direction) (passes : ℕ → ℕ → ℕ → Typ
   pub none_taken : (q : ℕ) → Has taken q → ⊥
   pub none_next : next ≡ []
 
+-- from the one place to before the other nothing waits, and no walk begins
+abbrev pub IsIdle : (ℕ → Bool) → Alive → ℕ → ℕ → Type 0
+IsIdle begins alive from to = (k : ℕ) → from ≤ k → k < to → (alive.waiting.items ≡ []) × (begins k ≡ false)
+
 -- the steps that are still to be taken, and what waits
 abbrev pub untaken : List ℕ → ℕ → ℕ
 untaken taken zero = 0
-untaken taken (suc n) = cond (has taken n) 0 3 + untaken taken n
+untaken taken (suc n) = (if has taken n then 0 else 3) + untaken taken n
 
 abbrev pub weight : ℕ → Alive → ℕ
 weight size alive = untaken alive.taken.words.items (size + 1) + length alive.waiting.items
+
+-- The steps that are still to be taken, and those of the next place, three for each: no step that is taken makes it more. So there are never more at the next place than the program has.
+abbrev pub crowd : ℕ → Alive → ℕ
+crowd size alive = untaken alive.taken.words.items (size + 1) + 3 * length alive.next.items
 
 -- the same of the sets
 abbrev pub SettlingBy : Direction → List Piece → List ℕ → (ℕ → Bool) → List Step → ℕ → Alive → Type 0

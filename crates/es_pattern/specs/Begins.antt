@@ -1,5 +1,5 @@
 -- What a pattern may begin with at a place that isn't the text's start. Contracts of private functions alone cite it.
-use Rattle.std.specs.Prelude.{ℕ, ◌==◌, ◌&&◌, ◌||◌, nat_lt, nat_le, min, Bool, true, false, List, [], ◌∷◌, length, slice_get, Option, Some, None}
+use Rattle.std.specs.Prelude.{◌≡◌, ℕ, ◌<◌, ◌≤◌, ◌==◌, ◌&&◌, ◌||◌, nat_lt, nat_le, min, Bool, true, false, List, [], ◌∷◌, length, slice_get, Option, Some, None}
 use Rattle.es_pattern.specs.Tree.{Tree, nothing, one_of, text_start, text_end, word_boundary, sequence, choice, repetition, lookahead}
 use Rattle.es_pattern.specs.Spans.{fits}
 use Rattle.es_pattern.specs.declared.piece.Piece.{Piece}
@@ -64,3 +64,7 @@ takes_at takes (Some c) = takes (min c 128)
 -- a walk may begin at a place of the text
 abbrev pub may_begin : Tree → List ℕ → ℕ → Bool
 may_begin tree text b = nat_le b (length text) && ((b == 0) || (may_stay tree || takes_at (may_take tree) (slice_get text b)))
+
+-- no walk begins from the one place to before the other
+abbrev pub NoneBegins : Tree → List ℕ → ℕ → ℕ → Type 0
+NoneBegins tree text from to = (k : ℕ) → from ≤ k → k < to → may_begin tree text k ≡ false

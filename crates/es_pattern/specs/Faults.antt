@@ -1,5 +1,5 @@
 -- Which texts are refused, with which fault, and at which place. The leftmost fault is told; of faults that share a place a form that isn't supported comes first, and a syntax fault last. A place here counts characters, and the answer counts bytes.
-use Rattle.std.specs.Prelude.{◌≡◌, ℕ, ◌+◌, ◌≤◌, ◌<◌, ◌||◌, true, List, ◌∷◌, ◌++◌, length, take, drop, encode_utf8_all, Option, Result, MatchResult, ◌⊎◌}
+use Rattle.std.specs.Prelude.{◌≡◌, ℕ, ◌+◌, ◌≤◌, ◌<◌, ◌||◌, true, List, ◌++◌, codes, length, take, drop, encode_utf8_all, Option, Result, MatchResult, ◌⊎◌}
 use Rattle.es_pattern.specs.declared.error.PatternError.{PatternError}
 use Rattle.es_pattern.specs.declared.error.PatternError.TheVariants.{Syntax, Unsupported, CountTooLarge, NoMemory}
 use Rattle.es_pattern.specs.Tree.{Tree}
@@ -30,7 +30,7 @@ pub record IsQuantifierAt (text : List ℕ) (p : ℕ) (bounds : List ℕ) (least
   pub depth : ℕ
   pub place : Stands text (groups depth) (drop p text)
   pub rest : List ℕ
-  pub braces : drop p text ≡ 123 ∷ (bounds ++ 125 ∷ rest)
+  pub braces : drop p text ≡ codes "{" ++ (bounds ++ (codes "}" ++ rest))
   pub are_bounds : Bounds bounds least most
 
 -- one of its counts is above the limit

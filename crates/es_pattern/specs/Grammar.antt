@@ -1,8 +1,8 @@
 -- The grammar of patterns, over the characters of their texts, after ECMAScript's without flags. Limits are left out.
 -- Each relation is between a text and what is left of it: the text begins with such a thing, and the rest follows.
-use Rattle.std.specs.Prelude.{◌≡◌, ℕ, zero, suc, ◌+◌, ◌-◌, ◌*◌, ◌≤◌, ◌||◌, ◌==◌, Bool, true, false, not, cond, List, [], ◌∷◌, ◌++◌, Option, Some, None}
+use Rattle.std.specs.Prelude.{◌≡◌, ℕ, zero, suc, ◌+◌, ◌-◌, ◌*◌, ◌≤◌, ◌||◌, ◌==◌, Bool, true, false, not, List, [], ◌∷◌, ◌++◌, codes, Option, Some, None, if◌then◌else◌}
 use Rattle.es_pattern.specs.Tree.{Tree, CharRange, nothing, one_of, text_start, text_end, word_boundary, sequence, choice, repetition, lookahead}
-use Rattle.es_pattern.specs.Escapes.{range, is_digit, set_of, escaped, hex_value, is_surrogate}
+use Rattle.es_pattern.specs.Escapes.{range, is_ascii_digit, set_of, escaped, hex_value, is_surrogate}
 
 -- no alternative: it spans nothing
 abbrev pub never : Tree
@@ -19,7 +19,9 @@ any = one_of true (range 10 10 ∷ range 13 13 ∷ range 0x2028 0x2028 ∷ range
 -- decimal digits, at least one, with the value that they go on to
 abbrev pub number_from : ℕ → List ℕ → Option ℕ
 number_from value [] = Some value
-number_from value (c ∷ cs) = cond (is_digit c) (number_from (value * 10 + (c - 48)) cs) None
+number_from value (c ∷ cs) =
+    if is_ascii_digit c then number_from (value * 10 + (c - 48)) cs
+    else None
 
 abbrev pub number : List ℕ → Option ℕ
 number [] = None
@@ -28,19 +30,19 @@ number (c ∷ cs) = number_from 0 (c ∷ cs)
 -- what stands in the braces of a quantifier: `n`, `n,` or `n,m` with n at most m
 pub data Bounds : List ℕ → ℕ → Option ℕ → Type 0 where
   exactly : (digits : List ℕ) {n : ℕ} → number digits ≡ Some n → Bounds digits n (Some n)
-  at_least : (digits : List ℕ) {n : ℕ} → number digits ≡ Some n → Bounds (digits ++ 44 ∷ []) n None
-  between : (digits further : List ℕ) {n m : ℕ} → number digits ≡ Some n → number further ≡ Some m → n ≤ m → Bounds (digits ++ 44 ∷ further) n (Some m)
+  at_least : (digits : List ℕ) {n : ℕ} → number digits ≡ Some n → Bounds (digits ++ codes ",") n None
+  between : (digits further : List ℕ) {n m : ℕ} → number digits ≡ Some n → number further ≡ Some m → n ≤ m → Bounds (digits ++ (codes "," ++ further)) n (Some m)
 
 -- a quantifier without what makes it lazy
 pub data Mark : ℕ → Option ℕ → List ℕ → List ℕ → Type 0 where
-  star_mark : {rest : List ℕ} → Mark 0 None (42 ∷ rest) rest
-  plus_mark : {rest : List ℕ} → Mark 1 None (43 ∷ rest) rest
-  question_mark : {rest : List ℕ} → Mark 0 (Some 1) (63 ∷ rest) rest
-  braces_mark : (bounds : List ℕ) {rest : List ℕ} {least : ℕ} {most : Option ℕ} → Bounds bounds least most → Mark least most (123 ∷ (bounds ++ 125 ∷ rest)) rest
+  star_mark : {rest : List ℕ} → Mark 0 None (codes "*" ++ rest) rest
+  plus_mark : {rest : List ℕ} → Mark 1 None (codes "+" ++ rest) rest
+  question_mark : {rest : List ℕ} → Mark 0 (Some 1) (codes "?" ++ rest) rest
+  braces_mark : (bounds : List ℕ) {rest : List ℕ} {least : ℕ} {most : Option ℕ} → Bounds bounds least most → Mark least most (codes "{" ++ (bounds ++ (codes "}" ++ rest))) rest
 
 -- the text begins with a quantifier in braces
 abbrev pub BeginsBraces : List ℕ → Type 0
-BeginsBraces text = (bounds : List ℕ) × (rest : List ℕ) × (least : ℕ) × (most : Option ℕ) × Bounds bounds least most × (text ≡ 123 ∷ (bounds ++ 125 ∷ rest))
+BeginsBraces text = (bounds : List ℕ) × (rest : List ℕ) × (least : ℕ) × (most : Option ℕ) × Bounds bounds least most × (text ≡ codes "{" ++ (bounds ++ (codes "}" ++ rest)))
 
 -- the text begins with `^`, or with a digit
 abbrev pub BeginsCaret : List ℕ → Type 0
@@ -49,7 +51,7 @@ BeginsCaret (c ∷ cs) = c ≡ 94
 
 abbrev pub BeginsDigit : List ℕ → Type 0
 BeginsDigit [] = ⊥
-BeginsDigit (c ∷ cs) = is_digit c ≡ true
+BeginsDigit (c ∷ cs) = is_ascii_digit c ≡ true
 
 -- so many hexadecimal digits, with the value that they go on to
 abbrev pub Hex : ℕ → ℕ → List ℕ → List ℕ → ℕ → Type 0
@@ -59,30 +61,30 @@ Hex (suc left) value text rest c = (digit : ℕ) × (d : ℕ) × (mid : List ℕ
 -- what follows the backslash of an escape for one character, in a class and outside alike; `\u` of a surrogate is none
 pub data CharEscape : ℕ → List ℕ → List ℕ → Type 0 where
   named : {letter c : ℕ} {rest : List ℕ} → escaped letter ≡ Some c → CharEscape c (letter ∷ rest) rest
-  zero_char : {rest : List ℕ} → (BeginsDigit rest → ⊥) → CharEscape 0 (48 ∷ rest) rest
-  two_digits : {text rest : List ℕ} {c : ℕ} → Hex 2 0 text rest c → CharEscape c (120 ∷ text) rest
-  four_digits : {text rest : List ℕ} {c : ℕ} → Hex 4 0 text rest c → is_surrogate c ≡ false → CharEscape c (117 ∷ text) rest
+  zero_char : {rest : List ℕ} → (BeginsDigit rest → ⊥) → CharEscape 0 (codes "0" ++ rest) rest
+  two_digits : {text rest : List ℕ} {c : ℕ} → Hex 2 0 text rest c → CharEscape c (codes "x" ++ text) rest
+  four_digits : {text rest : List ℕ} {c : ℕ} → Hex 4 0 text rest c → is_surrogate c ≡ false → CharEscape c (codes "u" ++ text) rest
 
 -- a character of a class that isn't `-`
 pub data ClassChar : ℕ → List ℕ → List ℕ → Type 0 where
   itself : {c : ℕ} {rest : List ℕ} → (c == 93 || c == 92 || c == 45) ≡ false → ClassChar c (c ∷ rest) rest
-  class_escape : {c : ℕ} {text rest : List ℕ} → CharEscape c text rest → ClassChar c (92 ∷ text) rest
-  backspace : {rest : List ℕ} → ClassChar 8 (92 ∷ 98 ∷ rest) rest
+  class_escape : {c : ℕ} {text rest : List ℕ} → CharEscape c text rest → ClassChar c (codes "\\" ++ text) rest
+  backspace : {rest : List ℕ} → ClassChar 8 (codes "\\b" ++ rest) rest
 
 -- such a character, or the `-` with which a class begins
 pub data FirstChar : Bool → ℕ → List ℕ → List ℕ → Type 0 where
   other_char : {is_first : Bool} {c : ℕ} {text rest : List ℕ} → ClassChar c text rest → FirstChar is_first c text rest
-  first_dash : {rest : List ℕ} → FirstChar true 45 (45 ∷ rest) rest
+  first_dash : {rest : List ℕ} → FirstChar true 45 (codes "-" ++ rest) rest
 
 -- the items of a class after those whose ranges were read, up to and with `]`
 pub data Items : Bool → List CharRange → List ℕ → List ℕ → List CharRange → Type 0 where
-  no_item : {is_first : Bool} {ranges : List CharRange} {rest : List ℕ} → Items is_first ranges (93 ∷ rest) rest ranges
-  last_dash : {is_first : Bool} {ranges : List CharRange} {rest : List ℕ} → Items is_first ranges (45 ∷ 93 ∷ rest) rest (ranges ++ range 45 45 ∷ [])
+  no_item : {is_first : Bool} {ranges : List CharRange} {rest : List ℕ} → Items is_first ranges (codes "]" ++ rest) rest ranges
+  last_dash : {is_first : Bool} {ranges : List CharRange} {rest : List ℕ} → Items is_first ranges (codes "-]" ++ rest) rest (ranges ++ range 45 45 ∷ [])
   one_char : {is_first : Bool} {ranges all : List CharRange} {c : ℕ} {text mid rest : List ℕ} → FirstChar is_first c text mid → Items false (ranges ++ range c c ∷ []) mid rest all → Items is_first ranges text rest all
-  one_set : {is_first : Bool} {ranges more all : List CharRange} {letter : ℕ} {text rest : List ℕ} → set_of letter ≡ Some more → Items false (ranges ++ more) text rest all → Items is_first ranges (92 ∷ letter ∷ text) rest all
-  from_to : {is_first : Bool} {ranges all : List CharRange} {c d : ℕ} {text mid after rest : List ℕ} → FirstChar is_first c text (45 ∷ mid) → ClassChar d mid after → c ≤ d → Items false (ranges ++ range c d ∷ []) after rest all
+  one_set : {is_first : Bool} {ranges more all : List CharRange} {letter : ℕ} {text rest : List ℕ} → set_of letter ≡ Some more → Items false (ranges ++ more) text rest all → Items is_first ranges (codes "\\" ++ letter ∷ text) rest all
+  from_to : {is_first : Bool} {ranges all : List CharRange} {c d : ℕ} {text mid after rest : List ℕ} → FirstChar is_first c text (codes "-" ++ mid) → ClassChar d mid after → c ≤ d → Items false (ranges ++ range c d ∷ []) after rest all
       → Items is_first ranges text rest all
-  to_dash : {is_first : Bool} {ranges all : List CharRange} {c : ℕ} {text after rest : List ℕ} → FirstChar is_first c text (45 ∷ 45 ∷ after) → c ≤ 45 → Items false (ranges ++ range c 45 ∷ []) after rest all → Items is_first ranges text rest all
+  to_dash : {is_first : Bool} {ranges all : List CharRange} {c : ℕ} {text after rest : List ℕ} → FirstChar is_first c text (codes "--" ++ after) → c ≤ 45 → Items false (ranges ++ range c 45 ∷ []) after rest all → Items is_first ranges text rest all
 
 -- a character that is no part of a pattern's syntax
 abbrev pub is_plain : ℕ → Bool
@@ -97,26 +99,26 @@ pub data Form : Type 0 where
 pub data Reads : Form → List ℕ → List ℕ → Type 0 where
   -- alternatives, apart by `|`, each of terms
   ends : {before terms : Tree} {rest : List ℕ} → Reads (alternatives before terms (choice before terms)) rest rest
-  bar : {before terms result : Tree} {text rest : List ℕ} → Reads (alternatives (choice before terms) nothing result) text rest → Reads (alternatives before terms result) (124 ∷ text) rest
+  bar : {before terms result : Tree} {text rest : List ℕ} → Reads (alternatives (choice before terms) nothing result) text rest → Reads (alternatives before terms result) (codes "|" ++ text) rest
   followed : {before terms t result : Tree} {text mid rest : List ℕ} → Reads (term t) text mid → Reads (alternatives before (sequence terms t) result) mid rest → Reads (alternatives before terms result) text rest
   -- a term is an assertion, an atom, or an atom and its quantifier, greedy or lazy
-  at_start : {rest : List ℕ} → Reads (term text_start) (94 ∷ rest) rest
-  at_end : {rest : List ℕ} → Reads (term text_end) (36 ∷ rest) rest
-  at_boundary : {rest : List ℕ} → Reads (term (word_boundary false)) (92 ∷ 98 ∷ rest) rest
-  at_no_boundary : {rest : List ℕ} → Reads (term (word_boundary true)) (92 ∷ 66 ∷ rest) rest
-  ahead : {t : Tree} {text rest : List ℕ} → Reads (alternatives never nothing t) text (41 ∷ rest) → Reads (term (lookahead false t)) (40 ∷ 63 ∷ 61 ∷ text) rest
-  not_ahead : {t : Tree} {text rest : List ℕ} → Reads (alternatives never nothing t) text (41 ∷ rest) → Reads (term (lookahead true t)) (40 ∷ 63 ∷ 33 ∷ text) rest
+  at_start : {rest : List ℕ} → Reads (term text_start) (codes "^" ++ rest) rest
+  at_end : {rest : List ℕ} → Reads (term text_end) (codes "$" ++ rest) rest
+  at_boundary : {rest : List ℕ} → Reads (term (word_boundary false)) (codes "\\b" ++ rest) rest
+  at_no_boundary : {rest : List ℕ} → Reads (term (word_boundary true)) (codes "\\B" ++ rest) rest
+  ahead : {t : Tree} {text rest : List ℕ} → Reads (alternatives never nothing t) text (codes ")" ++ rest) → Reads (term (lookahead false t)) (codes "(?=" ++ text) rest
+  not_ahead : {t : Tree} {text rest : List ℕ} → Reads (alternatives never nothing t) text (codes ")" ++ rest) → Reads (term (lookahead true t)) (codes "(?!" ++ text) rest
   once : {t : Tree} {text rest : List ℕ} → Reads (atom t) text rest → Reads (term t) text rest
   greedy : {t : Tree} {least : ℕ} {most : Option ℕ} {text mid rest : List ℕ} → Reads (atom t) text mid → Mark least most mid rest → Reads (term (repetition least most t)) text rest
-  lazy : {t : Tree} {least : ℕ} {most : Option ℕ} {text mid rest : List ℕ} → Reads (atom t) text mid → Mark least most mid (63 ∷ rest) → Reads (term (repetition least most t)) text rest
+  lazy : {t : Tree} {least : ℕ} {most : Option ℕ} {text mid rest : List ℕ} → Reads (atom t) text mid → Mark least most mid (codes "?" ++ rest) → Reads (term (repetition least most t)) text rest
   -- an atom
-  dot : {rest : List ℕ} → Reads (atom any) (46 ∷ rest) rest
-  group : {t : Tree} {text rest : List ℕ} → Reads (alternatives never nothing t) text (41 ∷ rest) → Reads (atom t) (40 ∷ text) rest
-  bare_group : {t : Tree} {text rest : List ℕ} → Reads (alternatives never nothing t) text (41 ∷ rest) → Reads (atom t) (40 ∷ 63 ∷ 58 ∷ text) rest
-  class : {ranges : List CharRange} {text rest : List ℕ} → (BeginsCaret text → ⊥) → Items true [] text rest ranges → Reads (atom (one_of false ranges)) (91 ∷ text) rest
-  negated_class : {ranges : List CharRange} {text rest : List ℕ} → Items true [] text rest ranges → Reads (atom (one_of true ranges)) (91 ∷ 94 ∷ text) rest
-  set_escape : {letter : ℕ} {ranges : List CharRange} {rest : List ℕ} → set_of letter ≡ Some ranges → Reads (atom (one_of false ranges)) (92 ∷ letter ∷ rest) rest
-  char_escape : {c : ℕ} {text rest : List ℕ} → CharEscape c text rest → Reads (atom (char c)) (92 ∷ text) rest
+  dot : {rest : List ℕ} → Reads (atom any) (codes "." ++ rest) rest
+  group : {t : Tree} {text rest : List ℕ} → Reads (alternatives never nothing t) text (codes ")" ++ rest) → Reads (atom t) (codes "(" ++ text) rest
+  bare_group : {t : Tree} {text rest : List ℕ} → Reads (alternatives never nothing t) text (codes ")" ++ rest) → Reads (atom t) (codes "(?:" ++ text) rest
+  class : {ranges : List CharRange} {text rest : List ℕ} → (BeginsCaret text → ⊥) → Items true [] text rest ranges → Reads (atom (one_of false ranges)) (codes "[" ++ text) rest
+  negated_class : {ranges : List CharRange} {text rest : List ℕ} → Items true [] text rest ranges → Reads (atom (one_of true ranges)) (codes "[^" ++ text) rest
+  set_escape : {letter : ℕ} {ranges : List CharRange} {rest : List ℕ} → set_of letter ≡ Some ranges → Reads (atom (one_of false ranges)) (codes "\\" ++ letter ∷ rest) rest
+  char_escape : {c : ℕ} {text rest : List ℕ} → CharEscape c text rest → Reads (atom (char c)) (codes "\\" ++ text) rest
   -- a `{` only where it doesn't begin a quantifier
   ordinary : {c : ℕ} {rest : List ℕ} → is_plain c ≡ true → (BeginsBraces (c ∷ rest) → ⊥) → Reads (atom (char c)) (c ∷ rest) rest
 

@@ -16,6 +16,7 @@ pub mod Program
 pub mod Passing
 pub mod NumberSet
 pub mod Alive
+pub mod Walk
 pub mod Compiled
 pub mod Reading
 pub mod ReaderView

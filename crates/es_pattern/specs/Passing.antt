@@ -1,5 +1,5 @@
 -- What a single piece of a pattern spans, on a walk in either direction, and what a table tells of it. Contracts of private functions alone cite it.
-use Rattle.std.specs.Prelude.{◌≡◌, ℕ, zero, suc, ◌+◌, ◌-◌, ◌<◌, ◌≤◌, Bool, true, false, cond, List, [], ◌∷◌, length, slice_get, Option, Some, None, MatchBool}
+use Rattle.std.specs.Prelude.{◌≡◌, ℕ, zero, suc, ◌+◌, ◌-◌, ◌<◌, ◌≤◌, Bool, true, false, List, [], ◌∷◌, length, slice_get, Option, Some, None, MatchBool, if◌then◌else◌}
 use Rattle.std.specs.Global.{Vec}
 use Rattle.es_pattern.specs.Spans.{Spans, fits}
 use Rattle.es_pattern.specs.Tree.{CharRange}
@@ -55,7 +55,7 @@ stays false = Stops
 
 abbrev pub class_passing : Bool → List CharRange → Option ℕ → Passing
 class_passing negated ranges None = Stops
-class_passing negated ranges (Some c) = cond (fits negated ranges c) Moves Stops
+class_passing negated ranges (Some c) = if fits negated ranges c then Moves else Stops
 
 -- what a lookahead's answer at a place says
 abbrev pub Answers : List Piece → List ℕ → ℕ → ℕ → Bool → Type 0

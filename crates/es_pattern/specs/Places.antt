@@ -1,12 +1,12 @@
 -- Where in a pattern's text something begins: its tokens, read from the front, after ECMAScript's. A place is told by what is left of the text.
-use Rattle.std.specs.Prelude.{◌≡◌, ℕ, suc, ◌||◌, ◌==◌, Bool, true, false, List, [], ◌∷◌}
+use Rattle.std.specs.Prelude.{◌≡◌, ℕ, suc, ◌||◌, ◌==◌, Bool, true, false, List, [], ◌∷◌, ◌++◌, codes}
 use Rattle.es_pattern.specs.Grammar.{Hex, BeginsCaret}
 
 -- what stands behind a backslash, and what is left after it: `x` and two hexadecimal digits, `u` and four, or any other character
 pub data AfterBackslash : List ℕ → List ℕ → Type 0 where
   other_escape : {c : ℕ} {rest : List ℕ} → (c == 120 || c == 117) ≡ false → AfterBackslash (c ∷ rest) rest
-  two_digit_escape : {text rest : List ℕ} {c : ℕ} → Hex 2 0 text rest c → AfterBackslash (120 ∷ text) rest
-  four_digit_escape : {text rest : List ℕ} {c : ℕ} → Hex 4 0 text rest c → AfterBackslash (117 ∷ text) rest
+  two_digit_escape : {text rest : List ℕ} {c : ℕ} → Hex 2 0 text rest c → AfterBackslash (codes "x" ++ text) rest
+  four_digit_escape : {text rest : List ℕ} {c : ℕ} → Hex 4 0 text rest c → AfterBackslash (codes "u" ++ text) rest
 
 -- the text begins with `?`
 abbrev pub BeginsQuestion : List ℕ → Type 0
@@ -26,14 +26,14 @@ pub data Within : Type 0 where
 pub data Stands (text : List ℕ) : Within → List ℕ → Type 0 where
   at_front : Stands text (groups 0) text
   past_symbol : {depth c : ℕ} {rest : List ℕ} → Stands text (groups depth) (c ∷ rest) → is_structural c ≡ false → Stands text (groups depth) rest
-  past_escape : {depth : ℕ} {more rest : List ℕ} → Stands text (groups depth) (92 ∷ more) → AfterBackslash more rest → Stands text (groups depth) rest
+  past_escape : {depth : ℕ} {more rest : List ℕ} → Stands text (groups depth) (codes "\\" ++ more) → AfterBackslash more rest → Stands text (groups depth) rest
   -- `(`, and `(?:`, `(?=` or `(?!`
-  in_group : {depth : ℕ} {rest : List ℕ} → Stands text (groups depth) (40 ∷ rest) → (BeginsQuestion rest → ⊥) → Stands text (groups (suc depth)) rest
-  in_marked_group : {depth c : ℕ} {rest : List ℕ} → Stands text (groups depth) (40 ∷ 63 ∷ c ∷ rest) → (c == 58 || c == 61 || c == 33) ≡ true → Stands text (groups (suc depth)) rest
-  past_group : {depth : ℕ} {rest : List ℕ} → Stands text (groups (suc depth)) (41 ∷ rest) → Stands text (groups depth) rest
+  in_group : {depth : ℕ} {rest : List ℕ} → Stands text (groups depth) (codes "(" ++ rest) → (BeginsQuestion rest → ⊥) → Stands text (groups (suc depth)) rest
+  in_marked_group : {depth c : ℕ} {rest : List ℕ} → Stands text (groups depth) (codes "(?" ++ c ∷ rest) → (c == 58 || c == 61 || c == 33) ≡ true → Stands text (groups (suc depth)) rest
+  past_group : {depth : ℕ} {rest : List ℕ} → Stands text (groups (suc depth)) (codes ")" ++ rest) → Stands text (groups depth) rest
   -- `[` or `[^`, each character and escape of the class, and its `]`
-  in_class : {depth : ℕ} {rest : List ℕ} → Stands text (groups depth) (91 ∷ rest) → (BeginsCaret rest → ⊥) → Stands text (class_in_groups depth) rest
-  in_negated_class : {depth : ℕ} {rest : List ℕ} → Stands text (groups depth) (91 ∷ 94 ∷ rest) → Stands text (class_in_groups depth) rest
+  in_class : {depth : ℕ} {rest : List ℕ} → Stands text (groups depth) (codes "[" ++ rest) → (BeginsCaret rest → ⊥) → Stands text (class_in_groups depth) rest
+  in_negated_class : {depth : ℕ} {rest : List ℕ} → Stands text (groups depth) (codes "[^" ++ rest) → Stands text (class_in_groups depth) rest
   past_class_char : {depth c : ℕ} {rest : List ℕ} → Stands text (class_in_groups depth) (c ∷ rest) → (c == 93 || c == 92) ≡ false → Stands text (class_in_groups depth) rest
-  past_class_escape : {depth : ℕ} {more rest : List ℕ} → Stands text (class_in_groups depth) (92 ∷ more) → AfterBackslash more rest → Stands text (class_in_groups depth) rest
-  past_class : {depth : ℕ} {rest : List ℕ} → Stands text (class_in_groups depth) (93 ∷ rest) → Stands text (groups depth) rest
+  past_class_escape : {depth : ℕ} {more rest : List ℕ} → Stands text (class_in_groups depth) (codes "\\" ++ more) → AfterBackslash more rest → Stands text (class_in_groups depth) rest
+  past_class : {depth : ℕ} {rest : List ℕ} → Stands text (class_in_groups depth) (codes "]" ++ rest) → Stands text (groups depth) rest

@@ -1,9 +1,9 @@
 -- How a pattern's text is read, one character after another: what was read so far, and what each character makes of it.
-use Rattle.std.specs.Prelude.{length, max, ℕ, ◌+◌, ◌-◌, ◌*◌, ◌==◌, Bool, true, false, cond, not, nat_le, nat_lt, ◌&&◌, ◌||◌, List, [], ◌∷◌, ◌++◌, take, drop, position, Option, Some, None, option_map, option_and_then}
+use Rattle.std.specs.Prelude.{length, max, ℕ, ◌+◌, ◌-◌, ◌*◌, ◌==◌, Bool, true, false, not, nat_le, nat_lt, ◌&&◌, ◌||◌, List, [], ◌∷◌, ◌++◌, take, drop, position, Option, Some, None, option_map, option_and_then, if◌then◌else◌}
 use Rattle.std.specs.List.{list_any}
 use Rattle.es_pattern.specs.Tree.{Tree, CharRange, nothing, one_of, text_start, text_end, word_boundary, sequence, choice, repetition, lookahead}
 use Rattle.es_pattern.specs.Pieces.{top, below}
-use Rattle.es_pattern.specs.Escapes.{range, is_digit, set_of, escaped, hex_value, is_surrogate}
+use Rattle.es_pattern.specs.Escapes.{range, is_ascii_digit, set_of, escaped, hex_value, is_surrogate}
 use Rattle.es_pattern.specs.Grammar.{never, char, any, number}
 use Rattle.es_pattern.specs.Limits.{is_above_limit, count_of}
 use Rattle.es_pattern.specs.declared.mode.Open.{Open}
@@ -45,7 +45,7 @@ abbrev pub with_term : Reading → Reading
 with_term r = charged r.atom_product (joined r)
 
 abbrev pub settled : Bool → Reading → Reading
-settled after_atom r = cond after_atom (with_term r) r
+settled after_atom r = if after_atom then with_term r else r
 
 abbrev pub asserted : Tree → Reading → Reading
 asserted t r = at Term (joined (leaf t r))
@@ -78,18 +78,30 @@ quantified least most r = at Quantified (joined (record r { trees = repetition l
 
 -- a quantifier, with the product that it makes
 abbrev pub marked : Bool → ℕ → ℕ → Option ℕ → Reading → Option Reading
-marked after_atom product least most r = cond after_atom (Some (quantified least most (charged product r))) None
+marked after_atom product least most r =
+    if after_atom then Some (quantified least most (charged product r))
+    else None
 
 -- a character where a term may begin, that marks no quantifier
 abbrev pub term_begun : ℕ → Reading → Option Reading
 term_begun c r =
-    cond (c == 94) (Some (asserted text_start r)) (cond (c == 36) (Some (asserted text_end r)) (cond (c == 124) (Some (at Term (leaf nothing (chosen r)))) (cond (c == 41) (closed_by r.groups r) (cond (c == 40) (Some (at Paren r))
-    (cond (c == 91) (Some (at ClassOpen (record r { negated = false; ranges = [] }))) (cond (c == 92) (Some (at Escape r)) (cond (c == 46) (Some (with_atom any r)) (Some (with_atom (char c) r)))))))))
+    if c == 94 then Some (asserted text_start r)
+    else if c == 36 then Some (asserted text_end r)
+    else if c == 124 then Some (at Term (leaf nothing (chosen r)))
+    else if c == 41 then closed_by r.groups r
+    else if c == 40 then Some (at Paren r)
+    else if c == 91 then Some (at ClassOpen (record r { negated = false; ranges = [] }))
+    else if c == 92 then Some (at Escape r)
+    else if c == 46 then Some (with_atom any r)
+    else Some (with_atom (char c) r)
 
 abbrev pub plain : Bool → Bool → ℕ → Reading → Option Reading
 plain after_atom may_be_lazy c r =
-    cond (c == 42) (marked after_atom r.atom_product 0 None r) (cond (c == 43) (marked after_atom r.atom_product 1 None r) (cond (c == 63) (cond may_be_lazy (Some (at Term r)) (marked after_atom r.atom_product 0 (Some 1) r))
-    (cond (c == 123) (Some (at (Braces after_atom) (record r { braces = [] }))) (term_begun c (settled after_atom r)))))
+    if c == 42 then marked after_atom r.atom_product 0 None r
+    else if c == 43 then marked after_atom r.atom_product 1 None r
+    else if c == 63 then (if may_be_lazy then Some (at Term r) else marked after_atom r.atom_product 0 (Some 1) r)
+    else if c == 123 then Some (at (Braces after_atom) (record r { braces = [] }))
+    else term_begun c (settled after_atom r)
 
 abbrev pub with_char : Option ℕ → Reading → Option Reading
 with_char None r = None
@@ -98,24 +110,36 @@ with_char (Some c) r = Some (with_atom (char c) r)
 abbrev pub with_set : Option (List CharRange) → ℕ → Reading → Option Reading
 with_set (Some ranges) c r = Some (with_atom (one_of false ranges) r)
 with_set None c r =
-    cond (c == 98) (Some (asserted (word_boundary false) r)) (cond (c == 66) (Some (asserted (word_boundary true) r)) (cond (c == 120) (Some (at (Hex 0 2) r)) (cond (c == 117) (Some (at (Hex 0 4) r))
-    (cond (c == 48) (Some (at Zero (with_atom (char 0) r))) (with_char (escaped c) r)))))
+    if c == 98 then Some (asserted (word_boundary false) r)
+    else if c == 66 then Some (asserted (word_boundary true) r)
+    else if c == 120 then Some (at (Hex 0 2) r)
+    else if c == 117 then Some (at (Hex 0 4) r)
+    else if c == 48 then Some (at Zero (with_atom (char 0) r))
+    else with_char (escaped c) r
 
 abbrev pub scalar : ℕ → Option ℕ
-scalar c = cond (is_surrogate c || nat_lt 0x10ffff c) None (Some c)
+scalar c = if is_surrogate c || nat_lt 0x10ffff c then None else Some c
 
 -- the greatest character whose hexadecimal digits go on from the value with so many more, if there is one
 abbrev pub greatest_from : ℕ → ℕ → Option ℕ
 greatest_from value left =
-    cond (left == 0) (scalar value) (cond (left == 1) (scalar (value * 16 + 15)) (cond (left == 2) (scalar (value * 256 + 255)) (cond (is_surrogate (value * 4096 + 4095)) (Some 0xd7ff) (scalar (value * 4096 + 4095)))))
+    if left == 0 then scalar value
+    else if left == 1 then scalar (value * 16 + 15)
+    else if left == 2 then scalar (value * 256 + 255)
+    else if is_surrogate (value * 4096 + 4095) then Some 0xd7ff
+    else scalar (value * 4096 + 4095)
 
 abbrev pub hex_to : Option ℕ → ℕ → ℕ → Reading → Option Reading
 hex_to None value left r = None
-hex_to (Some greatest) value left r = cond (left == 0) (Some (with_atom (char greatest) r)) (Some (at (Hex value left) r))
+hex_to (Some greatest) value left r =
+    if left == 0 then Some (with_atom (char greatest) r)
+    else Some (at (Hex value left) r)
 
 abbrev pub hex_by : Option ℕ → ℕ → ℕ → Reading → Option Reading
 hex_by None value left r = None
-hex_by (Some d) value left r = cond (nat_lt 0xfff value || (left == 0)) None (hex_to (greatest_from (value * 16 + d) (left - 1)) (value * 16 + d) (left - 1) r)
+hex_by (Some d) value left r =
+    if nat_lt 0xfff value || (left == 0) then None
+    else hex_to (greatest_from (value * 16 + d) (left - 1)) (value * 16 + d) (left - 1) r
 
 -- braces that are no quantifier: their characters stand for themselves
 abbrev pub flushed_chars : List ℕ → Reading → Reading
@@ -127,7 +151,7 @@ flushed after_atom r = flushed_chars r.braces (record (with_atom (char 123) (set
 
 -- what a number in braces, or two, say
 abbrev pub pair_bounds : Option ℕ → Option ℕ → Option (ℕ × Option ℕ)
-pair_bounds (Some n) (Some m) = cond (nat_le n m) (Some (n, Some m)) None
+pair_bounds (Some n) (Some m) = if nat_le n m then Some (n, Some m) else None
 pair_bounds (Some n) None = None
 pair_bounds None m = None
 
@@ -151,12 +175,13 @@ abbrev pub may_be_comma : List ℕ → Bool
 may_be_comma braces = not (length braces == 0) && not (list_any (λ x. x == 44) braces)
 
 abbrev pub is_inner : List ℕ → ℕ → Bool
-is_inner braces c = is_digit c || (c == 44) && may_be_comma braces
+is_inner braces c = is_ascii_digit c || (c == 44) && may_be_comma braces
 
 abbrev pub in_braces : Bool → ℕ → Reading → Option Reading
 in_braces after_atom c r =
-    cond (is_inner r.braces c) (Some (record r { braces = r.braces ++ c ∷ [] }))
-    (cond (c == 125) (in_braces_end (bounds_of r.braces) after_atom c r) (plain true false c (flushed after_atom r)))
+    if is_inner r.braces c then Some (record r { braces = r.braces ++ c ∷ [] })
+    else if c == 125 then in_braces_end (bounds_of r.braces) after_atom c r
+    else plain true false c (flushed after_atom r)
 
 abbrev pub ranged : ℕ → ℕ → Reading → Reading
 ranged first last r = record r { ranges = r.ranges ++ range first last ∷ [] }
@@ -165,22 +190,31 @@ abbrev pub class_end : Reading → Reading
 class_end r = record (with_atom (one_of r.negated r.ranges) r) { ranges = [] }
 
 abbrev pub item : ℕ → Reading → Option Reading
-item c r = cond (c == 93) (Some (class_end r)) (cond (c == 92) (Some (at (ClassEscape None) r)) (Some (at (ClassChar c) r)))
+item c r =
+    if c == 93 then Some (class_end r)
+    else if c == 92 then Some (at (ClassEscape None) r)
+    else Some (at (ClassChar c) r)
 
 abbrev pub next_item : ℕ → Reading → Option Reading
-next_item c r = cond (c == 45) (Some (at ClassLast (ranged 45 45 r))) (item c r)
+next_item c r = if c == 45 then Some (at ClassLast (ranged 45 45 r)) else item c r
 
 abbrev pub after_char : ℕ → ℕ → Reading → Option Reading
-after_char first c r = cond (c == 45) (Some (at (ClassDash first) r)) (item c (ranged first first r))
+after_char first c r =
+    if c == 45 then Some (at (ClassDash first) r)
+    else item c (ranged first first r)
 
 abbrev pub class_char : Option ℕ → ℕ → Reading → Option Reading
 class_char None c r = Some (at (ClassChar c) r)
-class_char (Some first) c r = cond (nat_le first c) (Some (at ClassNext (ranged first c r))) None
+class_char (Some first) c r =
+    if nat_le first c then Some (at ClassNext (ranged first c r))
+    else None
 
 abbrev pub after_dash : ℕ → ℕ → Reading → Option Reading
 after_dash first c r =
-    cond (c == 93) (Some (class_end (ranged 45 45 (ranged first first r)))) (cond (c == 92) (cond (nat_le first 0xffff) (Some (at (ClassEscape (Some first)) r)) None)
-    (cond (c == 45) (cond (nat_le first 45) (Some (at ClassNext (ranged first 45 r))) None) (class_char (Some first) c r)))
+    if c == 93 then Some (class_end (ranged 45 45 (ranged first first r)))
+    else if c == 92 then (if nat_le first 0xffff then Some (at (ClassEscape (Some first)) r) else None)
+    else if c == 45 then (if nat_le first 45 then Some (at ClassNext (ranged first 45 r)) else None)
+    else class_char (Some first) c r
 
 abbrev pub class_char_if : Option ℕ → Option ℕ → Reading → Option Reading
 class_char_if first None r = None
@@ -193,7 +227,7 @@ can_end (Some first) c = nat_le first c
 
 abbrev pub class_zero : Option ℕ → Reading → Option Reading
 class_zero None r = Some (at (ClassZero false) r)
-class_zero (Some first) r = cond (first == 0) (Some (at (ClassZero true) (ranged 0 0 r))) None
+class_zero (Some first) r = if first == 0 then Some (at (ClassZero true) (ranged 0 0 r)) else None
 
 abbrev pub with_ranges : List CharRange → Reading → Reading
 with_ranges ranges r = at ClassNext (record r { ranges = r.ranges ++ ranges })
@@ -202,35 +236,53 @@ abbrev pub class_set : Option (List CharRange) → Option ℕ → ℕ → Readin
 class_set (Some ranges) None c r = Some (with_ranges ranges r)
 class_set (Some ranges) (Some first) c r = None
 class_set None first c r =
-    cond (c == 98) (class_char first 8 r) (cond (c == 120) (cond (can_end first 0xff) (Some (at (ClassHex first 0 2) r)) None) (cond (c == 117) (cond (can_end first 0xffff) (Some (at (ClassHex first 0 4) r)) None)
-    (cond (c == 48) (class_zero first r) (class_char_if first (escaped c) r))))
+    if c == 98 then class_char first 8 r
+    else if c == 120 then (if can_end first 0xff then Some (at (ClassHex first 0 2) r) else None)
+    else if c == 117 then (if can_end first 0xffff then Some (at (ClassHex first 0 4) r) else None)
+    else if c == 48 then class_zero first r
+    else class_char_if first (escaped c) r
 
 abbrev pub class_hex_to : Option ℕ → Option ℕ → ℕ → ℕ → Reading → Option Reading
 class_hex_to None first value left r = None
-class_hex_to (Some greatest) first value left r = cond (can_end first greatest) (cond (left == 0) (class_char first greatest r) (Some (at (ClassHex first value left) r))) None
+class_hex_to (Some greatest) first value left r =
+    if can_end first greatest then (if left == 0 then class_char first greatest r else Some (at (ClassHex first value left) r))
+    else None
 
 abbrev pub class_hex_by : Option ℕ → Option ℕ → ℕ → ℕ → Reading → Option Reading
 class_hex_by None first value left r = None
-class_hex_by (Some d) first value left r = cond (nat_lt 0xfff value || (left == 0)) None (class_hex_to (greatest_from (value * 16 + d) (left - 1)) first (value * 16 + d) (left - 1) r)
+class_hex_by (Some d) first value left r =
+    if nat_lt 0xfff value || (left == 0) then None
+    else class_hex_to (greatest_from (value * 16 + d) (left - 1)) first (value * 16 + d) (left - 1) r
 
 -- what a character makes of what was read, by what may stand there
 abbrev pub step_in : Mode → ℕ → Reading → Option Reading
 step_in Term c r = plain false false c r
 step_in Atom c r = plain true false c r
 step_in Quantified c r = plain false true c r
-step_in Zero c r = cond (is_digit c) None (plain true false c r)
+step_in Zero c r = if is_ascii_digit c then None else plain true false c r
 step_in (Braces after_atom) c r = in_braces after_atom c r
 step_in Escape c r = with_set (set_of c) c r
 step_in (Hex value left) c r = hex_by (hex_value c) value left r
-step_in Paren c r = cond (c == 63) (Some (at ParenQuestion r)) (plain false false c (opened Group r))
-step_in ParenQuestion c r = cond (c == 58) (Some (opened Group r)) (cond (c == 61) (Some (opened (Ahead false) r)) (cond (c == 33) (Some (opened (Ahead true) r)) None))
-step_in ClassOpen c r = cond (c == 94) (Some (at ClassFirst (record r { negated = true }))) (item c r)
+step_in Paren c r =
+    if c == 63 then Some (at ParenQuestion r)
+    else plain false false c (opened Group r)
+step_in ParenQuestion c r =
+    if c == 58 then Some (opened Group r)
+    else if c == 61 then Some (opened (Ahead false) r)
+    else if c == 33 then Some (opened (Ahead true) r)
+    else None
+step_in ClassOpen c r =
+    if c == 94 then Some (at ClassFirst (record r { negated = true }))
+    else item c r
 step_in ClassFirst c r = item c r
 step_in ClassNext c r = next_item c r
-step_in ClassLast c r = cond (c == 93) (Some (class_end r)) None
+step_in ClassLast c r = if c == 93 then Some (class_end r) else None
 step_in (ClassChar first) c r = after_char first c r
 step_in (ClassDash first) c r = after_dash first c r
-step_in (ClassZero is_last) c r = cond (is_digit c) None (cond is_last (next_item c r) (after_char 0 c r))
+step_in (ClassZero is_last) c r =
+    if is_ascii_digit c then None
+    else if is_last then next_item c r
+    else after_char 0 c r
 step_in (ClassEscape first) c r = class_set (set_of c) first c r
 step_in (ClassHex first value left) c r = class_hex_by (hex_value c) first value left r
 

@@ -1,11 +1,11 @@
 -- What a pattern spans: the parts of a text, from one place to another, that its tree describes. Texts are lists of characters, a place counts the characters before it.
-use Rattle.std.specs.Prelude.{◌≡◌, ℕ, zero, suc, ◌+◌, ◌-◌, ◌≤◌, ◌<◌, ◌||◌, ◌&&◌, ◌==◌, Bool, true, false, not, cond, nat_lt, nat_le, List, length, slice_index, Option, Some, None, ◌⊎◌}
+use Rattle.std.specs.Prelude.{◌≡◌, ℕ, zero, suc, ◌+◌, ◌-◌, ◌≤◌, ◌<◌, ◌||◌, ◌&&◌, ◌==◌, Bool, true, false, not, nat_lt, nat_le, List, length, slice_index, Option, Some, None, ◌⊎◌, if◌then◌else◌}
 use Rattle.std.specs.List.{list_any}
 use Rattle.es_pattern.specs.Tree.{Tree, CharRange, nothing, one_of, text_start, text_end, word_boundary, sequence, choice, repetition, lookahead}
 
 -- the one or the other, and not both
 abbrev pub differs : Bool → Bool → Bool
-differs a b = cond a (not b) b
+differs a b = if a then not b else b
 
 -- the character is in the range
 abbrev pub is_within : ℕ → CharRange → Bool

@@ -7,17 +7,18 @@ use crate::passing::fits;
 use crate::piece::Piece;
 use std::alloc::{AllocError, Global};
 
-/// What a part may do at such a place, before a certain character.
+// What a part may do at such a place, before a certain character.
 #[derive(Clone, Copy, Debug)]
-pub struct Begin {
-    /// It may span the empty part.
+pub(crate) struct Begin {
+    // It may span the empty part.
     pub stays: bool,
-    /// It may span a part that begins with the character.
+    // It may span a part that begins with the character.
     pub takes: bool,
 }
 
-/// What the pattern of these pieces may do before this character of ASCII, or, where the code is above those, before some character.
-pub fn begin_of(alloc: Global, pieces: &[Piece], code: u8) -> Result<Begin, AllocError>
+// What the pattern of these pieces may do before this character of ASCII, or, where the code is
+// above those, before some character.
+pub(crate) fn begin_of(alloc: Global, pieces: &[Piece], code: u8) -> Result<Begin, AllocError>
     requires { code ≤ 128 }
     ensures stays { IfOk result (λ begin. begin.stays ≡ may_stay (tree_of pieces.now)) }
     ensures takes { IfOk result (λ begin. begin.takes ≡ may_take (tree_of pieces.now) code) }
@@ -30,10 +31,11 @@ pub fn begin_of(alloc: Global, pieces: &[Piece], code: u8) -> Result<Begin, Allo
     Ok(pop_last(&mut begins))
 }
 
-/// What a piece may do, by what the parts may that it joins.
+// What a piece may do, by what the parts may that it joins.
 fn joined(piece: &Piece, code: u8, begins: &mut Vec<Begin>) -> Begin
     requires { code ≤ 128 }
-    ensures { result ∷ reverse begins.new.items ≡ with_begin code piece.now (reverse begins.old.items) }
+    ensures { result ∷ reverse begins.new.items
+        ≡ with_begin code piece.now (reverse begins.old.items) }
 {
     let (stays, takes) = match piece {
         Piece::OneOf { negated, ranges } => {
@@ -69,7 +71,7 @@ fn joined(piece: &Piece, code: u8, begins: &mut Vec<Begin>) -> Begin
     Begin { stays, takes }
 }
 
-/// Takes the last of them, which stands for the empty part where there is none.
+// Takes the last of them, which stands for the empty part where there is none.
 fn pop_last(begins: &mut Vec<Begin>) -> Begin
     ensures last { result ≡ top_begin (reverse begins.old.items) }
     ensures others { reverse begins.new.items ≡ begins_below (reverse begins.old.items) }

@@ -4,28 +4,26 @@ ghost use Rattle.es_pattern.specs.Grammar.{number};
 ghost use Rattle.es_pattern.specs.Reading.{bounds_of, second_bounds};
 ghost use Rattle.es_pattern.specs.Bounds.{Bounded, Counts, padded};
 
-use crate::escape::is_digit;
+// The greatest count of a quantifier.
+pub(crate) const LIMIT: u32 = 1000;
 
-/// The greatest count of a quantifier.
-pub const LIMIT: u32 = 1000;
-
-/// The bounds of a quantifier in braces, where a count above `LIMIT` stands for each such count.
+// The bounds of a quantifier in braces, where a count above `LIMIT` stands for each such count.
 #[derive(Clone, Copy, Debug, PartialEq, Eq)]
-pub struct Bounds {
+pub(crate) struct Bounds {
     pub least: u32,
     pub most: Option<u32>,
 }
 
 impl Bounds {
-    /// How many more than the least may come, if they are bounded.
-    pub fn more(self) -> Option<u32>
+    // How many more than the least may come, if they are bounded.
+    pub(crate) fn more(self) -> Option<u32>
         ensures { result ≡ option_map (λ most. most - self.least) self.most }
     {
         self.most.map(|most| most.saturating_sub(self.least))
     }
 }
 
-/// The digit at that place of so many, with zeros before the digits.
+// The digit at that place of so many, with zeros before the digits.
 fn digit_at(digits: &[char], width: usize, place: usize) -> char
     requires width { length digits.now ≤ width }
     requires place { place < width }
@@ -39,9 +37,10 @@ fn digit_at(digits: &[char], width: usize, place: usize) -> char
     }
 }
 
-/// Whether the one number is at most the other, of any size.
+// Whether the one number is at most the other, of any size.
 fn is_at_most(least: &[char], most: &[char]) -> bool
-    ensures { (n m : ℕ) → number least.now ≡ Some n → number most.now ≡ Some m → IsTrue result ↔ (n ≤ m) }
+    ensures { (n m : ℕ) → number least.now ≡ Some n → number most.now ≡ Some m → IsTrue result
+        ↔ (n ≤ m) }
 {
     let width = least.len().max(most.len());
     for place in 0..width {
@@ -54,7 +53,7 @@ fn is_at_most(least: &[char], most: &[char]) -> bool
     true
 }
 
-/// The number of the digits, or the first above the limit.
+// The number of the digits, or the first above the limit.
 fn count_of(digits: &[char]) -> Option<u32>
     ensures { Counts digits.now result }
 {
@@ -63,7 +62,7 @@ fn count_of(digits: &[char]) -> Option<u32>
     }
     let mut count = 0u32;
     for digit in digits {
-        if !is_digit(*digit) {
+        if !digit.is_ascii_digit() {
             return None;
         }
         count = (count * 10 + (*digit as u32 - 48)).min(LIMIT + 1);
@@ -71,7 +70,7 @@ fn count_of(digits: &[char]) -> Option<u32>
     Some(count)
 }
 
-/// The bounds with a second number after the comma, or nothing.
+// The bounds with a second number after the comma, or nothing.
 fn with_second(least: &[char], most: &[char]) -> Option<Bounds>
     ensures { Bounded (second_bounds (number least.now) most.now) result }
 {
@@ -96,8 +95,9 @@ fn comma_in(text: &[char]) -> Option<usize>
     text.iter().position(|c| *c == ',')
 }
 
-/// The bounds that the text of braces has, from after `{` to before `}`: `n`, `n,` or `n,m` with `n` at most `m`.
-pub fn bounds_of(text: &[char]) -> Option<Bounds>
+// The bounds that the text of braces has, from after `{` to before `}`: `n`, `n,` or `n,m` with
+// `n` at most `m`.
+pub(crate) fn bounds_of(text: &[char]) -> Option<Bounds>
     ensures { Bounded (bounds_of text.now) result }
 {
     match comma_in(text) {

@@ -3,7 +3,7 @@ ghost use Rattle.std.specs.Prelude.{◌≡◌, Bool, ℕ, ◌<◌, ◌≤◌, �
 ghost use Rattle.es_pattern.specs.Spans.{fits};
 ghost use Rattle.es_pattern.specs.Pieces.{tree_of};
 ghost use Rattle.es_pattern.specs.Begins.{may_take};
-ghost use Rattle.es_pattern.specs.Size.{most_steps};
+ghost use Rattle.es_pattern.specs.Size.{AllBounded, most_steps};
 ghost use Rattle.es_pattern.specs.Passing.{AllClassed};
 ghost use Rattle.es_pattern.specs.Compiled.{
   AllParts,
@@ -23,27 +23,31 @@ use crate::step::{Direction, Step};
 use std::alloc::{AllocError, Global};
 use std::collections::VecDeque;
 
-/// What a pattern is searched with. It is made once, when the pattern is parsed.
+// What a pattern is searched with. It is made once, when the pattern is parsed.
 #[derive(Drop)]
-pub struct Program {
-    /// The steps of the whole pattern, forward.
+pub(crate) struct Program {
+    // The steps of the whole pattern, forward.
     pub steps: Vec<Step>,
-    /// For each piece that is a lookahead the steps of its part, backward.
+    // For each piece that is a lookahead the steps of its part, backward.
     pub lookaheads: Vec<Vec<Step>>,
-    /// For each piece that is one of some characters which of ASCII those are.
+    // For each piece that is one of some characters which of ASCII those are.
     pub classes: Vec<Vec<bool>>,
-    /// For each character of ASCII whether a walk may begin with it after the text's start, and, last, whether one may with some character.
+    // For each character of ASCII whether a walk may begin with it after the text's start, and,
+    // last, whether one may with some character.
     pub begins: Vec<bool>,
-    /// Whether a walk that spans the empty part may begin there.
+    // Whether a walk that spans the empty part may begin there.
     pub may_stay: bool,
 }
 
 impl Program {
-    /// The program of a pattern's pieces.
-    #[tactic(auto, using(crate::proofs::Sizes::steps_bounded))]
-    pub fn new(alloc: Global, pieces: &[Piece]) -> Result<Program, AllocError>
+    // The program of a pattern's pieces.
+    #[tactic(auto, using(crate::proofs::Sizes::steps_bounded, crate::proofs::Sizes::parts_bounded))]
+    pub(crate) fn new(alloc: Global, pieces: &[Piece]) -> Result<Program, AllocError>
         ensures made { IfOk result (IsProgramOf pieces.now) }
-        ensures bounded { IfOk result (λ program. length program.steps.items ≤ most_steps (tree_of pieces.now)) }
+        ensures bounded { IfOk result
+            (λ program. length program.steps.items ≤ most_steps (tree_of pieces.now)) }
+        ensures lookaheads_bounded { IfOk result
+            (λ program. AllBounded pieces.now program.lookaheads.items) }
     {
         Ok(Program {
             steps: steps_of(alloc, pieces)?,
@@ -55,7 +59,7 @@ impl Program {
     }
 }
 
-/// The steps of the whole, forward.
+// The steps of the whole, forward.
 fn steps_of(alloc: Global, pieces: &[Piece]) -> Result<Vec<Step>, AllocError>
     ensures { IfOk result (λ steps. steps.items ≡ steps_of Direction.Forward pieces.now) }
 {
@@ -72,7 +76,7 @@ fn steps_of(alloc: Global, pieces: &[Piece]) -> Result<Vec<Step>, AllocError>
     Ok(pop_last(alloc, &mut programs).into_vec())
 }
 
-/// For each lookahead the steps of its part, backward.
+// For each lookahead the steps of its part, backward.
 fn lookaheads_of(alloc: Global, pieces: &[Piece]) -> Result<Vec<Vec<Step>>, AllocError>
     ensures { IfOk result (λ lookaheads. AllParts pieces.now lookaheads.items) }
 {
@@ -91,7 +95,7 @@ fn lookaheads_of(alloc: Global, pieces: &[Piece]) -> Result<Vec<Vec<Step>>, Allo
     Ok(lookaheads)
 }
 
-/// Takes a piece, and gives the steps of a lookahead's part.
+// Takes a piece, and gives the steps of a lookahead's part.
 fn take_piece(
     alloc: Global,
     direction: Direction,
@@ -99,8 +103,11 @@ fn take_piece(
     number: usize,
     programs: &mut Vec<VecDeque<Step>>,
 ) -> Result<Vec<Step>, AllocError>
-    ensures taken { OnOk result (stack_of programs.new.items ≡ with_code direction piece.now number (stack_of programs.old.items)) }
-    ensures part { IfOk result (λ part. (negated : Bool) → piece.now ≡ Piece.Lookahead negated → part.items ≡ top_code (stack_of programs.old.items)) }
+    ensures taken { OnOk result
+        (stack_of programs.new.items ≡ with_code direction piece.now number
+        (stack_of programs.old.items)) }
+    ensures part { IfOk result (λ part. (negated : Bool) → piece.now ≡ Piece.Lookahead negated
+        → part.items ≡ top_code (stack_of programs.old.items)) }
 {
     if let Piece::Lookahead { .. } = piece {
         let part = pop_last(alloc, programs);
@@ -112,7 +119,7 @@ fn take_piece(
     Ok(Vec::new(alloc))
 }
 
-/// The steps of a piece that is no lookahead, made of those that it joins.
+// The steps of a piece that is no lookahead, made of those that it joins.
 fn joined(
     alloc: Global,
     direction: Direction,
@@ -121,7 +128,8 @@ fn joined(
     programs: &mut Vec<VecDeque<Step>>,
 ) -> Result<VecDeque<Step>, AllocError>
     requires { (negated : Bool) → piece.now ≡ Piece.Lookahead negated → ⊥ }
-    ensures { IfOk result (λ steps. steps.items ∷ stack_of programs.new.items ≡ with_code direction piece.now number (stack_of programs.old.items)) }
+    ensures { IfOk result (λ steps. steps.items ∷ stack_of programs.new.items
+        ≡ with_code direction piece.now number (stack_of programs.old.items)) }
 {
     match piece {
         Piece::Nothing => Ok(VecDeque::new(alloc)),
@@ -144,7 +152,7 @@ fn joined(
     }
 }
 
-/// Takes the last program, which is empty where there is none.
+// Takes the last program, which is empty where there is none.
 fn pop_last(alloc: Global, programs: &mut Vec<VecDeque<Step>>) -> VecDeque<Step>
     ensures program { result.items ≡ top_code (stack_of programs.old.items) }
     ensures others { stack_of programs.new.items ≡ code_below (stack_of programs.old.items) }
@@ -155,7 +163,7 @@ fn pop_last(alloc: Global, programs: &mut Vec<VecDeque<Step>>) -> VecDeque<Step>
     }
 }
 
-/// The steps of a single piece.
+// The steps of a single piece.
 fn single(alloc: Global, number: usize) -> Result<VecDeque<Step>, AllocError>
     ensures { IfOk result (λ steps. steps.items ≡ Step.Pass number ∷ []) }
 {
@@ -164,7 +172,7 @@ fn single(alloc: Global, number: usize) -> Result<VecDeque<Step>, AllocError>
     Ok(steps)
 }
 
-/// For each piece that is one of some characters which of ASCII those are.
+// For each piece that is one of some characters which of ASCII those are.
 fn classes_of(alloc: Global, pieces: &[Piece]) -> Result<Vec<Vec<bool>>, AllocError>
     ensures { IfOk result (λ classes. AllClassed pieces.now classes.items) }
 {
@@ -179,9 +187,10 @@ fn classes_of(alloc: Global, pieces: &[Piece]) -> Result<Vec<Vec<bool>>, AllocEr
     Ok(classes)
 }
 
-/// Which characters of ASCII fit.
+// Which characters of ASCII fit.
 fn class_of(alloc: Global, negated: bool, ranges: &[CharRange]) -> Result<Vec<bool>, AllocError>
-    ensures { IfOk result (λ class. (c : ℕ) → c < 128 → slice_get class.items c ≡ Some (fits negated ranges.now c)) }
+    ensures { IfOk result (λ class. (c : ℕ) → c < 128 → slice_get class.items c
+        ≡ Some (fits negated ranges.now c)) }
 {
     let mut class = Vec::new(alloc);
     for code in 0..128u8 {
@@ -190,9 +199,11 @@ fn class_of(alloc: Global, negated: bool, ranges: &[CharRange]) -> Result<Vec<bo
     Ok(class)
 }
 
-/// For each character of ASCII whether the pattern may begin with it after the text's start, and, last, whether it may with some character.
+// For each character of ASCII whether the pattern may begin with it after the text's start, and,
+// last, whether it may with some character.
 fn begins_of(alloc: Global, pieces: &[Piece]) -> Result<Vec<bool>, AllocError>
-    ensures { IfOk result (λ begins. (c : ℕ) → c ≤ 128 → slice_get begins.items c ≡ Some (may_take (tree_of pieces.now) c)) }
+    ensures { IfOk result (λ begins. (c : ℕ) → c ≤ 128 → slice_get begins.items c
+        ≡ Some (may_take (tree_of pieces.now) c)) }
 {
     let mut begins = Vec::new(alloc);
     for code in 0..129u8 {

@@ -3,8 +3,6 @@ ghost use Rattle.std.specs.Prelude.{◌≡◌, ◌≤◌, ◌<◌, IfOk, IfSome,
 ghost use Rattle.es_pattern.specs.Escapes.{
   escaped,
   hex_value,
-  is_digit,
-  is_punctuation,
   is_surrogate,
   range,
   set_of,
@@ -21,19 +19,22 @@ fn range(first: char, last: char) -> CharRange
 }
 
 fn digits(alloc: Global) -> Result<Vec<CharRange>, AllocError>
-    ensures { IfOk result (λ ranges. option_map (λ (x : List CharRange). x) (set_of 100) ≡ Option.Some ranges.items) }
+    ensures { IfOk result (λ ranges. option_map (λ (x : List CharRange). x) (set_of 100)
+        ≡ Option.Some ranges.items) }
 {
     Vec::from_slice(alloc, &[range('0', '9')])
 }
 
 fn no_digits(alloc: Global) -> Result<Vec<CharRange>, AllocError>
-    ensures { IfOk result (λ ranges. option_map (λ (x : List CharRange). x) (set_of 68) ≡ Option.Some ranges.items) }
+    ensures { IfOk result (λ ranges. option_map (λ (x : List CharRange). x) (set_of 68)
+        ≡ Option.Some ranges.items) }
 {
     Vec::from_slice(alloc, &[range('\0', '/'), range(':', '\u{10ffff}')])
 }
 
 fn words(alloc: Global) -> Result<Vec<CharRange>, AllocError>
-    ensures { IfOk result (λ ranges. option_map (λ (x : List CharRange). x) (set_of 119) ≡ Option.Some ranges.items) }
+    ensures { IfOk result (λ ranges. option_map (λ (x : List CharRange). x) (set_of 119)
+        ≡ Option.Some ranges.items) }
 {
     Vec::from_slice(
         alloc,
@@ -47,7 +48,8 @@ fn words(alloc: Global) -> Result<Vec<CharRange>, AllocError>
 }
 
 fn no_words(alloc: Global) -> Result<Vec<CharRange>, AllocError>
-    ensures { IfOk result (λ ranges. option_map (λ (x : List CharRange). x) (set_of 87) ≡ Option.Some ranges.items) }
+    ensures { IfOk result (λ ranges. option_map (λ (x : List CharRange). x) (set_of 87)
+        ≡ Option.Some ranges.items) }
 {
     Vec::from_slice(
         alloc,
@@ -62,7 +64,8 @@ fn no_words(alloc: Global) -> Result<Vec<CharRange>, AllocError>
 }
 
 fn spaces(alloc: Global) -> Result<Vec<CharRange>, AllocError>
-    ensures { IfOk result (λ ranges. option_map (λ (x : List CharRange). x) (set_of 115) ≡ Option.Some ranges.items) }
+    ensures { IfOk result (λ ranges. option_map (λ (x : List CharRange). x) (set_of 115)
+        ≡ Option.Some ranges.items) }
 {
     Vec::from_slice(
         alloc,
@@ -82,7 +85,8 @@ fn spaces(alloc: Global) -> Result<Vec<CharRange>, AllocError>
 }
 
 fn no_spaces(alloc: Global) -> Result<Vec<CharRange>, AllocError>
-    ensures { IfOk result (λ ranges. option_map (λ (x : List CharRange). x) (set_of 83) ≡ Option.Some ranges.items) }
+    ensures { IfOk result (λ ranges. option_map (λ (x : List CharRange). x) (set_of 83)
+        ≡ Option.Some ranges.items) }
 {
     Vec::from_slice(
         alloc,
@@ -102,8 +106,8 @@ fn no_spaces(alloc: Global) -> Result<Vec<CharRange>, AllocError>
     )
 }
 
-/// The characters of `\d`, `\D`, `\w`, `\W`, `\s` or `\S`, by the letter.
-pub fn set_of(alloc: Global, letter: char) -> Result<Option<Vec<CharRange>>, AllocError>
+// The characters of `\d`, `\D`, `\w`, `\W`, `\s` or `\S`, by the letter.
+pub(crate) fn set_of(alloc: Global, letter: char) -> Result<Option<Vec<CharRange>>, AllocError>
     ensures { IfOk result (λ set. option_map (λ ranges. ranges.items) set ≡ set_of letter) }
 {
     let ranges = match letter {
@@ -118,14 +122,9 @@ pub fn set_of(alloc: Global, letter: char) -> Result<Option<Vec<CharRange>>, All
     Ok(Some(ranges))
 }
 
-fn is_punctuation(c: char) -> bool
-    ensures { result ≡ is_punctuation c }
-{
-    matches!(c, '!'..='/' | ':'..='@' | '['..='`' | '{'..='~')
-}
-
-/// The character that a letter or a punctuation mark stands for after a backslash, in a class and outside alike.
-pub fn escaped(letter: char) -> Option<char>
+// The character that a letter or a punctuation mark stands for after a backslash, in a class and
+// outside alike.
+pub(crate) fn escaped(letter: char) -> Option<char>
     ensures { result ≡ escaped letter }
 {
     match letter {
@@ -134,31 +133,20 @@ pub fn escaped(letter: char) -> Option<char>
         'v' => Some('\u{b}'),
         'f' => Some('\u{c}'),
         'r' => Some('\r'),
-        _ => is_punctuation(letter).then_some(letter),
+        _ => letter.is_ascii_punctuation().then_some(letter),
     }
 }
 
-pub fn is_digit(c: char) -> bool
-    ensures { result ≡ is_digit c }
-{
-    matches!(c, '0'..='9')
-}
-
-/// The value of a hexadecimal digit.
-pub fn hex_value(digit: char) -> Option<u32>
+// The value of a hexadecimal digit.
+pub(crate) fn hex_value(digit: char) -> Option<u32>
     ensures value { result ≡ hex_value digit }
     ensures small { IfSome result (λ d. d < 16) }
 {
-    match digit {
-        '0'..='9' => Some(digit as u32 - 48),
-        'A'..='F' => Some(digit as u32 - 55),
-        'a'..='f' => Some(digit as u32 - 87),
-        _ => None,
-    }
+    digit.to_digit(16)
 }
 
-/// Whether the number is that of a surrogate.
-pub fn is_surrogate(value: u32) -> bool
+// Whether the number is that of a surrogate.
+pub(crate) fn is_surrogate(value: u32) -> bool
     ensures { result ≡ is_surrogate value }
 {
     matches!(value, 0xd800..=0xdfff)
@@ -170,8 +158,9 @@ fn scalar(value: u32) -> Option<char>
     char::from_u32(value)
 }
 
-/// The greatest character whose hexadecimal digits go on from `value` with `left` more, if there is one.
-pub fn greatest_from(value: u32, left: u32) -> Option<char>
+// The greatest character whose hexadecimal digits go on from `value` with `left` more, if there is
+// one.
+pub(crate) fn greatest_from(value: u32, left: u32) -> Option<char>
     requires { value ≤ 0xffff }
     ensures { result ≡ greatest_from value left }
 {

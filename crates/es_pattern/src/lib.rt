@@ -1,4 +1,14 @@
-//! Patterns: regular expressions after ECMAScript without flags, and whether one is found in a text.
+//! Patterns: regular expressions after ECMAScript without flags, and whether one is found in a
+//! text. The test `the_example` runs these lines:
+//!
+//! ```
+//! let pattern = Pattern::parse(alloc, "^src/.*\\.ts$")?;
+//! assert!(pattern.is_found(alloc, "src/index.ts")?);
+//! assert!(!pattern.is_found(alloc, "lib/index.ts")?);
+//!
+//! let fault = Pattern::parse(alloc, "a**").err();
+//! assert_eq!(fault, Some(PatternError::Syntax { place: 2 }));
+//! ```
 #![tactic(auto)]
 
 mod alive;
@@ -19,6 +29,7 @@ mod search;
 mod step;
 #[cfg(test)]
 mod tests;
+mod walk;
 
 pub use error::PatternError;
 pub use pattern::Pattern;

@@ -23,12 +23,13 @@ use crate::piece::Piece;
 use crate::reader::{Reader, Taken};
 use std::alloc::Global;
 
-/// The greatest number of groups within one another.
+// The greatest number of groups within one another.
 const DEPTH_LIMIT: usize = 200;
 
-/// Whether the values of four hexadecimal digits make a surrogate.
+// Whether the values of four hexadecimal digits make a surrogate.
 fn makes_surrogate(a: Option<u32>, b: Option<u32>, c: Option<u32>, d: Option<u32>) -> bool
-    requires { ForSome a (λ k. k < 16) × ForSome b (λ k. k < 16) × ForSome c (λ k. k < 16) × ForSome d (λ k. k < 16) }
+    requires { ForSome a (λ k. k < 16) × ForSome b (λ k. k < 16) × ForSome c (λ k. k < 16)
+        × ForSome d (λ k. k < 16) }
     ensures { result ≡ make_surrogate a b c d }
 {
     match (a, b, c, d) {
@@ -37,7 +38,7 @@ fn makes_surrogate(a: Option<u32>, b: Option<u32>, c: Option<u32>, d: Option<u32
     }
 }
 
-/// Whether the text begins with the digits of a surrogate.
+// Whether the text begins with the digits of a surrogate.
 fn begins_surrogate(rest: &[char]) -> bool
     ensures { result ≡ begins_surrogate rest.now }
 {
@@ -58,7 +59,7 @@ fn is_unsupported_letter(c: char) -> bool
     matches!(c, 'k' | 'p' | 'P' | 'c' | '1'..='9')
 }
 
-/// Whether the text begins with an escape that isn't supported.
+// Whether the text begins with an escape that isn't supported.
 fn begins_unsupported_escape(rest: &[char]) -> bool
     ensures { result ≡ begins_unsupported_escape rest.now }
 {
@@ -70,7 +71,7 @@ fn begins_unsupported_escape(rest: &[char]) -> bool
     }
 }
 
-/// Whether the text begins with `(?<`.
+// Whether the text begins with `(?<`.
 fn begins_named_group(rest: &[char]) -> bool
     ensures { result ≡ begins_named_group rest.now }
 {
@@ -89,24 +90,26 @@ fn begins_group(rest: &[char]) -> bool
     }
 }
 
-/// Whether something that isn't supported begins here.
+// Whether something that isn't supported begins here.
 fn is_unsupported(reader: &Reader, rest: &[char]) -> bool
-    ensures { result ≡ is_unsupported reader.now.mode rest.now }
+    ensures { result ≡ is_unsupported (reading reader.now).mode rest.now }
 {
     reader.may_escape() && begins_unsupported_escape(rest)
         || reader.may_open() && begins_named_group(rest)
 }
 
-/// Whether a group begins here within too many others.
+// Whether a group begins here within too many others.
 fn is_too_deep(reader: &Reader, rest: &[char]) -> bool
-    ensures { result ≡ is_too_deep (length reader.now.groups.items) reader.now.mode rest.now }
+    ensures { result ≡ is_too_deep (length (reading reader.now).groups) (reading reader.now).mode
+        rest.now }
 {
     reader.may_open() && begins_group(rest) && reader.depth() >= DEPTH_LIMIT
 }
 
-/// Whether something that is refused begins here, whatever the grammar says.
+// Whether something that is refused begins here, whatever the grammar says.
 fn refused(reader: &Reader, rest: &[char], place: usize) -> Result<(), PatternError>
-    ensures { Refuses (length reader.now.groups.items) reader.now.mode rest.now place result }
+    ensures { Refuses (length (reading reader.now).groups) (reading reader.now).mode rest.now place
+        result }
 {
     if is_unsupported(reader, rest) {
         return Err(PatternError::Unsupported { place });
@@ -117,15 +120,15 @@ fn refused(reader: &Reader, rest: &[char], place: usize) -> Result<(), PatternEr
     Ok(())
 }
 
-/// The byte of the `{` of the braces that the reader is in.
+// The byte of the `{` of the braces that the reader is in.
 fn braces_place(reader: &Reader, place: usize) -> usize
-    requires { length reader.now.braces.items < place }
-    ensures { result + (length reader.now.braces.items + 1) ≡ place }
+    requires { length (reading reader.now).braces < place }
+    ensures { result + (length (reading reader.now).braces + 1) ≡ place }
 {
-    place - reader.braces.len() - 1
+    place - reader.braces_len() - 1
 }
 
-/// Takes the character at that number, which is at the byte `place`.
+// Takes the character at that number, which is at the byte `place`.
 fn take_next(
     reader: &mut Reader,
     characters: &[char],
@@ -136,7 +139,8 @@ fn take_next(
     requires place { place ≡ byte_place characters.now number }
     requires reads { reads (take number characters.now) start ≡ Some (reading reader.old) }
     requires passes { PassesBefore characters.now number }
-    ensures reads { OnOk result (reads (take (number + 1) characters.now) start ≡ Some (reading reader.new)) }
+    ensures reads { OnOk result
+        (reads (take (number + 1) characters.now) start ≡ Some (reading reader.new)) }
     ensures passes { OnOk result (PassesBefore characters.now (number + 1)) }
     ensures fault { IfErr result (IsCaused characters.now) }
 {
@@ -150,7 +154,7 @@ fn take_next(
     }
 }
 
-/// The pieces of the pattern that the characters are.
+// The pieces of the pattern that the characters are.
 fn pieces_from(alloc: Global, characters: &[char]) -> Result<Vec<Piece>, PatternError>
     requires { byte_place characters.now (length characters.now) < 2 ^ 64 }
     ensures ok { IfOk result (λ pieces. accepted characters.now ≡ Some (tree_of pieces.items)) }
@@ -169,8 +173,8 @@ fn pieces_from(alloc: Global, characters: &[char]) -> Result<Vec<Piece>, Pattern
     }
 }
 
-/// The pieces of the pattern that the text is.
-pub fn pieces_of(alloc: Global, text: &str) -> Result<Vec<Piece>, PatternError>
+// The pieces of the pattern that the text is.
+pub(crate) fn pieces_of(alloc: Global, text: &str) -> Result<Vec<Piece>, PatternError>
     ensures ok { IfOk result (λ pieces. accepted (chars text.now) ≡ Some (tree_of pieces.items)) }
     ensures clear { OnOk result (IsClear (chars text.now)) }
     ensures fault { IfErr result (IsCaused (chars text.now)) }

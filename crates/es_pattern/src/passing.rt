@@ -14,7 +14,7 @@ fn is_among(ranges: &[CharRange], c: char) -> bool
 }
 
 #[tactic(auto, using(crate::proofs::Passings::differs_is))]
-pub fn fits(negated: bool, ranges: &[CharRange], c: char) -> bool
+pub(crate) fn fits(negated: bool, ranges: &[CharRange], c: char) -> bool
     ensures { result ≡ fits negated ranges.now c }
 {
     negated != is_among(ranges, c)
@@ -41,7 +41,7 @@ fn is_word_at(text: &[char], place: usize) -> bool
 }
 
 #[tactic(auto, using(crate::proofs::Passings::differs_is))]
-pub fn is_boundary(text: &[char], place: usize) -> bool
+pub(crate) fn is_boundary(text: &[char], place: usize) -> bool
     requires { place ≤ length text.now }
     ensures { result ≡ is_boundary text.now place }
 {

@@ -20,7 +20,7 @@ use std::marker::Model;
 #[derive(Drop)]
 pub struct Pattern {
     pieces: Vec<Piece>,
-    /// What the pattern is searched with, made of the pieces.
+    // What the pattern is searched with, made of the pieces.
     program: Program,
 }
 
@@ -39,9 +39,10 @@ impl Model for Pattern {
     ghost invariant = { λ p. IsProgramOf p.pieces.items p.program };
 }
 
-/// An equal piece.
+// An equal piece.
 fn copied_piece(alloc: Global, piece: &Piece) -> Result<Piece, AllocError>
-    ensures { IfOk result (λ copy. (ts : List Tree) → with_piece copy ts ≡ with_piece piece.now ts) }
+    ensures { IfOk result
+        (λ copy. (ts : List Tree) → with_piece copy ts ≡ with_piece piece.now ts) }
 {
     Ok(match piece {
         Piece::Nothing => Piece::Nothing,
@@ -62,7 +63,7 @@ fn copied_piece(alloc: Global, piece: &Piece) -> Result<Piece, AllocError>
     })
 }
 
-/// Pieces of the same tree.
+// Pieces of the same tree.
 fn copied_pieces(alloc: Global, pieces: &[Piece]) -> Result<Vec<Piece>, AllocError>
     ensures { IfOk result (λ copies. tree_of copies.items ≡ tree_of pieces.now) }
 {
@@ -76,12 +77,15 @@ fn copied_pieces(alloc: Global, pieces: &[Piece]) -> Result<Vec<Piece>, AllocErr
 impl Pattern {
     /// The pattern that a text is.
     pub fn parse(alloc: Global, text: &str) -> Result<Pattern, PatternError>
-        // What is accepted is a pattern of the grammar, with the one tree that the grammar gives it, and nothing in it is refused.
+        // What is accepted is a pattern of the grammar, with the one tree that the grammar gives
+        // it, and nothing in it is refused.
         ensures ok { IfOk result (λ pattern. IsPattern (chars text.now) pattern) }
-        ensures one_tree { (tree : Tree) → IsPattern (chars text.now) tree → IfOk result (λ pattern. pattern ≡ tree) }
+        ensures one_tree { (tree : Tree) → IsPattern (chars text.now) tree
+            → IfOk result (λ pattern. pattern ≡ tree) }
         ensures clear { OnOk result (IsClear (chars text.now)) }
         // Each text of the grammar within the limits is accepted.
-        ensures accepts { (tree : Tree) → IsPattern (chars text.now) tree → IsWithinLimits (chars text.now) → Succeeds result }
+        ensures accepts { (tree : Tree) → IsPattern (chars text.now) tree
+            → IsWithinLimits (chars text.now) → Succeeds result }
         // A fault is the first one in the text, with its place; and where there is one, it is told.
         ensures fault { IfErr result (IsCaused (chars text.now)) }
         ensures refused { (e : PatternError) → IsFirstFault (chars text.now) e → FailsBy e result }

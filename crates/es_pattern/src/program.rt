@@ -1,4 +1,5 @@
-// The steps of parts that are joined. A deque takes steps at both ends, so the parts that stand before aren't copied.
+// The steps of parts that are joined. A deque takes steps at both ends, so the parts that stand
+// before aren't copied.
 ghost use Rattle.std.specs.Prelude.{◌≡◌, ◌<◌, ◌++◌, ◌∷◌, [], IfOk, OnOk, suc, Some, None};
 ghost use Rattle.es_pattern.specs.Program.{
   choice_steps,
@@ -14,7 +15,7 @@ use crate::step::{Direction, Step};
 use std::alloc::{AllocError, Global};
 use std::collections::VecDeque;
 
-/// Puts the steps of a part before those of another.
+// Puts the steps of a part before those of another.
 fn prepend(steps: &mut VecDeque<Step>, mut before: VecDeque<Step>) -> Result<(), AllocError>
     ensures { OnOk result (steps.new.items ≡ before.items ++ steps.old.items) }
 {
@@ -24,13 +25,14 @@ fn prepend(steps: &mut VecDeque<Step>, mut before: VecDeque<Step>) -> Result<(),
     Ok(())
 }
 
-/// The steps of one part and the other, in the order in which a walk comes to them.
-pub fn sequence(
+// The steps of one part and the other, in the order in which a walk comes to them.
+pub(crate) fn sequence(
     direction: Direction,
     mut first: VecDeque<Step>,
     mut second: VecDeque<Step>,
 ) -> Result<VecDeque<Step>, AllocError>
-    ensures { IfOk result (λ steps. steps.items ≡ sequence_steps direction first.items second.items) }
+    ensures { IfOk result
+        (λ steps. steps.items ≡ sequence_steps direction first.items second.items) }
 {
     match direction {
         Direction::Forward => first.append(&mut second)?,
@@ -39,8 +41,8 @@ pub fn sequence(
     Ok(first)
 }
 
-/// The steps of one part or the other.
-pub fn choice(
+// The steps of one part or the other.
+pub(crate) fn choice(
     mut first: VecDeque<Step>,
     mut second: VecDeque<Step>,
 ) -> Result<VecDeque<Step>, AllocError>
@@ -53,7 +55,7 @@ pub fn choice(
     Ok(first)
 }
 
-/// The steps of a part any number of times.
+// The steps of a part any number of times.
 fn star(mut part: VecDeque<Step>) -> Result<VecDeque<Step>, AllocError>
     ensures { IfOk result (λ steps. steps.items ≡ star_steps part.items) }
 {
@@ -63,7 +65,7 @@ fn star(mut part: VecDeque<Step>) -> Result<VecDeque<Step>, AllocError>
     Ok(part)
 }
 
-/// Appends a part so many times.
+// Appends a part so many times.
 #[tactic(auto, using(crate::proofs::Walking::copies_more))]
 fn repeat(steps: &mut Vec<Step>, part: &[Step], times: u32) -> Result<(), AllocError>
     ensures { OnOk result (steps.new.items ≡ steps.old.items ++ copies times part.now) }
@@ -74,7 +76,8 @@ fn repeat(steps: &mut Vec<Step>, part: &[Step], times: u32) -> Result<(), AllocE
     Ok(())
 }
 
-/// The steps of a part so many times, and once or more after that: the last copy leads back to its start.
+// The steps of a part so many times, and once or more after that: the last copy leads back to its
+// start.
 fn at_least(alloc: Global, part: &[Step], before: u32) -> Result<Vec<Step>, AllocError>
     ensures { IfOk result (λ steps. steps.items ≡ copies before part.now ++ plus_steps part.now) }
 {
@@ -86,9 +89,10 @@ fn at_least(alloc: Global, part: &[Step], before: u32) -> Result<Vec<Step>, Allo
     Ok(steps)
 }
 
-/// The steps of a part `least` times and up to `more` times more.
+// The steps of a part `least` times and up to `more` times more.
 fn up_to(alloc: Global, part: &[Step], least: u32, more: u32) -> Result<Vec<Step>, AllocError>
-    ensures { IfOk result (λ steps. steps.items ≡ copies least part.now ++ copies more (maybe_steps part.now)) }
+    ensures { IfOk result
+        (λ steps. steps.items ≡ copies least part.now ++ copies more (maybe_steps part.now)) }
 {
     let mut steps = Vec::new(alloc);
     repeat(&mut steps, part, least)?;
@@ -99,8 +103,8 @@ fn up_to(alloc: Global, part: &[Step], least: u32, more: u32) -> Result<Vec<Step
     Ok(steps)
 }
 
-/// The steps of a part `least` times and up to `more` times more, or any number of times more.
-pub fn repetition(
+// The steps of a part `least` times and up to `more` times more, or any number of times more.
+pub(crate) fn repetition(
     alloc: Global,
     part: VecDeque<Step>,
     least: u32,

@@ -11,10 +11,11 @@ use crate::compile::Program;
 use crate::passing::{fits, is_boundary};
 use crate::piece::{CharRange, Piece};
 use crate::step::{Direction, Step};
+use crate::walk::Walk;
 use std::alloc::{AllocError, Global};
 
-/// Whether the pattern of these pieces, with their program, is found in the text.
-pub fn is_found(
+// Whether the pattern of these pieces, with their program, is found in the text.
+pub(crate) fn is_found(
     alloc: Global,
     pieces: &[Piece],
     program: &Program,
@@ -33,10 +34,10 @@ pub fn is_found(
     search.is_found()
 }
 
-/// For each lookahead that was told whether it holds, by the number of characters behind the place.
+// For each lookahead that was told whether it holds, by the number of characters behind the place.
 type Tables = Vec<Option<Vec<bool>>>;
 
-/// A text that is searched, and what it is searched with.
+// A text that is searched, and what it is searched with.
 #[derive(Drop)]
 struct Search<'a> {
     alloc: Global,
@@ -46,7 +47,7 @@ struct Search<'a> {
 }
 
 impl<'a> Search<'a> {
-    ghost use Rattle.std.specs.Prelude.{◌≡◌, ◌||◌, ◌≤◌, ◌<◌, ◌/◌, ◌++◌, ◌∷◌, [], ℕ, Bool, false, IfOk, IsTrue, IsNone, ◌↔◌, MatchOption, OnOk, length, slice_get, Some};
+    ghost use Rattle.std.specs.Prelude.{◌≡◌, ◌||◌, ◌≤◌, ◌<◌, ◌/◌, ◌++◌, ◌∷◌, ◌+◌, [], ℕ, Bool, false, IfOk, IsTrue, IsNone, ◌↔◌, MatchOption, OnOk, length, slice_get, Some};
     ghost use Rattle.std.specs.Global.{Vec};
     ghost use Rattle.es_pattern.specs.Tree.{CharRange};
     ghost use Rattle.es_pattern.specs.Spans.{IsFound, fits};
@@ -66,34 +67,93 @@ impl<'a> Search<'a> {
       class_passing,
       untold_count,
     };
-    ghost use Rattle.es_pattern.specs.Alive.{PassedBy, SettledBy, Settling, SettlingBy, weight};
+    ghost use Rattle.es_pattern.specs.Alive.{ArrivesBy, IsIdle, PassedBy, SettledBy, Settling, SettlingBy, crowd, weight};
+    ghost use Rattle.es_pattern.specs.Walk.{IsAskedOn, IsReady, SettledOn, SettlingOn};
     ghost use Rattle.es_pattern.specs.NumberSet.{has};
-    ghost use Rattle.es_pattern.specs.Begins.{may_begin, may_stay, may_take, takes_at};
+    ghost use Rattle.es_pattern.specs.Begins.{NoneBegins, may_begin, may_stay, may_take, takes_at};
     ghost use Rattle.es_pattern.specs.Compiled.{AllParts, IsProgramOf, part_steps};
 
-    /// Whether the pattern is found. All walks go on side by side, from each place where one may begin.
+    // Whether the pattern is found. All walks go on side by side, from each place where one may
+    // begin.
     fn is_found(&self) -> Result<bool, AllocError>
         requires { IsProgramOf self.now.pieces.now self.now.program.now }
-        ensures { IfOk result (λ found. IsTrue found ↔ IsFound (tree_of self.now.pieces.now) self.now.text.now) }
+        ensures { IfOk result
+            (λ found. IsTrue found ↔ IsFound (tree_of self.now.pieces.now) self.now.text.now) }
     {
         let mut tables = self.no_tables()?;
         let mut alive = Alive::new(self.alloc, self.program.steps.len())?;
-        for place in 0..self.text.len() + 1 {
-            if self.begins_at(place) {
-                alive.begin()?;
-            }
-            if alive.waiting.is_empty() {
-                if !self.begins_later() {
-                    return Ok(false);
-                }
-            } else if self.pass(&mut tables, place, &mut alive)? {
+        let mut from = 0;
+        while let Some(place) = self.next_place(from, &alive) {
+            self.begin_at(place, &mut alive)?;
+            if self.pass(&mut tables, place, &mut alive)? {
                 return Ok(true);
             }
+            from = place + 1;
         }
         Ok(false)
     }
 
-    /// Whether a walk may begin at a place.
+    // The next place, from this one on, where a step waits or a walk may begin.
+    fn next_place(&self, from: usize, alive: &Alive) -> Option<usize>
+        requires { IsProgramOf self.now.pieces.now self.now.program.now }
+        ensures { MatchOption result
+            (IsIdle (may_begin (tree_of self.now.pieces.now) self.now.text.now) alive.now from
+            (length self.now.text.now + 1))
+            (λ place. (from ≤ place) × (place ≤ length self.now.text.now)
+            × IsIdle (may_begin (tree_of self.now.pieces.now) self.now.text.now) alive.now from
+            place) }
+    {
+        if from > self.text.len() {
+            return None;
+        }
+        if !alive.waiting.is_empty() || self.begins_at(from) {
+            return Some(from);
+        }
+        if !self.begins_later() {
+            return None;
+        }
+        self.next_taking(from + 1)
+    }
+
+    // The next place, from this one on, with a character that a walk may begin with.
+    fn next_taking(&self, from: usize) -> Option<usize>
+        requires program { IsProgramOf self.now.pieces.now self.now.program.now }
+        requires later { 0 < from }
+        requires within { from ≤ length self.now.text.now + 1 }
+        requires moves { may_stay (tree_of self.now.pieces.now) ≡ false }
+        ensures { MatchOption result
+            (NoneBegins (tree_of self.now.pieces.now) self.now.text.now from
+            (length self.now.text.now + 1))
+            (λ place. (from ≤ place) × (place ≤ length self.now.text.now)
+            × NoneBegins (tree_of self.now.pieces.now) self.now.text.now from place) }
+    {
+        for place in from..self.text.len() {
+            if self.takes_at(place) {
+                return Some(place);
+            }
+        }
+        None
+    }
+
+    // Lets a walk begin at a place, if one may.
+    fn begin_at(&self, place: usize, alive: &mut Alive) -> Result<(), AllocError>
+        requires program { IsProgramOf self.now.pieces.now self.now.program.now }
+        requires place { place ≤ length self.now.text.now }
+        ensures room { length alive.new.taken.words.items ≡ length alive.old.taken.words.items }
+        ensures begun { OnOk result (ArrivesBy Direction.Forward self.now.pieces.now
+            self.now.text.now (may_begin (tree_of self.now.pieces.now) self.now.text.now)
+            self.now.program.now.steps.items place alive.old
+            → SettlingBy Direction.Forward self.now.pieces.now self.now.text.now
+            (may_begin (tree_of self.now.pieces.now) self.now.text.now)
+            self.now.program.now.steps.items place alive.new) }
+    {
+        if self.begins_at(place) {
+            alive.begin()?;
+        }
+        Ok(())
+    }
+
+    // Whether a walk may begin at a place.
     fn begins_at(&self, place: usize) -> bool
         requires program { IsProgramOf self.now.pieces.now self.now.program.now }
         requires place { place ≤ length self.now.text.now }
@@ -102,10 +162,11 @@ impl<'a> Search<'a> {
         place == 0 || self.program.may_stay || self.takes_at(place)
     }
 
-    /// Whether a walk may begin with the character at a place.
+    // Whether a walk may begin with the character at a place.
     fn takes_at(&self, place: usize) -> bool
         requires { IsProgramOf self.now.pieces.now self.now.program.now }
-        ensures { result ≡ takes_at (may_take (tree_of self.now.pieces.now)) (slice_get self.now.text.now place) }
+        ensures { result ≡ takes_at (may_take (tree_of self.now.pieces.now))
+            (slice_get self.now.text.now place) }
     {
         match self.text.get(place) {
             Some(c) => self.takes((*c as usize).min(128)),
@@ -121,24 +182,34 @@ impl<'a> Search<'a> {
         self.program.begins.get(code).copied().unwrap_or(false)
     }
 
-    /// Whether a walk may begin after the text's start.
+    // Whether a walk may begin after the text's start.
     fn begins_later(&self) -> bool
         requires { IsProgramOf self.now.pieces.now self.now.program.now }
-        ensures { result ≡ may_stay (tree_of self.now.pieces.now) || may_take (tree_of self.now.pieces.now) 128 }
+        ensures { result ≡ may_stay (tree_of self.now.pieces.now) || may_take
+            (tree_of self.now.pieces.now) 128 }
     {
         self.program.may_stay || self.takes(128)
     }
 
-    /// Takes all steps of the whole that are alive at a place, and goes on to the next; whether the end is among them.
+    // Takes all steps of the whole that are alive at a place, and goes on to the next; whether the
+    // end is among them.
     fn pass(&self, tables: &mut Tables, place: usize, alive: &mut Alive) -> Result<bool, AllocError>
         requires program { IsProgramOf self.now.pieces.now self.now.program.now }
         requires told { AllTell self.now.pieces.now self.now.text.now tables.old.items }
         requires place { place ≤ length self.now.text.now }
-        requires room { length self.now.program.now.steps.items / 64 < length alive.old.taken.words.items }
-        ensures told { OnOk result (AllTell self.now.pieces.now self.now.text.now tables.new.items) }
+        requires room { length self.now.program.now.steps.items / 64 < length
+            alive.old.taken.words.items }
+        ensures told { OnOk result
+            (AllTell self.now.pieces.now self.now.text.now tables.new.items) }
         ensures room { length alive.new.taken.words.items ≡ length alive.old.taken.words.items }
-        ensures passed { IfOk result (λ ended. (begins : ℕ → Bool) → SettlingBy Direction.Forward self.now.pieces.now self.now.text.now begins self.now.program.now.steps.items place alive.old
-            → PassedBy self.now.pieces.now self.now.text.now begins self.now.program.now.steps.items place ended alive.new) }
+        // At the next place no more steps wait than the program has, and its end.
+        ensures few { OnOk result (alive.old.next.items ≡ []
+            → length alive.new.waiting.items ≤ length self.now.program.now.steps.items + 1) }
+        ensures passed { IfOk result
+            (λ ended. (begins : ℕ → Bool) → SettlingBy Direction.Forward self.now.pieces.now
+            self.now.text.now begins self.now.program.now.steps.items place alive.old
+            → PassedBy self.now.pieces.now self.now.text.now begins
+            self.now.program.now.steps.items place ended alive.new) }
     {
         let steps = &self.program.steps;
         self.advance(tables, place, alive)?;
@@ -147,18 +218,20 @@ impl<'a> Search<'a> {
         Ok(ended)
     }
 
-    /// Room for the tables, none of which is told.
+    // Room for the tables, none of which is told.
     fn no_tables(&self) -> Result<Tables, AllocError>
-        ensures { IfOk result (λ tables. AllTell self.now.pieces.now self.now.text.now tables.items) }
+        ensures { IfOk result
+            (λ tables. AllTell self.now.pieces.now self.now.text.now tables.items) }
     {
-        let mut tables = Vec::new(self.alloc);
+        let mut tables = Vec::with_capacity(self.alloc, self.pieces.len())?;
         for _piece in self.pieces {
             tables.push(None)?;
         }
         Ok(tables)
     }
 
-    /// Takes the steps of the whole that wait at a place and all that follow there, and tells the lookaheads that they come to.
+    // Takes the steps of the whole that wait at a place and all that follow there, and tells the
+    // lookaheads that they come to.
     fn advance(
         &self,
         tables: &mut Tables,
@@ -168,17 +241,26 @@ impl<'a> Search<'a> {
         requires program { IsProgramOf self.now.pieces.now self.now.program.now }
         requires told { AllTell self.now.pieces.now self.now.text.now tables.old.items }
         requires place { place ≤ length self.now.text.now }
-        requires room { length self.now.program.now.steps.items / 64 < length alive.old.taken.words.items }
-        ensures told { OnOk result (AllTell self.now.pieces.now self.now.text.now tables.new.items) }
+        requires room { length self.now.program.now.steps.items / 64 < length
+            alive.old.taken.words.items }
+        ensures told { OnOk result
+            (AllTell self.now.pieces.now self.now.text.now tables.new.items) }
         ensures room { length alive.new.taken.words.items ≡ length alive.old.taken.words.items }
-        ensures settled { OnOk result ((begins : ℕ → Bool) → SettlingBy Direction.Forward self.now.pieces.now self.now.text.now begins self.now.program.now.steps.items place alive.old
-            → SettledBy Direction.Forward self.now.pieces.now self.now.text.now begins self.now.program.now.steps.items place alive.new) }
+        ensures few { OnOk result (crowd (length self.now.program.now.steps.items) alive.new
+            ≤ crowd (length self.now.program.now.steps.items) alive.old) }
+        ensures settled { OnOk result
+            ((begins : ℕ → Bool) → SettlingBy Direction.Forward self.now.pieces.now
+            self.now.text.now begins self.now.program.now.steps.items place alive.old
+            → SettledBy Direction.Forward self.now.pieces.now self.now.text.now begins
+            self.now.program.now.steps.items place alive.new) }
     {
         while let Some(number) = self.settle(
-            Direction::Forward,
-            &self.program.steps,
-            tables,
-            place,
+            &Walk {
+                direction: Direction::Forward,
+                steps: &self.program.steps,
+                tables,
+                place,
+            },
             alive,
         )? {
             self.tell(tables, number)?;
@@ -186,13 +268,15 @@ impl<'a> Search<'a> {
         Ok(())
     }
 
-    /// Tells a lookahead, after those within it.
+    // Tells a lookahead, after those within it.
     fn tell(&self, tables: &mut Tables, number: usize) -> Result<(), AllocError>
         requires program { IsProgramOf self.now.pieces.now self.now.program.now }
         requires told { AllTell self.now.pieces.now self.now.text.now tables.old.items }
         requires untold { IsUntold self.now.pieces.now tables.old.items number }
-        ensures told { OnOk result (AllTell self.now.pieces.now self.now.text.now tables.new.items) }
-        ensures fewer { OnOk result (untold_count tables.new.items < untold_count tables.old.items) }
+        ensures told { OnOk result
+            (AllTell self.now.pieces.now self.now.text.now tables.new.items) }
+        ensures fewer { OnOk result
+            (untold_count tables.new.items < untold_count tables.old.items) }
     {
         let first = self.first_within(number);
         for inner in first..number + 1 {
@@ -201,13 +285,16 @@ impl<'a> Search<'a> {
         Ok(())
     }
 
-    /// A number from which on all pieces up to a lookahead stand within it, and none before stands there.
+    // A number from which on all pieces up to a lookahead stand within it, and none before stands
+    // there.
     fn first_within(&self, number: usize) -> usize
         requires parts { AllParts self.now.pieces.now self.now.program.now.lookaheads.items }
         requires stands { number < length self.now.pieces.now }
         ensures before { result ≤ number }
-        ensures all { (k at inner : ℕ) (negated : Bool) → result ≤ k → k ≤ number → slice_get self.now.pieces.now k ≡ Some (Piece.Lookahead negated)
-            → slice_get (part_steps Direction.Backward self.now.pieces.now k) at ≡ Some (Step.Pass inner) → result ≤ inner }
+        ensures all { (k at inner : ℕ) (negated : Bool) → result ≤ k → k ≤ number
+            → slice_get self.now.pieces.now k ≡ Some (Piece.Lookahead negated)
+            → slice_get (part_steps Direction.Backward self.now.pieces.now k) at
+            ≡ Some (Step.Pass inner) → result ≤ inner }
     {
         let mut first = number;
         for passed in 0..number + 1 {
@@ -216,13 +303,16 @@ impl<'a> Search<'a> {
         first
     }
 
-    /// The least number of a piece that the piece `inner` asks, up to `first`; `first` itself where the piece stands before that.
+    // The least number of a piece that the piece `inner` asks, up to `first`; `first` itself where
+    // the piece stands before that.
     fn first_below(&self, inner: usize, first: usize) -> usize
         requires { AllParts self.now.pieces.now self.now.program.now.lookaheads.items }
         ensures before { result ≤ first }
         ensures outside { inner < first → result ≡ first }
-        ensures least { first ≤ inner → (at asked : ℕ) (negated : Bool) → slice_get self.now.pieces.now inner ≡ Some (Piece.Lookahead negated)
-            → slice_get (part_steps Direction.Backward self.now.pieces.now inner) at ≡ Some (Step.Pass asked) → result ≤ asked }
+        ensures least { first ≤ inner → (at asked : ℕ) (negated : Bool)
+            → slice_get self.now.pieces.now inner ≡ Some (Piece.Lookahead negated)
+            → slice_get (part_steps Direction.Backward self.now.pieces.now inner) at
+            ≡ Some (Step.Pass asked) → result ≤ asked }
     {
         match self.program.lookaheads.get(inner) {
             Some(steps) if first <= inner => first_passed(steps, first),
@@ -230,15 +320,19 @@ impl<'a> Search<'a> {
         }
     }
 
-    /// Tells the piece of this number, where it's a lookahead that isn't told yet.
+    // Tells the piece of this number, where it's a lookahead that isn't told yet.
     fn tell_one(&self, tables: &mut Tables, number: usize) -> Result<(), AllocError>
         requires program { IsProgramOf self.now.pieces.now self.now.program.now }
         requires told { AllTell self.now.pieces.now self.now.text.now tables.old.items }
-        requires ready { (negated : Bool) → slice_get self.now.pieces.now number ≡ Some (Piece.Lookahead negated)
-            → (k : ℕ) → IsAsked self.now.pieces.now tables.old.items (part_steps Direction.Backward self.now.pieces.now number) k → ⊥ }
-        ensures told { OnOk result (AllTell self.now.pieces.now self.now.text.now tables.new.items) }
+        requires ready { (negated : Bool) → slice_get self.now.pieces.now number
+            ≡ Some (Piece.Lookahead negated)
+            → (k : ℕ) → IsAsked self.now.pieces.now tables.old.items
+            (part_steps Direction.Backward self.now.pieces.now number) k → ⊥ }
+        ensures told { OnOk result
+            (AllTell self.now.pieces.now self.now.text.now tables.new.items) }
         ensures kept { (k : ℕ) → IsTold tables.old.items k → IsTold tables.new.items k }
-        ensures now { OnOk result ((negated : Bool) → slice_get self.now.pieces.now number ≡ Some (Piece.Lookahead negated) → IsTold tables.new.items number) }
+        ensures now { OnOk result ((negated : Bool) → slice_get self.now.pieces.now number
+            ≡ Some (Piece.Lookahead negated) → IsTold tables.new.items number) }
     {
         let Some(Piece::Lookahead { negated }) = self.pieces.get(number) else {
             return Ok(());
@@ -250,7 +344,7 @@ impl<'a> Search<'a> {
         Ok(())
     }
 
-    /// For each number of characters behind a place whether the lookahead holds there.
+    // For each number of characters behind a place whether the lookahead holds there.
     fn table_of(
         &self,
         tables: &[Option<Vec<bool>>],
@@ -259,9 +353,12 @@ impl<'a> Search<'a> {
     ) -> Result<Vec<bool>, AllocError>
         requires program { IsProgramOf self.now.pieces.now self.now.program.now }
         requires told { AllTell self.now.pieces.now self.now.text.now tables.now }
-        requires ready { (k : ℕ) → IsAsked self.now.pieces.now tables.now (part_steps Direction.Backward self.now.pieces.now number) k → ⊥ }
+        requires ready { (k : ℕ)
+            → IsAsked self.now.pieces.now tables.now
+            (part_steps Direction.Backward self.now.pieces.now number) k → ⊥ }
         requires stands { slice_get self.now.pieces.now number ≡ Some (Piece.Lookahead negated) }
-        ensures { IfOk result (λ table. Tells self.now.pieces.now self.now.text.now number table.items) }
+        ensures { IfOk result
+            (λ table. Tells self.now.pieces.now self.now.text.now number table.items) }
     {
         let steps = &self.program.lookaheads[number];
         let mut alive = Alive::new(self.alloc, steps.len())?;
@@ -269,34 +366,39 @@ impl<'a> Search<'a> {
         for behind in 0..self.text.len() + 1 {
             let place = self.text.len() - behind;
             alive.begin()?;
-            let _asked = self.settle(Direction::Backward, steps, tables, place, &mut alive)?;
+            let walk = Walk {
+                direction: Direction::Backward,
+                steps,
+                tables,
+                place,
+            };
+            let _asked = self.settle(&walk, &mut alive)?;
             table.push(negated != alive.taken.contains(steps.len()))?;
             alive.go_on();
         }
         Ok(table)
     }
 
-    /// Takes the steps that wait at a place and all that follow there, up to a lookahead that has to be told first.
-    fn settle(
-        &self,
-        direction: Direction,
-        steps: &[Step],
-        tables: &[Option<Vec<bool>>],
-        place: usize,
-        alive: &mut Alive,
-    ) -> Result<Option<usize>, AllocError>
-        requires told { AllTell self.now.pieces.now self.now.text.now tables.now }
-        requires classed { AllClassed self.now.pieces.now self.now.program.now.classes.items }
-        requires place { place ≤ length self.now.text.now }
-        requires room { length steps.now / 64 < length alive.old.taken.words.items }
-        ensures asked { IfOk result (λ asked. MatchOption asked (Unit {0}) (IsAsked self.now.pieces.now tables.now steps.now)) }
+    // Takes the steps that wait at a walk's place and all that follow there, up to a lookahead that
+    // has to be told first.
+    fn settle(&self, walk: &Walk<'_>, alive: &mut Alive) -> Result<Option<usize>, AllocError>
+        requires ready { IsReady self.now.pieces.now self.now.text.now
+            self.now.program.now.classes.items walk.now }
+        requires room { length walk.now.steps.now / 64 < length alive.old.taken.words.items }
+        ensures asked { IfOk result
+            (λ asked. MatchOption asked (Unit {0}) (IsAskedOn self.now.pieces.now walk.now)) }
         ensures room { length alive.new.taken.words.items ≡ length alive.old.taken.words.items }
-        ensures settled { IfOk result (λ asked. (begins : ℕ → Bool) → SettlingBy direction self.now.pieces.now self.now.text.now begins steps.now place alive.old
-            → MatchOption asked (SettledBy direction self.now.pieces.now self.now.text.now begins steps.now place alive.new) (λ _. SettlingBy direction self.now.pieces.now self.now.text.now begins steps.now place alive.new)) }
+        ensures settled { IfOk result (λ asked. (begins : ℕ → Bool)
+            → SettlingOn self.now.pieces.now self.now.text.now begins walk.now alive.old
+            → MatchOption asked
+            (SettledOn self.now.pieces.now self.now.text.now begins walk.now alive.new)
+            (λ _. SettlingOn self.now.pieces.now self.now.text.now begins walk.now alive.new)) }
+        ensures few { OnOk result (crowd (length walk.now.steps.now) alive.new
+            ≤ crowd (length walk.now.steps.now) alive.old) }
     {
         while let Some(at) = alive.waiting.pop() {
             if !alive.taken.contains(at) {
-                let asked = self.take(direction, steps, tables, place, at, alive)?;
+                let asked = self.take(walk, at, alive)?;
                 if asked.is_some() {
                     return Ok(asked);
                 }
@@ -305,79 +407,84 @@ impl<'a> Search<'a> {
         Ok(None)
     }
 
-    /// Takes a step that waited, unless it passes a lookahead that has to be told first: it waits again then.
+    // Takes a step that waited, unless it passes a lookahead that has to be told first: it waits
+    // again then.
     fn take(
         &self,
-        direction: Direction,
-        steps: &[Step],
-        tables: &[Option<Vec<bool>>],
-        place: usize,
+        walk: &Walk<'_>,
         at: usize,
         alive: &mut Alive,
     ) -> Result<Option<usize>, AllocError>
-        requires told { AllTell self.now.pieces.now self.now.text.now tables.now }
-        requires classed { AllClassed self.now.pieces.now self.now.program.now.classes.items }
-        requires place { place ≤ length self.now.text.now }
-        requires room { length steps.now / 64 < length alive.old.taken.words.items }
+        requires ready { IsReady self.now.pieces.now self.now.text.now
+            self.now.program.now.classes.items walk.now }
+        requires room { length walk.now.steps.now / 64 < length alive.old.taken.words.items }
         requires fresh { has alive.old.taken.words.items at ≡ false }
-        ensures asked { IfOk result (λ asked. MatchOption asked (Unit {0}) (IsAsked self.now.pieces.now tables.now steps.now)) }
+        ensures asked { IfOk result
+            (λ asked. MatchOption asked (Unit {0}) (IsAskedOn self.now.pieces.now walk.now)) }
         ensures room { length alive.new.taken.words.items ≡ length alive.old.taken.words.items }
-        ensures taken { OnOk result ((begins : ℕ → Bool) → Settling direction (Passes direction self.now.pieces.now self.now.text.now) begins steps.now place (alive.old.waiting.items ++ at ∷ []) alive.old.taken.words.items alive.old.next.items
-            → SettlingBy direction self.now.pieces.now self.now.text.now begins steps.now place alive.new) }
-        ensures lighter { IfOk result (λ asked. IsNone asked → weight (length steps.now) alive.new ≤ weight (length steps.now) alive.old) }
+        ensures taken { OnOk result ((begins : ℕ → Bool)
+            → Settling walk.now.direction
+            (Passes walk.now.direction self.now.pieces.now self.now.text.now) begins
+            walk.now.steps.now walk.now.place (alive.old.waiting.items ++ at ∷ [])
+            alive.old.taken.words.items alive.old.next.items
+            → SettlingOn self.now.pieces.now self.now.text.now begins walk.now alive.new) }
+        // It is taken once at a place, and at most two others wait for it there.
+        ensures lighter { IfOk result (λ asked. IsNone asked
+            → weight (length walk.now.steps.now) alive.new
+            ≤ weight (length walk.now.steps.now) alive.old) }
+        ensures few { OnOk result (crowd (length walk.now.steps.now) alive.new
+            ≤ crowd (length walk.now.steps.now) alive.old) }
     {
-        let Some(step) = steps.get(at) else {
+        let Some(step) = walk.steps.get(at) else {
             alive.taken.insert(at);
             return Ok(None);
         };
         let mut passing = Passing::Stops;
         if let Step::Pass(number) = step {
-            let Some(told) = self.passing(direction, tables, *number, place) else {
+            let Some(told) = self.passing(walk, *number) else {
                 alive.waiting.push(at)?;
                 return Ok(Some(*number));
             };
             passing = told;
         }
-        alive.take(*step, passing, at, steps.len())?;
+        alive.take(*step, passing, at, walk.steps.len())?;
         Ok(None)
     }
 
-    /// What the piece of this number does at a place, unless it's a lookahead that has to be told first.
-    fn passing(
-        &self,
-        direction: Direction,
-        tables: &[Option<Vec<bool>>],
-        number: usize,
-        place: usize,
-    ) -> Option<Passing>
-        requires told { AllTell self.now.pieces.now self.now.text.now tables.now }
-        requires classed { AllClassed self.now.pieces.now self.now.program.now.classes.items }
-        requires place { place ≤ length self.now.text.now }
-        ensures { MatchOption result (IsUntold self.now.pieces.now tables.now number) (PassesAs direction self.now.pieces.now self.now.text.now number place) }
+    // What the piece of this number does at a walk's place, unless it's a lookahead that has to be
+    // told first.
+    fn passing(&self, walk: &Walk<'_>, number: usize) -> Option<Passing>
+        requires { IsReady self.now.pieces.now self.now.text.now
+            self.now.program.now.classes.items walk.now }
+        ensures { MatchOption result (IsUntold self.now.pieces.now walk.now.tables.now number)
+            (PassesAs walk.now.direction self.now.pieces.now self.now.text.now number
+            walk.now.place) }
     {
         let Some(piece) = self.pieces.get(number) else {
             return Some(Passing::Stops);
         };
         let holds = match piece {
             Piece::OneOf { negated, ranges } => {
-                let next = self.ahead(direction, place);
+                let next = walk.ahead(self.text);
                 return Some(self.passing_class(number, *negated, ranges, next));
             }
-            Piece::TextStart => place == 0,
-            Piece::TextEnd => place == self.text.len(),
-            Piece::WordBoundary { negated } => is_boundary(self.text, place) != *negated,
-            Piece::Lookahead { .. } => self.told(tables, number, place)?,
+            Piece::TextStart => walk.place == 0,
+            Piece::TextEnd => walk.place == self.text.len(),
+            Piece::WordBoundary { negated } => is_boundary(self.text, walk.place) != *negated,
+            Piece::Lookahead { .. } => self.told(walk.tables, number, walk.place)?,
             _ => false,
         };
         Some(stays_if(holds))
     }
 
-    /// What a lookahead's table has for a place, where there is one.
+    // What a lookahead's table has for a place, where there is one.
     fn told(&self, tables: &[Option<Vec<bool>>], number: usize, place: usize) -> Option<bool>
         requires told { AllTell self.now.pieces.now self.now.text.now tables.now }
         requires place { place ≤ length self.now.text.now }
-        ensures { (negated : Bool) → slice_get self.now.pieces.now number ≡ Some (Piece.Lookahead negated)
-            → MatchOption result (slice_get tables.now number ≡ Some None) (Answers self.now.pieces.now self.now.text.now number place) }
+        ensures { (negated : Bool) → slice_get self.now.pieces.now number
+            ≡ Some (Piece.Lookahead negated)
+            → MatchOption result (slice_get tables.now number ≡ Some None)
+            (Answers self.now.pieces.now self.now.text.now number place) }
     {
         let Some(table) = tables.get(number) else {
             return None;
@@ -391,7 +498,7 @@ impl<'a> Search<'a> {
         }
     }
 
-    /// What a class does before a character, or before none.
+    // What a class does before a character, or before none.
     fn passing_class(
         &self,
         number: usize,
@@ -399,7 +506,9 @@ impl<'a> Search<'a> {
         ranges: &[CharRange],
         next: Option<char>,
     ) -> Passing
-        requires classed { (c : ℕ) (class : Vec Bool) → slice_get self.now.program.now.classes.items number ≡ Some class → c < 128 → slice_get class.items c ≡ Some (fits negated ranges.now c) }
+        requires classed { (c : ℕ) (class : Vec Bool)
+            → slice_get self.now.program.now.classes.items number ≡ Some class → c < 128
+            → slice_get class.items c ≡ Some (fits negated ranges.now c) }
         ensures { result ≡ class_passing negated ranges.now next }
     {
         match next {
@@ -408,9 +517,11 @@ impl<'a> Search<'a> {
         }
     }
 
-    /// Whether a character fits a class, by the table of ASCII where it's one of those.
+    // Whether a character fits a class, by the table of ASCII where it's one of those.
     fn fits(&self, number: usize, negated: bool, ranges: &[CharRange], c: char) -> bool
-        requires classed { (c : ℕ) (class : Vec Bool) → slice_get self.now.program.now.classes.items number ≡ Some class → c < 128 → slice_get class.items c ≡ Some (fits negated ranges.now c) }
+        requires classed { (c : ℕ) (class : Vec Bool)
+            → slice_get self.now.program.now.classes.items number ≡ Some class → c < 128
+            → slice_get class.items c ≡ Some (fits negated ranges.now c) }
         ensures { result ≡ fits negated ranges.now c }
     {
         match self.program.classes.get(number) {
@@ -418,23 +529,13 @@ impl<'a> Search<'a> {
             _ => fits(negated, ranges, c),
         }
     }
-
-    /// The next character on the way.
-    fn ahead(&self, direction: Direction, place: usize) -> Option<char>
-        ensures { result ≡ ahead_of direction self.now.text.now place }
-    {
-        match direction {
-            Direction::Forward => self.text.get(place).copied(),
-            Direction::Backward if place == 0 => None,
-            Direction::Backward => self.text.get(place - 1).copied(),
-        }
-    }
 }
 
-/// The least number of a piece that the steps pass, up to `first`.
+// The least number of a piece that the steps pass, up to `first`.
 fn first_passed(steps: &[Step], first: usize) -> usize
     ensures before { result ≤ first }
-    ensures least { (at number : ℕ) → slice_get steps.now at ≡ Some (Step.Pass number) → result ≤ number }
+    ensures least { (at number : ℕ) → slice_get steps.now at ≡ Some (Step.Pass number)
+        → result ≤ number }
 {
     let mut least = first;
     for step in steps {
@@ -445,7 +546,7 @@ fn first_passed(steps: &[Step], first: usize) -> usize
     least
 }
 
-/// What a piece that spans the empty part does.
+// What a piece that spans the empty part does.
 fn stays_if(holds: bool) -> Passing
     ensures { result ≡ stays holds }
 {

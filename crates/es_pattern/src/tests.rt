@@ -3,7 +3,8 @@ use super::{Pattern, PatternError};
 use std::alloc::{AllocError, Global};
 use std::test::Fail;
 
-/// Patterns, texts and whether the one is found in the other, by V8: a line each, apart by tabs, `⏎` being a line end.
+// Patterns, texts and whether the one is found in the other, by V8: a line each, apart by tabs,
+// `⏎` being a line end.
 fn by_v8() -> &'static str {
     "\
 |((?![^cc\\b-]|[^-a-c]{1,2}/_{0})){2}?\ta_a1\ttrue\n\
@@ -243,6 +244,19 @@ c{2}?a{2}b{1,2}a{1,2}?\t\tfalse\n\
 ((?!\\t{1,3})(?!.-|)1??){1,3}?\tb._.\tfalse\n"
 }
 
+// The example of the crate's head.
+#[test]
+fn the_example(rt: HostRuntime) -> Result<(), Fail> {
+    let alloc = rt.alloc();
+    let pattern = Pattern::parse(alloc, "^src/.*\\.ts$")?;
+    assert!(rt; pattern.is_found(alloc, "src/index.ts")?);
+    assert!(rt; !pattern.is_found(alloc, "lib/index.ts")?);
+
+    let fault = Pattern::parse(alloc, "a**").err();
+    assert_eq!(rt; fault, Some(PatternError::Syntax { place: 2 }));
+    Ok(())
+}
+
 #[test]
 fn answers_as_v8_does(rt: HostRuntime) -> Result<(), Fail> {
     let mut rows = 0u32;
@@ -266,7 +280,7 @@ fn answers_as_v8_does(rt: HostRuntime) -> Result<(), Fail> {
     Ok(())
 }
 
-/// Texts that are refused: the kind of the refusal and its byte.
+// Texts that are refused: the kind of the refusal and its byte.
 fn faults() -> &'static [(&'static str, &'static str, usize)] {
     &[
         ("(", "syntax", 1),
@@ -343,7 +357,7 @@ fn tells_the_first_fault(rt: HostRuntime) -> Result<(), Fail> {
     Ok(())
 }
 
-/// Patterns at the edges of the grammar and of the limits, with a text in which each is found.
+// Patterns at the edges of the grammar and of the limits, with a text in which each is found.
 fn accepted() -> &'static [(&'static str, &'static str)] {
     &[
         ("a{2,1}", "xa{2,1}x"),
@@ -405,7 +419,7 @@ fn repeated(alloc: Global, part: &str, times: u32) -> Result<String, AllocError>
     Ok(text)
 }
 
-/// A part between so many openings and as many closings.
+// A part between so many openings and as many closings.
 fn nested(alloc: Global, open: &str, close: &str, times: u32) -> Result<String, AllocError> {
     let mut text = repeated(alloc, open, times)?;
     text.push('a')?;
@@ -413,7 +427,8 @@ fn nested(alloc: Global, open: &str, close: &str, times: u32) -> Result<String, 
     Ok(text)
 }
 
-/// Patterns that are found nowhere in `a` alone, and take their time where walks are tried one after another.
+// Patterns that are found nowhere in `a` alone, and take their time where walks are tried one
+// after another.
 #[test]
 fn hostile_patterns_take_pattern_times_text(rt: HostRuntime) -> Result<(), Fail> {
     let alloc = rt.alloc();
@@ -464,7 +479,7 @@ fn a_copy_is_the_same_pattern(rt: HostRuntime) -> Result<(), Fail> {
     Ok(())
 }
 
-/// The ignore pattern that Yarn writes for its folder of editor files.
+// The ignore pattern that Yarn writes for its folder of editor files.
 fn ignored() -> &'static str {
     "(^(?:\\.yarn\\/sdks(?:\\/(?!\\.{1,2}(?:\\/|$))(?:(?:(?!(?:^|\\/)\\.{1,2}(?:\\/|$)).)*?)|$))$)"
 }

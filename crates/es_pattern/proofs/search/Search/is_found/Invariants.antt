@@ -1,4 +1,4 @@
-use Rattle.std.proofs.Common.{◌<◌, ◌/◌, length}
+use Rattle.std.proofs.Common.{◌+◌, ◌-◌, ◌<◌, ◌≤◌, ◌/◌, length}
 use Rattle.es_pattern.specs.declared.step.Direction.TheVariants.{Forward}
 use Rattle.es_pattern.specs.Pieces.{tree_of}
 use Rattle.es_pattern.specs.Begins.{may_begin}
@@ -11,6 +11,10 @@ abbrev pub invariant-loop-place : goal.invariant-loop-place
 invariant-loop-place l = record {
   told : AllTell l.self.pieces.now l.self.text.now l.tables.items;
   room : length l.self.program.now.steps.items / 64 < length l.alive.taken.words.items;
-  arrives : ArrivesBy Forward l.self.pieces.now l.self.text.now (may_begin (tree_of l.self.pieces.now) l.self.text.now) l.self.program.now.steps.items l.place l.alive;
-  none : none_before l.self.pieces.now l.self.text.now (may_begin (tree_of l.self.pieces.now) l.self.text.now) l.self.program.now.steps.items l.place;
+  within : l.from ≤ length l.self.text.now + 1;
+  arrives : ArrivesBy Forward l.self.pieces.now l.self.text.now (may_begin (tree_of l.self.pieces.now) l.self.text.now) l.self.program.now.steps.items l.from l.alive;
+  none : none_before l.self.pieces.now l.self.text.now (may_begin (tree_of l.self.pieces.now) l.self.text.now) l.self.program.now.steps.items l.from;
 }
+
+abbrev pub decreases-loop-place : goal.decreases-loop-place
+decreases-loop-place l = length l.self.text.now + 1 - l.from

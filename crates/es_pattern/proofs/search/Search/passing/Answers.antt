@@ -10,7 +10,7 @@ use Rattle.es_pattern.proofs.search.Search.passing.Goals.{in-TextStart, in-TextE
 pub returns-in-OneOf : goal.returns-in-OneOf
 returns-in-OneOf c =
     let stands : slice_get c.args.self.now.pieces.now c.args.number ≡ Some (OneOf c.in-OneOf.negated c.in-OneOf.ranges) = grind (arith, common_steps, gets) in
-    rw (c.passing_class.ensures, c.deref.ensures.value, c.ahead-next.ensures) (passes_class c.args.self.now.pieces.now c.args.self.now.text.now c.args.number c.args.place c.in-OneOf.negated c.in-OneOf.ranges stands c.args.direction)
+    rw (c.passing_class.ensures, c.deref.ensures.value, c.ahead-next.ensures) (passes_class c.args.self.now.pieces.now c.args.self.now.text.now c.args.number c.args.walk.now.place c.in-OneOf.negated c.in-OneOf.ranges stands c.args.walk.now.direction)
 
 pub returns-in_err-holds-in-Lookahead : goal.returns-in_err-holds-in-Lookahead
 returns-in_err-holds-in-Lookahead c =
@@ -24,4 +24,4 @@ returns c =
     let text = c.args.self.now.text.now in
     let stands : slice_get pieces c.args.number ≡ Some c.in-Some.piece.now = grind (arith, common_steps, gets) in
     rw c.stays_if.ensures
-    elim c.match-piece.branch [ in-TextStart w ↦ rw w.holds-is (passes_start pieces text c.args.number c.args.place c.args.direction (rw w.in-TextStart.is at stands)) | in-TextEnd w ↦ rw w.holds-is (passes_end pieces text c.args.number c.args.place c.args.direction (rw w.in-TextEnd.is at stands)) | in-WordBoundary w ↦ rw (w.holds-is, differs_is w.is_boundary.result w.in-WordBoundary.negated, w.is_boundary.ensures) (passes_boundary pieces text c.args.number c.args.place c.args.direction w.in-WordBoundary.negated (rw w.in-WordBoundary.is at stands)) | in-Lookahead+in_ok-holds-in-Lookahead w ↦ (let here : slice_get pieces c.args.number ≡ Some (Lookahead w.in-Lookahead.negated) = rw w.in-Lookahead.is at stands in let told = rw w.in_ok-holds-in-Lookahead.was at w.told.ensures w.in-Lookahead.negated here in rw w.holds-is (passes_lookahead pieces text c.args.number c.args.place c.args.direction w.in-Lookahead.negated w.in_ok-holds-in-Lookahead.holds here told)) | in_default-piece w ↦ rw w.holds-is (passes_other pieces text c.args.number c.args.place c.args.direction c.in-Some.piece.now stands w.in_default-piece.not-OneOf w.in_default-piece.not-TextStart w.in_default-piece.not-TextEnd w.in_default-piece.not-WordBoundary w.in_default-piece.not-Lookahead) ]
+    elim c.match-piece.branch [ in-TextStart w ↦ rw w.holds-is (passes_start pieces text c.args.number c.args.walk.now.place c.args.walk.now.direction (rw w.in-TextStart.is at stands)) | in-TextEnd w ↦ rw w.holds-is (passes_end pieces text c.args.number c.args.walk.now.place c.args.walk.now.direction (rw w.in-TextEnd.is at stands)) | in-WordBoundary w ↦ rw (w.holds-is, differs_is w.is_boundary.result w.in-WordBoundary.negated, w.is_boundary.ensures) (passes_boundary pieces text c.args.number c.args.walk.now.place c.args.walk.now.direction w.in-WordBoundary.negated (rw w.in-WordBoundary.is at stands)) | in-Lookahead+in_ok-holds-in-Lookahead w ↦ (let here : slice_get pieces c.args.number ≡ Some (Lookahead w.in-Lookahead.negated) = rw w.in-Lookahead.is at stands in let told = rw w.in_ok-holds-in-Lookahead.was at w.told.ensures w.in-Lookahead.negated here in rw w.holds-is (passes_lookahead pieces text c.args.number c.args.walk.now.place c.args.walk.now.direction w.in-Lookahead.negated w.in_ok-holds-in-Lookahead.holds here told)) | in_default-piece w ↦ rw w.holds-is (passes_other pieces text c.args.number c.args.walk.now.place c.args.walk.now.direction c.in-Some.piece.now stands w.in_default-piece.not-OneOf w.in_default-piece.not-TextStart w.in_default-piece.not-TextEnd w.in_default-piece.not-WordBoundary w.in_default-piece.not-Lookahead) ]

@@ -1,12 +1,13 @@
-use Rattle.std.proofs.Common.{◌≡◌, ℕ, Bool, length}
-use Rattle.es_pattern.specs.Alive.{SettlingBy, weight}
+use Rattle.std.proofs.Common.{◌≡◌, ◌≤◌, ℕ, Bool, length}
+use Rattle.es_pattern.specs.Alive.{SettlingBy, crowd, weight}
 use Rattle.es_pattern.proofs.search.Search.settle.Given as goal
 
 abbrev pub invariant-loop-at : goal.invariant-loop-at
 invariant-loop-at l = record {
   room : length l.alive.taken.words.items ≡ length l.initial.alive.taken.words.items;
-  kept : (begins : ℕ → Bool) → SettlingBy l.direction l.self.pieces.now l.self.text.now begins l.steps l.place l.initial.alive → SettlingBy l.direction l.self.pieces.now l.self.text.now begins l.steps l.place l.alive;
+  few : crowd (length l.walk.steps.now) l.alive ≤ crowd (length l.walk.steps.now) l.initial.alive;
+  kept : (begins : ℕ → Bool) → SettlingBy l.walk.direction l.self.pieces.now l.self.text.now begins l.walk.steps.now l.walk.place l.initial.alive → SettlingBy l.walk.direction l.self.pieces.now l.self.text.now begins l.walk.steps.now l.walk.place l.alive;
 }
 
 abbrev pub decreases-loop-at : goal.decreases-loop-at
-decreases-loop-at l = weight (length l.steps) l.alive
+decreases-loop-at l = weight (length l.walk.steps.now) l.alive
