@@ -1,10 +1,10 @@
 -- The parts of a place are those of the route that leads there.
-use Rattle.std.proofs.Common.{◌≡◌, ◌≢◌, ◌==◌, ◌&&◌, ℕ, zero, suc, Bool, true, false, not, List, [], ◌∷◌, ◌++◌, length, bytes_eq, reverse, replicate, refl, sym, ap, ◌∙◌}
+use Rattle.std.proofs.Common.{◌≡◌, ◌≢◌, ◌==◌, ℕ, zero, suc, Bool, true, false, not, List, [], ◌∷◌, length, reverse, refl, sym, ap, ◌∙◌}
 use Rattle.std.specs.List.{join_with_byte, AllByRecursion}
 use Rattle.std.proofs.lemmas.List.{nil_from_length}
 use Rattle.std.proofs.lemmas.Slice.Eq.{bytes_eq-Decides}
-use Rattle.sugar_path.specs.Path.{IsPath, has_no_slash, is_absolute, parts}
-use Rattle.sugar_path.specs.Route.{Route, Rooted, Relative, route_names, route_parts, route_text, or_dot}
+use Rattle.sugar_path.specs.Path.{has_no_slash, is_absolute, parts}
+use Rattle.sugar_path.specs.Route.{Route, Rooted, Relative, route_parts, route_text, or_dot}
 use Rattle.sugar_path.specs.Reading.{IsPart, IsPlaceOf, is_start}
 use Rattle.sugar_path.proofs.Bools.{and_left}
 use Rattle.sugar_path.proofs.Heres.{here-route}

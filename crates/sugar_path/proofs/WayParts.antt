@@ -1,8 +1,6 @@
 -- The way from one list of parts to another.
-use Rattle.std.proofs.Common.{◌||◌, not, reverse, ◌≡◌, ◌≢◌, ℕ, zero, suc, ◌+◌, ◌-◌, ◌<◌, ◌≤◌, Bool, true, false, cond, List, [], ◌∷◌, ◌++◌, length, take, drop, map, bytes_eq, replicate, get_or, take_all, refl, sym, ap, ◌∙◌, subst, append_assoc, append-nil, arith, length-drop}
-use denote.Ref.{Bor}
-use Rattle.std.proofs.lemmas.List.{map-append, length-map, take_more, replicate_more}
-use Rattle.std.proofs.lemmas.List.Sums.{common_prefix_len-le}
+use Rattle.std.proofs.Common.{◌||◌, not, reverse, ◌≡◌, ◌≢◌, ℕ, zero, suc, ◌+◌, ◌-◌, Bool, true, false, cond, List, [], ◌∷◌, ◌++◌, length, drop, bytes_eq, replicate, refl, sym, ap, ◌∙◌, append_assoc, arith}
+use Rattle.std.proofs.lemmas.List.{replicate_more}
 use Rattle.sugar_path.specs.Path.{IsPath, with_slash, ends_in_slash, is_absolute, join, parts}
 use Rattle.sugar_path.specs.Route.{Route, Rooted, Relative, route_names, route_parts, is_rooted, route_of}
 use Rattle.sugar_path.specs.Relative.{between, same_start, way, needs_folder, relative_from}
@@ -13,7 +11,7 @@ use Rattle.sugar_path.proofs.RouteTexts.{joined-push, with_slash-joined, replica
 use Rattle.sugar_path.proofs.Parts.{HasNoSlash, parts-some}
 use Rattle.sugar_path.proofs.Placed.{route_of-rooted, parts-join}
 use Rattle.std.proofs.lemmas.List.Splits.{join_with_byte-slice_split}
-use Rattle.std.specs.List.{drop-map, common_prefix_len, prefix_len, zip, join_with_byte, AllByRecursion}
+use Rattle.std.specs.List.{common_prefix_len, prefix_len, zip, join_with_byte, AllByRecursion}
 
 -- how many pairs pass a test of both
 pub prefix_len-zip : {X Y : Type 0} (e : X → Y → Bool) (xs : List X) (ys : List Y) → prefix_len (λ p. e p.0 p.1) (zip xs ys) ≡ common_prefix_len e xs ys

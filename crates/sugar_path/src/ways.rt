@@ -17,7 +17,8 @@ use crate::reading::{is_absolute, place_below, place_of, push_part};
 use memchr::memrchr;
 use std::alloc::{AllocError, Global};
 
-/// The relative path from a base to a target, which are read from a folder where they don't begin at one.
+/// The relative path from a base to a target, which are read from a folder where they don't begin
+/// at one.
 pub(crate) fn relative_of(
     alloc: Global,
     cwd: &[u8],
@@ -57,10 +58,11 @@ fn place_alone<'a>(alloc: Global, path: &'a [u8]) -> Result<PathCow<'a>, AllocEr
     Ok(PathCow::Owned(PathBuf::from(place_of(alloc, path)?)))
 }
 
-// The way from a base to a target, both places: one `..` for each part of the base that they don't share, then what is
-// left of the target.
+// The way from a base to a target, both places: one `..` for each part of the base that they
+// don't share, then what is left of the target.
 fn way_between(alloc: Global, base: &[u8], target: &[u8]) -> Result<Vec<u8>, AllocError>
-    ensures { (r s : Route) → IsPlaceOf r base.now → IsPlaceOf s target.now → IfOk result (λ v. v.items ≡ join_with_byte 47 (between (route_parts r) (route_parts s))) }
+    ensures { (r s : Route) → IsPlaceOf r base.now → IsPlaceOf s target.now →
+        IfOk result (λ v. v.items ≡ join_with_byte 47 (between (route_parts r) (route_parts s))) }
 {
     let (left, rest) = past_shared(parts_of_place(base), parts_of_place(target));
     let ups = parts_left(left);
@@ -92,7 +94,8 @@ fn past_shared<'a, 'b>(
     base: Option<&'a [u8]>,
     target: Option<&'b [u8]>,
 ) -> (Option<&'a [u8]>, Option<&'b [u8]>)
-    ensures way { between (parts_if result.0) (parts_if result.1) ≡ between (parts_if base.entry) (parts_if target.entry) }
+    ensures way { between (parts_if result.0) (parts_if result.1) ≡
+        between (parts_if base.entry) (parts_if target.entry) }
     ensures apart { common_prefix_len bytes_eq (parts_if result.1) (parts_if result.0) ≡ 0 }
 {
     let Some(from) = base else {
@@ -118,7 +121,8 @@ fn past_shared<'a, 'b>(
 
 // What is left of a base and a target behind the last slash in the text that both begin with.
 fn past_shared_text<'a, 'b>(base: &'a [u8], target: &'b [u8]) -> (&'a [u8], &'b [u8])
-    ensures { between (parts result.0.now) (parts result.1.now) ≡ between (parts base.now) (parts target.now) }
+    ensures { between (parts result.0.now) (parts result.1.now) ≡
+        between (parts base.now) (parts target.now) }
 {
     match last_shared_slash(base, target) {
         None => (base, target),

@@ -1,9 +1,7 @@
-use Rattle.std.proofs.Common.{◌≡◌, drop, take, ◌+◌, sym, ap, ◌∙◌}
+use Rattle.std.proofs.Common.{drop, take, ◌+◌, sym, ap, ◌∙◌}
 use Rattle.std.specs.Prelude.{Some}
 use Rattle.std.proofs.lemmas.Bool.Decides.{Decides-eqb, not_from_Decides}
-use Rattle.sugar_path.specs.Path.{parts}
 use Rattle.sugar_path.specs.Parent.{or_slash, parent_of}
-use Rattle.sugar_path.specs.ParentEnd.{until_last}
 use Rattle.sugar_path.proofs.ParentEnds.{last-cut, uncut-parts, parent-lone, parent-cut, lone-empty, lone-some}
 use Rattle.sugar_path.proofs.parents.parent.Goals as goal
 

@@ -1,4 +1,4 @@
-use Rattle.std.proofs.Common.{◌≡◌, ◌+◌, ◌<◌, true, false, length, drop, take, sym, ap, ◌∙◌, arith}
+use Rattle.std.proofs.Common.{◌≡◌, ◌+◌, true, false, drop, take, sym, ap, ◌∙◌, arith}
 use Rattle.std.proofs.lemmas.List.{length-take}
 use Rattle.sugar_path.specs.Parent.{is_silent}
 use Rattle.sugar_path.proofs.ParentEnds.{last-cut, rest-lent, uncut-parts, until-silent, until-told, until-alone}

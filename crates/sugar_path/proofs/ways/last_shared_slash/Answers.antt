@@ -1,4 +1,3 @@
-use Rattle.std.proofs.Common.{sym}
 use Rattle.sugar_path.proofs.SharedTexts.{shared-last, shared-within}
 use Rattle.sugar_path.proofs.ways.last_shared_slash.Goals as goal
 

@@ -1,4 +1,4 @@
-use Rattle.std.proofs.Common.{◌==◌, ap, ◌∙◌, rules, length}
+use Rattle.std.proofs.Common.{◌==◌, rules}
 use Rattle.std.proofs.lemmas.Iterator.Consumers.{count_from_yields_List}
 use Rattle.std.proofs.lemmas.Iterator.Splits.{YieldsList-from_slice_split}
 use Rattle.sugar_path.proofs.ways.parts_left.Goals as goal

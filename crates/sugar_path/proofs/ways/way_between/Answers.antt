@@ -1,4 +1,4 @@
-use Rattle.std.proofs.Common.{◌≡◌, ap, sym, ◌∙◌, arith}
+use Rattle.std.proofs.Common.{◌≡◌, ap, ◌∙◌, arith}
 use Rattle.sugar_path.proofs.WayParts.{way-dots}
 use Rattle.sugar_path.proofs.SharedTexts.{way-written, rest-written, none-written}
 use Rattle.sugar_path.proofs.ways.way_between.Goals as goal
