@@ -119,7 +119,7 @@ not-dot ((c ∷ a) ∷ x ∷ xs) names some e =
     let tail : a ++ 47 ∷ join_with_byte 47 (x ∷ xs) ≡ [] = cc in
     absurd (omega (arith, ap length tail, length-append a (47 ∷ join_with_byte 47 (x ∷ xs))))
 
-here-route : (r : Route) → IsPath (route_names r) → bytes_eq (or_dot (route_text r)) (46 ∷ []) ≡ is_start r
+pub here-route : (r : Route) → IsPath (route_names r) → bytes_eq (or_dot (route_text r)) (46 ∷ []) ≡ is_start r
 unfolding route_text
 here-route (Rooted p) h = refl
 here-route (Relative zero []) h = refl

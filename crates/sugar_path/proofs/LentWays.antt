@@ -1,18 +1,17 @@
 -- Paths that are in order as they stand, and the relative path at the end of a target.
-use Rattle.std.proofs.Common.{◌≡◌, ◌≢◌, ◌==◌, ◌&&◌, ◌||◌, ◌⊎◌, inl, inr, ℕ, zero, suc, Bool, true, false, not, cond, List, [], ◌∷◌, ◌++◌, length, bytes_eq, reverse, replicate, refl, sym, ap, ◌∙◌, subst, append_assoc, append-nil, drop, arith}
+use Rattle.std.proofs.Common.{◌≡◌, ◌≢◌, ◌==◌, ◌&&◌, ◌⊎◌, inl, inr, ℕ, zero, suc, Bool, true, false, not, cond, List, [], ◌∷◌, ◌++◌, length, bytes_eq, reverse, replicate, refl, sym, ap, ◌∙◌, subst, append-nil}
 use Rattle.std.specs.Prelude.{◌↔◌, IsTrue, Option, Some, None, MatchOption, option_map}
 use denote.Ref.{Bor}
 use Rattle.std.specs.Str.{IsUtf8}
-use Rattle.std.specs.List.{AllByRecursion, join_with_byte, common_prefix_len}
-use Rattle.std.proofs.lemmas.Bool.Decides.{eqb_tells, Decides-eqb}
+use Rattle.std.specs.List.{join_with_byte}
+use Rattle.std.proofs.lemmas.Bool.Decides.{Decides-eqb}
 use Rattle.std.proofs.lemmas.List.{append_cancel_left, reverse-append, nil_from_length}
 use Rattle.std.proofs.lemmas.Slice.Eq.{bytes_eq-Decides}
-use Rattle.sugar_path.specs.Path.{Path, IsName, IsPath, IsSteps, steps, text_of, names_in, is_absolute, parts, by_parts, path_in, ends_in_slash, below}
+use Rattle.sugar_path.specs.Path.{Path, IsPath, IsSteps, steps, text_of, names_in, is_absolute, parts, by_parts, path_in, ends_in_slash, below}
 use Rattle.sugar_path.specs.Route.{Rooted, route_of, route_text, place, normal}
 use Rattle.sugar_path.specs.Relative.{between, way, needs_folder, same_start, relative_from}
 use Rattle.sugar_path.specs.Lent.{without_last_slashes, IsInOrder, IsWayLent}
 use Rattle.sugar_path.specs.LentParts.{IsRestBehind}
-use Rattle.sugar_path.proofs.Bools.{and_left, and_right}
 use Rattle.sugar_path.proofs.Paths.{IsSteps-steps, names_in-steps}
 use Rattle.sugar_path.proofs.Parts.{parts-slash, by_parts-append, IsPath-path_in}
 use Rattle.sugar_path.proofs.Below.{below-tells, below-from_text, steps-append}

@@ -8,7 +8,6 @@ pub mod RouteTexts
 pub mod Placed
 pub mod ParentEnds
 pub mod Heres
-pub mod StepParts
 pub mod WayParts
 pub mod Twice
 pub mod Journeys
@@ -16,3 +15,5 @@ pub mod Pieces
 pub mod Agreed
 pub mod LentWays
 pub mod Lanes
+pub mod PlaceParts
+pub mod SharedTexts

@@ -1,255 +1,127 @@
--- Where a path's components end.
-use Rattle.std.proofs.Common.{◌==◌, ◌⊎◌, inl, inr, ◌≡◌, ◌≢◌, ◌&&◌, ◌||◌, ℕ, ◌+◌, ◌<◌, ◌≤◌, get_or, drop, map, Bool, true, false, not, cond, List, [], ◌∷◌, ◌++◌, length, take, refl, sym, ap, ◌∙◌, subst, append_assoc, append-nil, arith, length-append}
-use denote.Ref.{Bor}
-use Rattle.std.specs.Prelude.{Option, Some, None}
+-- The parent of a path, found from its end.
+use Rattle.std.proofs.Common.{◌≡◌, ◌≢◌, ◌&&◌, ◌+◌, ◌-◌, ℕ, Bool, true, false, cond, List, [], ◌∷◌, ◌++◌, length, take, drop, refl, sym, ap, ◌∙◌, arith, length-drop}
+use Rattle.std.specs.Prelude.{Some, None}
 use Rattle.std.specs.List.{join_with_byte, AllByRecursion}
-use Rattle.std.proofs.lemmas.List.{map-append, length-map, nil_from_length}
-use Rattle.std.proofs.Math.Seq.{take-append_seam}
-use Rattle.std.proofs.lemmas.Bool.Decides.{eqb_tells}
+use Rattle.std.proofs.lemmas.Bool.Decides.{Decides-eqb}
+use Rattle.std.proofs.lemmas.List.{take_all}
 use Rattle.std.proofs.lemmas.List.Splits.{join_with_byte-slice_split}
-use Rattle.sugar_path.specs.Path.{parts, has_no_slash, is_absolute}
-use Rattle.sugar_path.proofs.Bools.{and_left}
-use Rattle.sugar_path.proofs.Parts.{seen-whole, HasNoSlash, parts-no_slash, parts-some as parts_nonempty}
-use Rattle.sugar_path.specs.Parent.{is_silent, is_nil, trimmed, but_last, parent_by, parent_of_parts, parent_of, or_slash}
-use Rattle.sugar_path.specs.ParentEnd.{end_by, parent_end}
+use Rattle.memchr.specs.Find.{IsLastByte, is_byte}
+use Rattle.sugar_path.specs.Path.{parts}
+use Rattle.sugar_path.specs.Parent.{is_silent, is_nil, trimmed, but_last, or_slash, parent_by, parent_of_parts, parent_of}
+use Rattle.sugar_path.specs.ParentEnd.{until_last}
+use Rattle.sugar_path.proofs.FirstParts.{parts-uncut}
+use Rattle.sugar_path.proofs.Paths.{cut-is, no_slash-after}
+use Rattle.sugar_path.proofs.Parts.{HasNoSlash, parts-some, parts-no_slash, parts-slash, parts-name}
+use Rattle.sugar_path.proofs.Placed.{parts-join}
 
--- how far the parts passed so far reach: the next part's place, the end of the last component, and the parent's end
-abbrev pub HasEnds : List (List ℕ) → ℕ → ℕ → Option ℕ → Type 0
-HasEnds [] at end parent = (at ≡ 0) × (end ≡ 0) × (parent ≡ None)
-HasEnds (first ∷ rest) at end parent =
-    (at ≡ length (join_with_byte 47 (first ∷ rest)) + 1) × (end ≡ length (join_with_byte 47 (first ∷ trimmed rest))) × (parent ≡ end_by first (trimmed rest))
+-- ---- a text at its last slash
+pub record IsCut (t front last : List ℕ) : Type 0 where
+  pub whole : t ≡ front ++ 47 ∷ last
+  pub slash : HasNoSlash last
 
+pub last-cut : (t : List ℕ) (k : ℕ) → IsLastByte (is_byte 47) t (Some k) → IsCut t (take k t) (drop (k + 1) t)
+last-cut t k last = record {
+  whole = cut-is t k last.0.high ((Decides-eqb _ 47).0 last.1);
+  slash = no_slash-after t k (λ i above within is. last.0.after i (omega (arith, above)) within ((Decides-eqb _ 47).1 is));
+}
+
+-- the rest behind it as it is lent
+pub rest-lent : (t : List ℕ) (k : ℕ) → take (length t - (k + 1)) (drop (k + 1) t) ≡ drop (k + 1) t
+rest-lent t k = take_all (length t - (k + 1)) (drop (k + 1) t) (omega (arith, length-drop (k + 1) t))
+
+pub uncut-parts : (t : List ℕ) → IsLastByte (is_byte 47) t None → parts t ≡ t ∷ []
+uncut-parts t none = parts-uncut t (λ k lt is. none k (omega arith) lt is)
+
+cut-parts : (t front last : List ℕ) → IsCut t front last → parts t ≡ parts front ++ last ∷ []
+cut-parts t front last h = ap parts h.whole ∙ parts-slash front last ∙ ap (λ ps. parts front ++ ps) (parts-name last h.slash)
+
+-- ---- a last part that is silent says nothing
 trimmed-silent : (xs : List (List ℕ)) (x : List ℕ) → is_silent x ≡ true → trimmed (xs ++ x ∷ []) ≡ trimmed xs
 trimmed-silent [] x h = rw h refl
-trimmed-silent (y ∷ xs) x h = rw (trimmed-silent xs x h) refl
+trimmed-silent (y ∷ xs) x h = ap (λ zs. cond (is_nil zs && is_silent y) [] (y ∷ zs)) (trimmed-silent xs x h)
 
-trimmed-component : (xs : List (List ℕ)) (x : List ℕ) → is_silent x ≡ false → trimmed (xs ++ x ∷ []) ≡ xs ++ x ∷ []
-trimmed-component [] x h = rw h refl
-trimmed-component (y ∷ xs) x h = rw (trimmed-component xs x h) (by_some xs)
+trimmed-told : (xs : List (List ℕ)) (x : List ℕ) → is_silent x ≡ false → trimmed (xs ++ x ∷ []) ≡ xs ++ x ∷ []
+trimmed-told [] x h = rw h refl
+trimmed-told (y ∷ xs) x h = ap (λ zs. cond (is_nil zs && is_silent y) [] (y ∷ zs)) (trimmed-told xs x h) ∙ some xs
   where
-    by_some : (xs : List (List ℕ)) → cond (is_nil (xs ++ x ∷ []) && is_silent y) [] (y ∷ (xs ++ x ∷ [])) ≡ y ∷ (xs ++ x ∷ [])
-    by_some [] = refl
-    by_some (z ∷ xs) = refl
+    some : (xs : List (List ℕ)) → cond (is_nil (xs ++ x ∷ []) && is_silent y) [] (y ∷ (xs ++ x ∷ [])) ≡ y ∷ (xs ++ x ∷ [])
+    some [] = refl
+    some (z ∷ xs) = refl
 
-but_last-push : (xs : List (List ℕ)) (x : List ℕ) → but_last (xs ++ x ∷ []) ≡ xs
-but_last-push [] x = refl
-but_last-push (y ∷ []) x = refl
-but_last-push (y ∷ z ∷ xs) x = ap (λ ys. y ∷ ys) (but_last-push (z ∷ xs) x)
-
-end_by-push : (first : List ℕ) (xs : List (List ℕ)) (x : List ℕ) → end_by first (xs ++ x ∷ []) ≡ Some (length (join_with_byte 47 (first ∷ trimmed xs)))
-end_by-push first [] x = refl
-end_by-push first (y ∷ xs) x = ap (λ ys. Some (length (join_with_byte 47 (first ∷ trimmed ys)))) (but_last-push (y ∷ xs) x)
-
-pub join-last : (first : List ℕ) (xs : List (List ℕ)) (x : List ℕ) → length (join_with_byte 47 (first ∷ (xs ++ x ∷ []))) ≡ length (join_with_byte 47 (first ∷ xs)) + 1 + length x
-join-last first [] x = omega (arith, length-append first (47 ∷ x))
-join-last first (y ∷ xs) x = omega (arith, join-last y xs x, length-append first (47 ∷ join_with_byte 47 (y ∷ (xs ++ x ∷ []))), length-append first (47 ∷ join_with_byte 47 (y ∷ xs)))
-
--- the first part
-HasEnds-first : (seen : List (List ℕ)) (x : List ℕ) (at end stop : ℕ) (parent : Option ℕ) → HasEnds seen at end parent → at ≡ 0 → stop ≡ at + length x → HasEnds (seen ++ x ∷ []) (stop + 1) stop parent
-HasEnds-first [] x at end stop parent h zero is = (omega arith, omega arith, h.2)
-HasEnds-first (first ∷ rest) x at end stop parent h zero is = absurd (omega (arith, h.0))
-
--- a part behind it that is no component
-HasEnds-silent : (seen : List (List ℕ)) (x : List ℕ) (at end stop : ℕ) (parent : Option ℕ) → HasEnds seen at end parent → at ≢ 0 → is_silent x ≡ true → stop ≡ at + length x → HasEnds (seen ++ x ∷ []) (stop + 1) end parent
-HasEnds-silent [] x at end stop parent h some silent is = absurd (some h.0)
-HasEnds-silent (first ∷ rest) x at end stop parent h some silent is =
-    (omega (arith, join-last first rest x, h.0), h.1 ∙ ap (λ ys. length (join_with_byte 47 (first ∷ ys))) (sym (trimmed-silent rest x silent)), h.2 ∙ ap (end_by first) (sym (trimmed-silent rest x silent)))
-
--- a component
-HasEnds-component : (seen : List (List ℕ)) (x : List ℕ) (at end stop : ℕ) (parent : Option ℕ) → HasEnds seen at end parent → at ≢ 0 → is_silent x ≡ false → stop ≡ at + length x → HasEnds (seen ++ x ∷ []) (stop + 1) stop (Some end)
-HasEnds-component [] x at end stop parent h some loud is = absurd (some h.0)
-HasEnds-component (first ∷ rest) x at end stop parent h some loud is = (
-  omega (arith, join-last first rest x, h.0),
-  omega (arith, join-last first rest x, h.0) ∙ ap (λ ys. length (join_with_byte 47 (first ∷ ys))) (sym (trimmed-component rest x loud)),
-  ap Some h.1 ∙ sym (end_by-push first rest x) ∙ ap (end_by first) (sym (trimmed-component rest x loud)),
-)
-
--- ---- the parts of a text reach no further than the text
-join-append : (first : List ℕ) (xs ys : List (List ℕ)) → (u : List ℕ) × (join_with_byte 47 (first ∷ (xs ++ ys)) ≡ join_with_byte 47 (first ∷ xs) ++ u)
-join-append first [] [] = ([], sym (append-nil first))
-join-append first [] (y ∷ ys) = (47 ∷ join_with_byte 47 (y ∷ ys), refl)
-join-append first (x ∷ xs) ys =
-    let w = join-append x xs ys in
-    (w.0, ap (λ t. first ++ 47 ∷ t) w.1 ∙ sym (append_assoc first (47 ∷ join_with_byte 47 (x ∷ xs)) w.0))
-
-join-front : (xs ys : List (List ℕ)) → length (join_with_byte 47 xs) ≤ length (join_with_byte 47 (xs ++ ys))
-join-front [] ys = omega arith
-join-front (x ∷ xs) ys =
-    let w = join-append x xs ys in
-    omega (arith, ap length w.1, length-append (join_with_byte 47 (x ∷ xs)) w.0)
-
-seen-reaches : (t : List ℕ) (seen : List (List ℕ)) (x : List ℕ) → seen ≡ take (length seen) (parts t) → (length seen < length (parts t)) × (x ≡ get_or (parts t) (length seen) x) → length (join_with_byte 47 (seen ++ x ∷ [])) ≤ length t
-seen-reaches t seen x so_far turn =
-    omega (arith, join-front (seen ++ x ∷ []) (drop (length seen + 1) (parts t)), ap (λ xs. length (join_with_byte 47 xs)) (seen-whole (parts t) seen x so_far turn), ap length (join_with_byte-slice_split 47 t))
-
-ends-fit : (t : List ℕ) (seen : List (List ℕ)) (x : List ℕ) (at end : ℕ) (parent : Option ℕ) → HasEnds seen at end parent → seen ≡ take (length seen) (parts t) → (length seen < length (parts t)) × (x ≡ get_or (parts t) (length seen) x) → at + length x ≤ length t
-ends-fit t [] x at end parent h so_far turn = omega (arith, seen-reaches t [] x so_far turn, h.0)
-ends-fit t (first ∷ rest) x at end parent h so_far turn = omega (arith, seen-reaches t (first ∷ rest) x so_far turn, join-last first rest x, h.0)
-
-pub parent-seen : (xs : List (List ℕ)) (at end : ℕ) (parent : Option ℕ) → HasEnds xs at end parent → parent ≡ parent_end xs
-parent-seen [] at end parent h = h.2
-parent-seen (first ∷ rest) at end parent h = h.2
-
--- ---- the text as far as that end
-trimmed-front : (xs : List (List ℕ)) → (ys : List (List ℕ)) × (xs ≡ trimmed xs ++ ys)
-trimmed-front [] = ([], refl)
-trimmed-front (x ∷ xs) = by_test (is_nil (trimmed xs) && is_silent x) (trimmed-front xs)
+pub until-silent : (t front last : List ℕ) → IsCut t front last → is_silent last ≡ true → until_last (parts front) ≡ until_last (parts t)
+until-silent t front last h silent = by_parts (parts front) (parts-some front) (cut-parts t front last h)
   where
-    by_test : (b : Bool) → ((ys : List (List ℕ)) × (xs ≡ trimmed xs ++ ys)) → (ys : List (List ℕ)) × (x ∷ xs ≡ cond b [] (x ∷ trimmed xs) ++ ys)
-    by_test true w = (x ∷ xs, refl)
-    by_test false w = (w.0, ap (λ zs. x ∷ zs) w.1)
+    by_parts : (ps : List (List ℕ)) → ps ≢ [] → parts t ≡ ps ++ last ∷ [] → until_last ps ≡ until_last (parts t)
+    by_parts [] some is = absurd (some refl)
+    by_parts (p ∷ ps) some is = sym (ap until_last is ∙ ap (λ xs. join_with_byte 47 (p ∷ xs)) (trimmed-silent ps last silent))
 
-but_last-front : (xs : List (List ℕ)) → (ys : List (List ℕ)) × (xs ≡ but_last xs ++ ys)
-but_last-front [] = ([], refl)
-but_last-front (x ∷ []) = (x ∷ [], refl)
-but_last-front (x ∷ y ∷ xs) = let w = but_last-front (y ∷ xs) in (w.0, ap (λ zs. x ∷ zs) w.1)
-
--- what stands up to the parent's end
-abbrev above : List ℕ → List (List ℕ) → List ℕ
-above first rest = join_with_byte 47 (first ∷ trimmed (but_last (trimmed rest)))
-
-above-front : (first : List ℕ) (rest : List (List ℕ)) → (u : List ℕ) × (join_with_byte 47 (first ∷ rest) ≡ above first rest ++ u)
-above-front first rest =
-    let a = trimmed-front rest in
-    let b = but_last-front (trimmed rest) in
-    let d = trimmed-front (but_last (trimmed rest)) in
-    let whole : rest ≡ trimmed (but_last (trimmed rest)) ++ (d.0 ++ b.0 ++ a.0) =
-    a.1 ∙ ap (λ zs. zs ++ a.0) (b.1 ∙ ap (λ zs. zs ++ b.0) d.1) ∙ append_assoc (trimmed (but_last (trimmed rest)) ++ d.0) b.0 a.0 ∙ append_assoc (trimmed (but_last (trimmed rest))) d.0 (b.0 ++ a.0) ∙ ap (λ zs. trimmed (but_last (trimmed rest)) ++ zs) (sym (append_assoc d.0 b.0 a.0)) in
-    let w = join-append first (trimmed (but_last (trimmed rest))) (d.0 ++ b.0 ++ a.0) in
-    (w.0, ap (λ zs. join_with_byte 47 (first ∷ zs)) whole ∙ w.1)
-
--- ---- what the end tells of the parent
-parts-some : (t : List ℕ) → (first : List ℕ) × (rest : List (List ℕ)) × (parts t ≡ first ∷ rest) × (t ≡ join_with_byte 47 (first ∷ rest)) × (has_no_slash first ≡ true)
-parts-some t = by_parts (parts t) refl (parts-no_slash t)
+pub until-told : (t front last : List ℕ) → IsCut t front last → is_silent last ≡ false → t ≡ until_last (parts t)
+until-told t front last h told = by_parts (parts front) (parts-some front) (cut-parts t front last h)
   where
-    by_parts : (ps : List (List ℕ)) → parts t ≡ ps → AllByRecursion HasNoSlash ps → (first : List ℕ) × (rest : List (List ℕ)) × (parts t ≡ first ∷ rest) × (t ≡ join_with_byte 47 (first ∷ rest)) × (has_no_slash first ≡ true)
-    by_parts [] e h = absurd (parts_nonempty t e)
-    by_parts (first ∷ rest) e h = (first, rest, e, sym (join_with_byte-slice_split 47 t) ∙ ap (join_with_byte 47) e, h.0)
+    by_parts : (ps : List (List ℕ)) → ps ≢ [] → parts t ≡ ps ++ last ∷ [] → t ≡ until_last (parts t)
+    by_parts [] some is = absurd (some refl)
+    by_parts (p ∷ ps) some is =
+        sym (join_with_byte-slice_split 47 t)
+        ∙ ap (join_with_byte 47) is
+        ∙ sym (ap until_last is ∙ ap (λ xs. join_with_byte 47 (p ∷ xs)) (trimmed-told ps last told))
 
--- nothing stands in front of the first slash of a root and of the empty path alone
-first-empty : (first : List ℕ) (rest : List (List ℕ)) → has_no_slash first ≡ true → (length (join_with_byte 47 (first ∷ rest)) ≡ 0) ⊎ (is_absolute (join_with_byte 47 (first ∷ rest)) ≡ true) → first ≡ []
-first-empty [] rest h cases = refl
-first-empty (c ∷ first) [] h (inl e) = absurd (omega arith)
-first-empty (c ∷ first) (r ∷ rest) h (inl e) = absurd (omega arith)
-first-empty (c ∷ first) [] h (inr e) = absurd (let f : not (c == 47) ≡ true = and_left (not (c == 47)) (has_no_slash first) h in cc)
-first-empty (c ∷ first) (r ∷ rest) h (inr e) = absurd (let f : not (c == 47) ≡ true = and_left (not (c == 47)) (has_no_slash first) h in cc)
+pub until-alone : (t : List ℕ) → parts t ≡ t ∷ [] → t ≡ until_last (parts t)
+until-alone t is = sym (ap until_last is)
 
--- ---- the same at the parts that a loop passed
-pub seen-fit : (t : List ℕ) (seen : List (Bor (List ℕ))) (x : Bor (List ℕ)) (at end : ℕ) (parent : Option ℕ) → HasEnds (map (λ y. y.now) seen) at end parent → map (λ y. y.now) seen ≡ take (length seen) (parts t) → (length seen < length (parts t)) × (x.now ≡ get_or (parts t) (length seen) x.now) → at + length x.now ≤ length t
-seen-fit t seen x at end parent h so_far turn =
-    let long : length (map (λ (y : Bor (List ℕ)). y.now) seen) ≡ length seen = length-map seen (λ y. y.now) in
-    ends-fit t (map (λ y. y.now) seen) x.now at end parent h (rw long so_far) (rw long turn)
+-- ---- the parts as far as the last component
+trimmed-no_slash : (xs : List (List ℕ)) → AllByRecursion HasNoSlash xs → AllByRecursion HasNoSlash (trimmed xs)
+trimmed-no_slash [] h = tt
+trimmed-no_slash (x ∷ xs) h = by_test (is_nil (trimmed xs) && is_silent x) (trimmed-no_slash xs h.1)
+  where
+    by_test : (b : Bool) → AllByRecursion HasNoSlash (trimmed xs) → AllByRecursion HasNoSlash (cond b [] (x ∷ trimmed xs))
+    by_test true rest = tt
+    by_test false rest = (h.0, rest)
 
-pub seen-first : (seen : List (Bor (List ℕ))) (x : Bor (List ℕ)) (at end last : ℕ) (parent next : Option ℕ) → HasEnds (map (λ y. y.now) seen) at end parent → at ≡ 0 → last ≡ at + length x.now → next ≡ parent → HasEnds (map (λ y. y.now) (seen ++ x ∷ [])) (at + length x.now + 1) last next
-seen-first seen x at end last parent next h zero is same = rw (map-append (λ y. y.now) seen (x ∷ []), same, is) (HasEnds-first (map (λ y. y.now) seen) x.now at end (at + length x.now) parent h zero refl)
+parent-by : (first : List ℕ) (xs : List (List ℕ)) (x : List ℕ) → parent_by first (xs ++ x ∷ []) ≡ Some (or_slash (join_with_byte 47 (first ∷ trimmed xs)))
+parent-by first xs x = by_case first xs ∙ ap (λ ys. Some (or_slash (join_with_byte 47 (first ∷ trimmed ys)))) (but xs)
+  where
+    but : (xs : List (List ℕ)) → but_last (xs ++ x ∷ []) ≡ xs
+    but [] = refl
+    but (y ∷ []) = refl
+    but (y ∷ z ∷ xs) = ap (λ ys. y ∷ ys) (but (z ∷ xs))
 
-pub seen-silent : (seen : List (Bor (List ℕ))) (x : Bor (List ℕ)) (at end last : ℕ) (parent next : Option ℕ) → HasEnds (map (λ y. y.now) seen) at end parent → at ≢ 0 → is_silent x.now ≡ true → last ≡ end → next ≡ parent → HasEnds (map (λ y. y.now) (seen ++ x ∷ [])) (at + length x.now + 1) last next
-seen-silent seen x at end last parent next h some silent is same = rw (map-append (λ y. y.now) seen (x ∷ []), same, is) (HasEnds-silent (map (λ y. y.now) seen) x.now at end (at + length x.now) parent h some silent refl)
+    by_case : (first : List ℕ) (xs : List (List ℕ)) → parent_by first (xs ++ x ∷ []) ≡ Some (or_slash (join_with_byte 47 (first ∷ trimmed (but_last (xs ++ x ∷ [])))))
+    by_case [] [] = refl
+    by_case [] (y ∷ xs) = refl
+    by_case (c ∷ first) [] = refl
+    by_case (c ∷ first) (y ∷ xs) = refl
 
-pub seen-component : (seen : List (Bor (List ℕ))) (x : Bor (List ℕ)) (at end last : ℕ) (parent next : Option ℕ) → HasEnds (map (λ y. y.now) seen) at end parent → at ≢ 0 → is_silent x.now ≡ false → last ≡ at + length x.now → next ≡ Some end → HasEnds (map (λ y. y.now) (seen ++ x ∷ [])) (at + length x.now + 1) last next
-seen-component seen x at end last parent next h some loud is same = rw (map-append (λ y. y.now) seen (x ∷ []), same, is) (HasEnds-component (map (λ y. y.now) seen) x.now at end (at + length x.now) parent h some loud refl)
-
--- ---- the parent, by its end
-parent_of-parts : (t first : List ℕ) (rest q : List (List ℕ)) → parts t ≡ first ∷ rest → trimmed rest ≡ q → parent_of t ≡ parent_by first q
+-- where one part is left
+pub parent-lone : (t text : List ℕ) → text ≡ until_last (parts t) → parts text ≡ text ∷ [] → parent_of t ≡ parent_by text []
 unfolding parent_of
-parent_of-parts t first rest q e trim = ap parent_of_parts e ∙ ap (parent_by first) trim
-
-parent_end-parts : (t first : List ℕ) (rest q : List (List ℕ)) → parts t ≡ first ∷ rest → trimmed rest ≡ q → parent_end (parts t) ≡ end_by first q
-parent_end-parts t first rest q e trim = ap parent_end e ∙ ap (end_by first) trim
-
--- a text that begins with no byte before its end or its first slash
-empty-first : (rest : List (List ℕ)) → (length (join_with_byte 47 ([] ∷ rest)) ≡ 0) ⊎ (is_absolute (join_with_byte 47 ([] ∷ rest)) ≡ true)
-empty-first [] = inl refl
-empty-first (r ∷ rest) = inr refl
-
-root-cases : (t : List ℕ) → ((length t == 0) || is_absolute t) ≡ true → (length t ≡ 0) ⊎ (is_absolute t ≡ true)
-root-cases t h = by_test (eqb_tells (length t) 0) h
+parent-lone t text is alone = by_parts (parts t) (parts-no_slash t) (parts-some t) is
   where
-    by_test : (((length t == 0) ≡ true) × (length t ≡ 0)) ⊎ (((length t == 0) ≡ false) × (length t ≢ 0)) → ((length t == 0) || is_absolute t) ≡ true → (length t ≡ 0) ⊎ (is_absolute t ≡ true)
-    by_test (inl w) h = inl w.1
-    by_test (inr w) h = inr (rw w.0 at h)
+    by_parts : (ps : List (List ℕ)) → AllByRecursion HasNoSlash ps → ps ≢ [] → text ≡ until_last ps → parent_of_parts ps ≡ parent_by text []
+    by_parts [] slash some e = absurd (some refl)
+    by_parts (p ∷ ps) slash some e =
+        let both : p ∷ trimmed ps ≡ text ∷ [] = sym (parts-join p (trimmed ps) (slash.0, trimmed-no_slash ps slash.1)) ∙ ap parts (sym e) ∙ alone in
+        let first : p ≡ text = cc in
+        let rest : trimmed ps ≡ [] = cc in
+        ap (parent_by p) rest ∙ ap (λ x. parent_by x []) first
 
-other-cases : (t : List ℕ) → ((length t == 0) || is_absolute t) ≡ false → (length t ≢ 0) × (is_absolute t ≡ false)
-other-cases t h = by_test (eqb_tells (length t) 0) h
+-- and where the text is cut at its last slash
+pub parent-cut : (t text front last : List ℕ) → text ≡ until_last (parts t) → IsCut text front last → parent_of t ≡ Some (or_slash (until_last (parts front)))
+unfolding parent_of
+parent-cut t text front last is h = by_parts (parts t) (parts-no_slash t) (parts-some t) is (parts front) (parts-some front) (cut-parts text front last h)
   where
-    by_test : (((length t == 0) ≡ true) × (length t ≡ 0)) ⊎ (((length t == 0) ≡ false) × (length t ≢ 0)) → ((length t == 0) || is_absolute t) ≡ false → (length t ≢ 0) × (is_absolute t ≡ false)
-    by_test (inl w) h = absurd (let e : true ≡ false = rw w.0 at h in cc)
-    by_test (inr w) h = (w.1, rw w.0 at h)
+    by_parts : (ps : List (List ℕ)) → AllByRecursion HasNoSlash ps → ps ≢ [] → text ≡ until_last ps → (qs : List (List ℕ)) → qs ≢ [] → parts text ≡ qs ++ last ∷ [] → parent_of_parts ps ≡ Some (or_slash (until_last qs))
+    by_parts [] slash some e qs other cut = absurd (some refl)
+    by_parts (p ∷ ps) slash some e [] other cut = absurd (other refl)
+    by_parts (p ∷ ps) slash some e (q ∷ qs) other cut =
+        let both : p ∷ trimmed ps ≡ q ∷ (qs ++ last ∷ []) = sym (parts-join p (trimmed ps) (slash.0, trimmed-no_slash ps slash.1)) ∙ ap parts (sym e) ∙ cut in
+        let first : p ≡ q = cc in
+        let rest : trimmed ps ≡ qs ++ last ∷ [] = cc in
+        ap (parent_by p) rest ∙ parent-by p qs last ∙ ap (λ x. Some (or_slash (join_with_byte 47 (x ∷ trimmed qs)))) first
 
-pub parent-none : (t : List ℕ) (b : Bool) → None ≡ parent_end (parts t) → b ≡ ((length t == 0) || is_absolute t) → b ≡ true → None ≡ parent_of t
-parent-none t b ends told holds = by_trim (trimmed w.1) refl
-  where
-    w : (first : List ℕ) × (rest : List (List ℕ)) × (parts t ≡ first ∷ rest) × (t ≡ join_with_byte 47 (first ∷ rest)) × (has_no_slash first ≡ true)
-    w = parts-some t
+pub lone-empty : (text : List ℕ) → length text ≡ 0 → None ≡ parent_by text []
+lone-empty [] h = refl
+lone-empty (c ∷ text) h = absurd (omega (arith, h))
 
-    by_trim : (q : List (List ℕ)) → trimmed w.1 ≡ q → None ≡ parent_of t
-    by_trim [] e =
-        let Root : List ℕ → Type 0 = λ s. (length s ≡ 0) ⊎ (is_absolute s ≡ true) in
-        let first : w.0 ≡ [] = first-empty w.0 w.1 w.4 (subst Root w.3 (root-cases t (sym told ∙ holds))) in
-        sym (parent_of-parts t w.0 w.1 [] w.2 e ∙ ap (λ f. parent_by f []) first)
-    by_trim (p ∷ q) e = let f : None ≡ end_by w.0 (p ∷ q) = ends ∙ parent_end-parts t w.0 w.1 (p ∷ q) w.2 e in cc
-
-pub parent-lone : (t : List ℕ) (b : Bool) → None ≡ parent_end (parts t) → b ≡ ((length t == 0) || is_absolute t) → b ≡ false → Some [] ≡ parent_of t
-parent-lone t b ends told fails = by_trim (trimmed w.1) refl
-  where
-    w : (first : List ℕ) × (rest : List (List ℕ)) × (parts t ≡ first ∷ rest) × (t ≡ join_with_byte 47 (first ∷ rest)) × (has_no_slash first ≡ true)
-    w = parts-some t
-
-    by_first : (first : List ℕ) → t ≡ join_with_byte 47 (first ∷ w.1) → Some [] ≡ parent_by first []
-    by_first [] e = absurd (neither (empty-first w.1))
-      where
-        neither : (length (join_with_byte 47 ([] ∷ w.1)) ≡ 0) ⊎ (is_absolute (join_with_byte 47 ([] ∷ w.1)) ≡ true) → ⊥
-        neither (inl l) = (other-cases t (sym told ∙ fails)).0 (ap length e ∙ l)
-        neither (inr r) = let f : true ≡ false = sym r ∙ ap is_absolute (sym e) ∙ (other-cases t (sym told ∙ fails)).1 in cc
-    by_first (c ∷ first) e = refl
-
-    by_trim : (q : List (List ℕ)) → trimmed w.1 ≡ q → Some [] ≡ parent_of t
-    by_trim [] e = by_first w.0 w.3 ∙ sym (parent_of-parts t w.0 w.1 [] w.2 e)
-    by_trim (p ∷ q) e = let f : None ≡ end_by w.0 (p ∷ q) = ends ∙ parent_end-parts t w.0 w.1 (p ∷ q) w.2 e in cc
-
-or_slash-some : (t : List ℕ) → length t ≢ 0 → or_slash t ≡ t
-or_slash-some [] h = absurd (h refl)
-or_slash-some (c ∷ t) h = refl
-
-pub parent-front : (t : List ℕ) (k : ℕ) → Some k ≡ parent_end (parts t) → k ≢ 0 → (k ≤ length t) × (Some (take k t) ≡ parent_of t)
-parent-front t k ends some = by_trim (trimmed w.1) refl
-  where
-    w : (first : List ℕ) × (rest : List (List ℕ)) × (parts t ≡ first ∷ rest) × (t ≡ join_with_byte 47 (first ∷ rest)) × (has_no_slash first ≡ true)
-    w = parts-some t
-
-    by_trim : (q : List (List ℕ)) → trimmed w.1 ≡ q → (k ≤ length t) × (Some (take k t) ≡ parent_of t)
-    by_trim [] e = let f : Some k ≡ None = ends ∙ parent_end-parts t w.0 w.1 [] w.2 e in cc
-    by_trim (p ∷ q) e =
-        let front = join_with_byte 47 (w.0 ∷ trimmed (but_last (p ∷ q))) in
-        let long : k ≡ length front = let f : Some k ≡ end_by w.0 (p ∷ q) = ends ∙ parent_end-parts t w.0 w.1 (p ∷ q) w.2 e in cc in
-        let v = above-front w.0 w.1 in
-        let text : t ≡ front ++ v.0 = w.3 ∙ v.1 ∙ ap (λ z. join_with_byte 47 (w.0 ∷ trimmed (but_last z)) ++ v.0) e in
-        let cut : take k t ≡ front = ap (λ j. take j t) long ∙ ap (take (length front)) text ∙ take-append_seam front v.0 in (
-          omega (arith, ap length text, length-append front v.0),
-          ap Some (cut ∙ sym (or_slash-some front (λ z. some (long ∙ z)))) ∙ sym (parent_of-parts t w.0 w.1 (p ∷ q) w.2 e),
-        )
-
-pub parent-root : (t : List ℕ) (k : ℕ) → Some k ≡ parent_end (parts t) → k ≡ 0 → Some (take 1 t) ≡ parent_of t
-parent-root t k ends zero = by_trim (trimmed w.1) refl
-  where
-    w : (first : List ℕ) × (rest : List (List ℕ)) × (parts t ≡ first ∷ rest) × (t ≡ join_with_byte 47 (first ∷ rest)) × (has_no_slash first ≡ true)
-    w = parts-some t
-
-    by_rest : (rest : List (List ℕ)) (p : List ℕ) (q : List (List ℕ)) → trimmed rest ≡ p ∷ q → t ≡ join_with_byte 47 ([] ∷ rest) → take 1 t ≡ 47 ∷ []
-    by_rest [] p q e text = cc
-    by_rest (r ∷ rest) p q e text = rw text refl
-
-    first-none : (first : List ℕ) (rest : List (List ℕ)) → length (join_with_byte 47 (first ∷ rest)) ≡ 0 → first ≡ []
-    first-none [] rest e = refl
-    first-none (c ∷ first) [] e = absurd (omega arith)
-    first-none (c ∷ first) (r ∷ rest) e = absurd (omega arith)
-
-    by_trim : (q : List (List ℕ)) → trimmed w.1 ≡ q → Some (take 1 t) ≡ parent_of t
-    by_trim [] e = let f : Some k ≡ None = ends ∙ parent_end-parts t w.0 w.1 [] w.2 e in cc
-    by_trim (p ∷ q) e =
-        let front = join_with_byte 47 (w.0 ∷ trimmed (but_last (p ∷ q))) in
-        let long : k ≡ length front = let f : Some k ≡ end_by w.0 (p ∷ q) = ends ∙ parent_end-parts t w.0 w.1 (p ∷ q) w.2 e in cc in
-        let none : front ≡ [] = nil_from_length front (sym long ∙ zero) in
-        let first : w.0 ≡ [] = first-none w.0 (trimmed (but_last (p ∷ q))) (sym long ∙ zero) in
-        let cut : take 1 t ≡ 47 ∷ [] = by_rest w.1 p q e (w.3 ∙ ap (λ f. join_with_byte 47 (f ∷ w.1)) first) in
-        ap Some (cut ∙ ap or_slash (sym none)) ∙ sym (parent_of-parts t w.0 w.1 (p ∷ q) w.2 e)
+pub lone-some : (text : List ℕ) → length text ≢ 0 → Some [] ≡ parent_by text []
+lone-some [] h = absurd (h refl)
+lone-some (c ∷ text) h = refl

@@ -50,10 +50,10 @@ no_slash-at (c ∷ cs) h = by_test (eqb_tells c 47) (no_slash-at cs (λ i lt. h 
     by_test (inr w) rest = rw w.0 rest
 
 -- A text of steps whose last slash is at k is that of the folder, a slash, and the last name.
-cut-is : (t : List ℕ) (k : ℕ) → k < length t → get_or t k 0 ≡ 47 → t ≡ take k t ++ 47 ∷ drop (k + 1) t
+pub cut-is : (t : List ℕ) (k : ℕ) → k < length t → get_or t k 0 ≡ 47 → t ≡ take k t ++ 47 ∷ drop (k + 1) t
 cut-is t k lt is = sym (take-append-drop k t) ∙ ap (λ s. take k t ++ s) (drop_more t k 0 lt ∙ ap (λ c. c ∷ drop (k + 1) t) is)
 
-no_slash-after : (t : List ℕ) (k : ℕ) → ((i : ℕ) → k < i → i < length t → get_or t i 0 ≢ 47) → has_no_slash (drop (k + 1) t) ≡ true
+pub no_slash-after : (t : List ℕ) (k : ℕ) → ((i : ℕ) → k < i → i < length t → get_or t i 0 ≢ 47) → has_no_slash (drop (k + 1) t) ≡ true
 no_slash-after t k h = no_slash-at (drop (k + 1) t) (λ i lt. rw get_or-drop (h (k + 1 + i) (omega arith) (omega (arith, length-drop (k + 1) t))))
 
 pub names_in-up : (t : List ℕ) (k : ℕ) → k < length t → get_or t k 0 ≡ 47 → ((i : ℕ) → k < i → i < length t → get_or t i 0 ≢ 47) → names_in t ≡ drop (k + 1) t ∷ names_in (take k t)

@@ -196,7 +196,7 @@ with_slash-behind s [] h = absurd h
 with_slash-behind s (c ∷ n) h = with_slash-part s c n h
 
 -- parts joined by slashes need one before the next
-with_slash-joined : (s : List ℕ) (a : List ℕ) (xs : List (List ℕ)) → AllByRecursion IsPart (a ∷ xs) → with_slash (s ++ join_with_byte 47 (a ∷ xs)) ≡ (s ++ join_with_byte 47 (a ∷ xs)) ++ 47 ∷ []
+pub with_slash-joined : (s : List ℕ) (a : List ℕ) (xs : List (List ℕ)) → AllByRecursion IsPart (a ∷ xs) → with_slash (s ++ join_with_byte 47 (a ∷ xs)) ≡ (s ++ join_with_byte 47 (a ∷ xs)) ++ 47 ∷ []
 with_slash-joined s a [] h = with_slash-behind s a h.0
 with_slash-joined s a (b ∷ xs) h =
     let more : s ++ (a ++ 47 ∷ join_with_byte 47 (b ∷ xs)) ≡ (s ++ a ++ 47 ∷ []) ++ join_with_byte 47 (b ∷ xs) = simp append_assoc in

@@ -1,36 +1,23 @@
 -- The way from one list of parts to another.
-use Rattle.std.proofs.Common.{◌||◌, not, reverse, ◌≡◌, ℕ, zero, suc, ◌+◌, ◌-◌, ◌<◌, ◌≤◌, Bool, true, false, cond, List, [], ◌∷◌, ◌++◌, length, take, drop, map, bytes_eq, replicate, get_or, take_all, refl, sym, ap, ◌∙◌, subst, append_assoc, append-nil, arith, length-drop}
-use denote.Ref.{Bor}
-use Rattle.std.proofs.lemmas.List.{map-append, length-map, take_more, replicate_more}
-use Rattle.std.proofs.lemmas.List.Sums.{common_prefix_len-le}
-use Rattle.sugar_path.specs.declared.steps.Steps.{Steps}
-use Rattle.sugar_path.specs.Path.{IsPath, with_slash, ends_in_slash, is_absolute, join}
+use Rattle.std.proofs.Common.{◌||◌, not, reverse, ◌≡◌, ◌≢◌, ℕ, zero, suc, ◌+◌, ◌-◌, Bool, true, false, cond, List, [], ◌∷◌, ◌++◌, length, drop, bytes_eq, replicate, refl, sym, ap, ◌∙◌, append_assoc, arith}
+use Rattle.std.proofs.lemmas.List.{replicate_more}
+use Rattle.sugar_path.specs.Path.{IsPath, with_slash, ends_in_slash, is_absolute, join, parts}
 use Rattle.sugar_path.specs.Route.{Route, Rooted, Relative, route_names, route_parts, is_rooted, route_of}
 use Rattle.sugar_path.specs.Relative.{between, same_start, way, needs_folder, relative_from}
-use Rattle.sugar_path.specs.Reading.{IsPart, HasKept}
+use Rattle.sugar_path.specs.Reading.{IsPart}
 use Rattle.std.proofs.lemmas.Bool.Decides.{Decides-eqb}
 use Rattle.std.proofs.lemmas.Slice.Eq.{bytes_eq-Decides}
-use Rattle.sugar_path.proofs.RouteTexts.{joined-push, replicate-dots, reverse-names, AllByRecursion-append}
-use Rattle.sugar_path.proofs.Placed.{route_of-rooted}
-use Rattle.std.specs.List.{drop-map, common_prefix_len, prefix_len, zip, join_with_byte, AllByRecursion}
+use Rattle.sugar_path.proofs.RouteTexts.{joined-push, with_slash-joined, replicate-dots, reverse-names, AllByRecursion-append}
+use Rattle.sugar_path.proofs.Parts.{HasNoSlash, parts-some}
+use Rattle.sugar_path.proofs.Placed.{route_of-rooted, parts-join}
+use Rattle.std.proofs.lemmas.List.Splits.{join_with_byte-slice_split}
+use Rattle.std.specs.List.{common_prefix_len, prefix_len, zip, join_with_byte, AllByRecursion}
 
 -- how many pairs pass a test of both
 pub prefix_len-zip : {X Y : Type 0} (e : X → Y → Bool) (xs : List X) (ys : List Y) → prefix_len (λ p. e p.0 p.1) (zip xs ys) ≡ common_prefix_len e xs ys
 prefix_len-zip e [] ys = refl
 prefix_len-zip e (x ∷ xs) [] = refl
 prefix_len-zip e (x ∷ xs) (y ∷ ys) = ap (λ n. cond (e x y) (1 + n) 0) (prefix_len-zip e xs ys)
-
-pub common_prefix_len-map : (xs ys : List (Bor (List ℕ))) → common_prefix_len (λ x y. bytes_eq x.now y.now) xs ys ≡ common_prefix_len bytes_eq (map (λ x. x.now) xs) (map (λ y. y.now) ys)
-common_prefix_len-map [] ys = refl
-common_prefix_len-map (x ∷ xs) [] = refl
-common_prefix_len-map (x ∷ xs) (y ∷ ys) = ap (λ n. cond (bytes_eq x.now y.now) (1 + n) 0) (common_prefix_len-map xs ys)
-
--- no more parts are shared than there are
-pub shared-left : (xs ys : List (Bor (List ℕ))) (n : ℕ) → n ≡ common_prefix_len bytes_eq (map (λ x. x.now) xs) (map (λ y. y.now) ys) → n ≤ length xs
-shared-left xs ys n is = omega (arith, (common_prefix_len-le bytes_eq (map (λ x. x.now) xs) (map (λ y. y.now) ys)).0, length-map xs (λ x. x.now))
-
-pub shared-right : (xs ys : List (Bor (List ℕ))) (n : ℕ) → n ≡ common_prefix_len bytes_eq (map (λ x. x.now) xs) (map (λ y. y.now) ys) → n ≤ length ys
-shared-right xs ys n is = omega (arith, (common_prefix_len-le bytes_eq (map (λ x. x.now) xs) (map (λ y. y.now) ys)).1, length-map ys (λ y. y.now))
 
 -- ---- the text of a way, as it is written
 pub way-dots : (k : ℕ) (t u : List ℕ) → t ≡ join_with_byte 47 (replicate k (46 ∷ 46 ∷ [])) → u ≡ with_slash t ++ 46 ∷ 46 ∷ [] → u ≡ join_with_byte 47 (replicate (k + 1) (46 ∷ 46 ∷ []))
@@ -40,48 +27,31 @@ way-dots k t u is more =
     ∙ sym (joined-push [] (replicate k (46 ∷ 46 ∷ [])) (46 ∷ 46 ∷ []) (replicate-dots k) refl)
     ∙ ap (join_with_byte 47) (replicate_more k (46 ∷ 46 ∷ []))
 
--- what was written once every `..` and so many parts are
-abbrev pub way_text : ℕ → List (Bor (List ℕ)) → ℕ → List ℕ
-way_text ups left i = join_with_byte 47 (replicate ups (46 ∷ 46 ∷ []) ++ map (λ x. x.now) (take i left))
+-- parts joined by slashes, behind other ones
+join-append : (a : List ℕ) (xs : List (List ℕ)) (b : List ℕ) (ys : List (List ℕ)) → join_with_byte 47 ((a ∷ xs) ++ b ∷ ys) ≡ join_with_byte 47 (a ∷ xs) ++ 47 ∷ join_with_byte 47 (b ∷ ys)
+join-append a [] b ys = refl
+join-append a (x ∷ xs) b ys = ap (λ t. a ++ 47 ∷ t) (join-append x xs b ys) ∙ sym (append_assoc a (47 ∷ join_with_byte 47 (x ∷ xs)) (47 ∷ join_with_byte 47 (b ∷ ys)))
 
-pub way-start : (ups k : ℕ) (left : List (Bor (List ℕ))) (t : List ℕ) → t ≡ join_with_byte 47 (replicate k (46 ∷ 46 ∷ [])) → k ≡ ups → t ≡ way_text ups left 0
-way-start ups k left t is same = is ∙ ap (λ j. join_with_byte 47 (replicate j (46 ∷ 46 ∷ []))) same ∙ ap (join_with_byte 47) (sym (append-nil (replicate ups (46 ∷ 46 ∷ []))))
+-- every `..`, and what is left of the target behind them
+pub way-rest : (k : ℕ) (t u rest : List ℕ) → t ≡ join_with_byte 47 (replicate k (46 ∷ 46 ∷ [])) → u ≡ with_slash t ++ rest → u ≡ join_with_byte 47 (replicate k (46 ∷ 46 ∷ []) ++ parts rest)
+way-rest zero t u rest is more = more ∙ ap (λ s. with_slash s ++ rest) is ∙ sym (join_with_byte-slice_split 47 rest)
+way-rest (suc k) t u rest is more = by_parts (parts rest) (parts-some rest) (join_with_byte-slice_split 47 rest)
+  where
+    by_parts : (ps : List (List ℕ)) → ps ≢ [] → join_with_byte 47 ps ≡ rest → u ≡ join_with_byte 47 (replicate (suc k) (46 ∷ 46 ∷ []) ++ ps)
+    by_parts [] some joined = absurd (some refl)
+    by_parts (p ∷ ps) some joined =
+        more
+        ∙ ap (λ s. with_slash s ++ rest) is
+        ∙ ap (λ s. s ++ rest) (with_slash-joined [] (46 ∷ 46 ∷ []) (replicate k (46 ∷ 46 ∷ [])) (replicate-dots (suc k)))
+        ∙ append_assoc (join_with_byte 47 (replicate (suc k) (46 ∷ 46 ∷ []))) (47 ∷ []) rest
+        ∙ ap (λ s. join_with_byte 47 (replicate (suc k) (46 ∷ 46 ∷ [])) ++ 47 ∷ s) (sym joined)
+        ∙ sym (join-append (46 ∷ 46 ∷ []) (replicate k (46 ∷ 46 ∷ [])) p ps)
 
-parts-take : (i : ℕ) (left : List (Bor (List ℕ))) → AllByRecursion IsPart (map (λ x. x.now) left) → AllByRecursion IsPart (map (λ x. x.now) (take i left))
-parts-take zero left h = tt
-parts-take (suc i) [] h = tt
-parts-take (suc i) (x ∷ left) h = (h.0, parts-take i left h.1)
-
-pub way-part : (ups i : ℕ) (left : List (Bor (List ℕ))) (d : Bor (List ℕ)) (t u : List ℕ) → AllByRecursion IsPart (map (λ y. y.now) left) → i < length left → t ≡ way_text ups left i → u ≡ with_slash t ++ (get_or left i d).now → u ≡ way_text ups left (i + 1)
-way-part ups i left d t u parts lt is more =
-    let seen = map (λ (y : Bor (List ℕ)). y.now) (take i left) in
-    let next : map (λ (y : Bor (List ℕ)). y.now) (take (i + 1) left) ≡ seen ++ (get_or left i d).now ∷ [] =
-    ap (map (λ y. y.now)) (take_more left i d lt) ∙ map-append (λ y. y.now) (take i left) (get_or left i d ∷ []) in
-    more
-    ∙ ap (λ s. with_slash s ++ (get_or left i d).now) is
-    ∙ sym (joined-push [] (replicate ups (46 ∷ 46 ∷ []) ++ seen) (get_or left i d).now (AllByRecursion-append (replicate ups (46 ∷ 46 ∷ [])) seen (replicate-dots ups) (parts-take i left parts)) refl)
-    ∙ ap (join_with_byte 47) (append_assoc (replicate ups (46 ∷ 46 ∷ [])) seen ((get_or left i d).now ∷ []) ∙ ap (λ ys. replicate ups (46 ∷ 46 ∷ []) ++ ys) (sym next))
-
-parts-drop : (i : ℕ) (left : List (Bor (List ℕ))) → AllByRecursion IsPart (map (λ x. x.now) left) → AllByRecursion IsPart (map (λ x. x.now) (drop i left))
-parts-drop zero left h = h
-parts-drop (suc i) [] h = tt
-parts-drop (suc i) (x ∷ left) h = parts-drop i left h.1
-
-pub parts-left : (i : ℕ) (target left : List (Bor (List ℕ))) → AllByRecursion IsPart (map (λ x. x.now) target) → left ≡ drop i target → AllByRecursion IsPart (map (λ x. x.now) left)
-parts-left i target left h is = rw is (parts-drop i target h)
-
-pub way-done : (base target left : List (Bor (List ℕ))) (shared i : ℕ) (t : List ℕ) → shared ≡ common_prefix_len bytes_eq (map (λ x. x.now) target) (map (λ x. x.now) base) → left ≡ drop shared target → length left ≤ i → t ≡ way_text (length base - shared) left i → t ≡ join_with_byte 47 (between (map (λ x. x.now) base) (map (λ x. x.now) target))
-way-done base target left shared i t told is whole text =
-    let all : map (λ (x : Bor (List ℕ)). x.now) (take i left) ≡ drop shared (map (λ x. x.now) target) =
-    ap (map (λ x. x.now)) (take_all i left whole ∙ is) ∙ sym (drop-map (λ x. x.now) shared target) in
-    text
-    ∙ ap (λ ys. join_with_byte 47 (replicate (length base - shared) (46 ∷ 46 ∷ []) ++ ys)) all
-    ∙ ap (λ n. join_with_byte 47 (replicate (n - shared) (46 ∷ 46 ∷ []) ++ drop shared (map (λ x. x.now) target))) (sym (length-map base (λ x. x.now)))
-    ∙ ap (λ s. join_with_byte 47 (replicate (length (map (λ (x : Bor (List ℕ)). x.now) base) - s) (46 ∷ 46 ∷ []) ++ drop s (map (λ x. x.now) target))) told
-
--- the items of a slice from an index on
-pub tail-items : (i : ℕ) (target : List (Bor (List ℕ))) → take (length target - i) (drop i target) ≡ drop i target
-tail-items i target = take_all (length target - i) (drop i target) (omega (arith, length-drop {A = Bor (List ℕ)} i target))
+-- parts that don't begin alike
+pub between-apart : (base target : List (List ℕ)) → common_prefix_len bytes_eq target base ≡ 0 → between base target ≡ replicate (length base) (46 ∷ 46 ∷ []) ++ target
+between-apart base target none =
+    let all : length base - 0 ≡ length base = omega arith in
+    ap (λ n. replicate (length base - n) (46 ∷ 46 ∷ []) ++ drop n target) none ∙ ap (λ n. replicate n (46 ∷ 46 ∷ []) ++ target) all
 
 -- ---- the way between two routes by all their parts
 -- parts that both begin with lead nowhere
@@ -109,14 +79,21 @@ pub parts-of_route : (r : Route) → IsPath (route_names r) → AllByRecursion I
 parts-of_route (Rooted p) h = reverse-names p h
 parts-of_route (Relative k p) h = AllByRecursion-append (replicate k (46 ∷ 46 ∷ [])) (reverse p) (replicate-dots k) (reverse-names p h)
 
-pub kept-parts : (r : Route) (to : Steps) → HasKept r to → AllByRecursion IsPart (map (λ x. x.now) to.parts.items)
-kept-parts r to h = let P : List (List ℕ) → Type 0 = AllByRecursion IsPart in subst P (sym h.parts) (parts-of_route r h.names)
+-- the parts of a place
+pub joined-parts : (xs : List (List ℕ)) → AllByRecursion IsPart xs → length (join_with_byte 47 xs) ≢ 0 → parts (join_with_byte 47 xs) ≡ xs
+joined-parts [] h some = absurd (some refl)
+joined-parts (a ∷ xs) h some = parts-join a xs (no_slash (a ∷ xs) h)
+  where
+    no_slash : (xs : List (List ℕ)) → AllByRecursion IsPart xs → AllByRecursion HasNoSlash xs
+    no_slash [] k = tt
+    no_slash ([] ∷ xs) k = absurd k.0
+    no_slash ((c ∷ x) ∷ xs) k = (k.0, no_slash xs k.1)
 
-pub kept-way : (r s : Route) (from to : Steps) → HasKept r from → HasKept s to → same_start s r ≡ true → join_with_byte 47 (between (map (λ x. x.now) from.parts.items) (map (λ x. x.now) to.parts.items)) ≡ way r s
-kept-way r s from to f t same =
-    ap (λ ps. join_with_byte 47 (between ps (map (λ x. x.now) to.parts.items))) f.parts
-    ∙ ap (λ ps. join_with_byte 47 (between (route_parts r) ps)) t.parts
-    ∙ between-routes r s same
+pub joined-none : (xs : List (List ℕ)) → AllByRecursion IsPart xs → length (join_with_byte 47 xs) ≡ 0 → xs ≡ []
+joined-none [] h none = refl
+joined-none ([] ∷ xs) h none = absurd h.0
+joined-none ((c ∷ a) ∷ []) h none = absurd (omega (arith, none))
+joined-none ((c ∷ a) ∷ x ∷ xs) h none = absurd (omega (arith, none))
 
 -- what is read from an absolute folder is absolute
 pub join-absolute : (cwd t : List ℕ) → is_absolute cwd ≡ true → is_absolute (join cwd t) ≡ true
@@ -162,10 +139,3 @@ folder-given cwd base target h needs = by_test (needs_folder base target) needs 
     by_test : (b : Bool) → b ≡ true → (not b || is_absolute cwd) ≡ true → is_absolute cwd ≡ true
     by_test true e k = k
     by_test false e k = cc
-
--- ---- the same at the slices that are lent
-pub lent-parts : (r : Route) (to : Steps) (ys : List (Bor (List ℕ))) → ys ≡ to.parts.items → HasKept r to → AllByRecursion IsPart (map (λ x. x.now) ys)
-lent-parts r to ys is h = rw is (kept-parts r to h)
-
-pub lent-way : (r s : Route) (from to : Steps) (xs ys : List (Bor (List ℕ))) → xs ≡ from.parts.items → ys ≡ to.parts.items → HasKept r from → HasKept s to → same_start s r ≡ true → join_with_byte 47 (between (map (λ x. x.now) xs) (map (λ x. x.now) ys)) ≡ way r s
-lent-way r s from to xs ys e f h k same = rw (e, f) (kept-way r s from to h k same)

@@ -1,6 +1,6 @@
 -- What holds between the path operations, whatever the paths.
 use Rattle.std.specs.Prelude.{◌≡◌, ◌↔◌, ◌⊎◌, true, List, [], ◌∷◌, ◌++◌, ℕ, Some, None}
-use Rattle.sugar_path.specs.Path.{is_absolute, join}
+use Rattle.sugar_path.specs.Path.{Path, IsPath, text_of, clean, is_absolute, join}
 use Rattle.sugar_path.specs.Route.{Route, Rooted, Relative, route_up, route_down, route_of, normal, from_folder}
 use Rattle.sugar_path.specs.Relative.{relative_from}
 use Rattle.sugar_path.specs.Parent.{parent_of}
@@ -42,3 +42,7 @@ ParentLeavesLast = (t u : List ℕ) → parent_of t ≡ Some u → (last : Piece
 -- a path has no parent exactly where it has no component but the root
 abbrev pub RootHasNoParent : Type 0
 RootHasNoParent = (t : List ℕ) → (parent_of t ≡ None) ↔ ((components_of t ≡ []) ⊎ (components_of t ≡ Root ∷ []))
+
+-- read from a clean folder, the place of a text is the clean path that it names
+abbrev pub PlaceIsClean : Type 0
+PlaceIsClean = (cwd : Path) (t : List ℕ) → IsPath cwd → from_folder (text_of cwd) t ≡ text_of (clean cwd t)

@@ -11,3 +11,4 @@ pub mod PathTypes
 pub mod Reading
 pub mod Relative
 pub mod Route
+pub mod SharedTexts

@@ -1,13 +1,9 @@
--- Where the parent of a path ends in the path's text: what the code that finds a parent computes.
-use Rattle.std.specs.Prelude.{ℕ, List, [], ◌∷◌, length, Option, Some, None}
+-- How far the code reads a path to find its parent.
+use Rattle.std.specs.Prelude.{ℕ, List, [], ◌∷◌}
 use Rattle.std.specs.List.{join_with_byte}
-use Rattle.sugar_path.specs.Parent.{trimmed, but_last}
+use Rattle.sugar_path.specs.Parent.{trimmed}
 
--- where the parent of a path with components behind its first part ends
-abbrev pub end_by : List ℕ → List (List ℕ) → Option ℕ
-end_by first [] = None
-end_by first (part ∷ rest) = Some (length (join_with_byte 47 (first ∷ trimmed (but_last (part ∷ rest)))))
-
-abbrev pub parent_end : List (List ℕ) → Option ℕ
-parent_end [] = None
-parent_end (first ∷ rest) = end_by first (trimmed rest)
+-- the parts of a path as far as its last component, joined by `/`
+abbrev pub until_last : List (List ℕ) → List ℕ
+until_last [] = []
+until_last (first ∷ rest) = join_with_byte 47 (first ∷ trimmed rest)

@@ -1,10 +1,9 @@
 -- A path being read part by part.
-use Rattle.std.specs.Prelude.{◌≡◌, ◌≤◌, ℕ, ◌&&◌, Bool, true, false, cond, bytes_eq, suc, zero, List, [], ◌∷◌, ◌++◌, length, map}
+use Rattle.std.specs.Prelude.{◌≡◌, ◌≤◌, ℕ, ◌&&◌, Bool, true, false, cond, bytes_eq, suc, zero, List, [], ◌∷◌, ◌++◌, length}
 use Rattle.sugar_path.specs.declared.reading.Reading.{Reading}
-use Rattle.sugar_path.specs.declared.steps.Steps.{Steps}
 use Rattle.sugar_path.specs.declared.normal.Climb.{Climb}
 use Rattle.sugar_path.specs.Path.{Path, IsPath, with_slash, is_plain, has_no_slash}
-use Rattle.sugar_path.specs.Route.{Route, Rooted, Relative, route_names, route_parts, is_rooted}
+use Rattle.sugar_path.specs.Route.{Route, Rooted, Relative, route_names, is_rooted, route_text, or_dot}
 
 -- so many `..`, joined by `/`
 abbrev pub dots_text : ℕ → List ℕ
@@ -55,12 +54,10 @@ abbrev pub ups_of : Route → ℕ
 ups_of (Rooted p) = 0
 ups_of (Relative ups p) = ups
 
--- the parts that were kept so far are the route's
-pub record HasKept (r : Route) (steps : Steps) : Type 0 where
-  pub parts : map (λ part. part.now) steps.parts.items ≡ route_parts r
-  pub base : steps.base ≡ ups_of r
-  pub rooted : steps.rooted ≡ is_rooted r
+-- a text is the place that a route leads to
+pub record IsPlaceOf (r : Route) (t : List ℕ) : Type 0 where
   pub names : IsPath (route_names r)
+  pub text : t ≡ or_dot (route_text r)
 
 -- a relative path goes up, and then down, so many folders
 abbrev pub HasClimb : Route → Climb → Type 0

@@ -115,8 +115,8 @@ fn beginning_of(path: &[u8]) -> Option<Component<'_>>
     }
 }
 
-// The first part of a path, and what stands behind its slash.
-fn split_first_part(path: &[u8]) -> (&[u8], Option<&[u8]>)
+/// The first part of a path, and what stands behind its slash.
+pub(crate) fn split_first_part(path: &[u8]) -> (&[u8], Option<&[u8]>)
     ensures { parts path.now ≡ result.0.now ∷ parts_if result.1 }
 {
     match memchr(b'/', path) {

@@ -3,13 +3,15 @@ ghost use Rattle.std.specs.Prelude.{◌≡◌};
 ghost use Rattle.sugar_path.specs.declared.faults.TryError.TheVariants.{NoMemory};
 
 use std::alloc::AllocError;
-use std::fmt;
+use thiserror::Error;
 
 /// Why a call that may need the working folder gave no path.
-#[derive(Debug, Clone, Copy, PartialEq, Eq)]
+#[derive(Debug, Clone, Copy, PartialEq, Eq, Error)]
 pub enum TryError {
     /// The working folder is needed, and it is unknown.
+    #[error("the working folder is unknown")]
     NoCwd,
+    #[error("out of memory")]
     NoMemory,
 }
 
@@ -20,14 +22,3 @@ impl From<AllocError> for TryError {
         TryError::NoMemory
     }
 }
-
-impl fmt::Display for TryError {
-    fn fmt<W: fmt::Write>(&self, f: &mut fmt::Formatter<W>) -> fmt::Result {
-        match self {
-            TryError::NoCwd => f.write_str("the working folder is unknown"),
-            TryError::NoMemory => f.write_str("out of memory"),
-        }
-    }
-}
-
-impl std::error::Error for TryError {}

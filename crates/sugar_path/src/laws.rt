@@ -1,5 +1,5 @@
 // Laws of the path operations, each proved for all paths. The calls have them by their contracts.
-ghost use Rattle.sugar_path.specs.Laws.{NormalTwice, RelativeLeadsThere, RelativeEmptyAtOnePlace, ComponentsLeadThere, ParentLeavesLast, RootHasNoParent};
+ghost use Rattle.sugar_path.specs.Laws.{NormalTwice, RelativeLeadsThere, RelativeEmptyAtOnePlace, ComponentsLeadThere, ParentLeavesLast, RootHasNoParent, PlaceIsClean};
 
 /// A normal form is its own normal form. So `normalize` lends what it answered, where that is UTF-8.
 pub fn normal_twice()
@@ -29,4 +29,10 @@ pub fn parent_leaves_last()
 /// A path has no parent exactly where it has no component but the root.
 pub fn root_has_no_parent()
     ensures { RootHasNoParent }
+{}
+
+/// Read from a clean folder, the place of a text is the clean path that it names: `absolutize_with` and `clean_text`
+/// give one text.
+pub fn place_is_clean()
+    ensures { PlaceIsClean }
 {}

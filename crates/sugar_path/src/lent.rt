@@ -11,7 +11,8 @@ use crate::reading::is_absolute;
 /// The relative path from a base to a target, if it stands at the end of the target.
 pub(crate) fn lent_way<'a>(base: &[u8], target: &'a [u8]) -> Option<&'a [u8]>
     ensures lent { IsSome result ↔ IsWayLent base.now target.now }
-    ensures way { IfSome result (λ w. (cwd : List ℕ) → w.now ≡ relative_from cwd base.now target.now) }
+    ensures way { IfSome result (λ w. (cwd : List ℕ) →
+        w.now ≡ relative_from cwd base.now target.now) }
 {
     match rest_behind(without_last_slashes(base), without_last_slashes(target)) {
         Some(way) if is_in_order(base) && is_in_order(target) => Some(way),

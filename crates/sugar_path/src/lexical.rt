@@ -27,43 +27,56 @@ pub trait SugarPath<'a>: Sealed {
     /// The path without `.`, removable `..` and repeated separators. A trailing separator stays.
     fn normalize(self, alloc: Global) -> Result<PathCow<'a>, AllocError>
         ensures path { IfOk result (λ p. cow_bytes p ≡ normal (bytes self)) }
-        ensures borrowed { IfOk result (λ p. IsTrue (is_borrowed p) ↔ ((IsUtf8 (bytes self) × (normal (bytes self) ≡ bytes self)) ⊎ (normal (bytes self) ≡ 46 ∷ []))) }
+        ensures borrowed { IfOk result (λ p. IsTrue (is_borrowed p) ↔
+            ((IsUtf8 (bytes self) × (normal (bytes self) ≡ bytes self)) ⊎ (normal (bytes self) ≡ 46 ∷ []))) }
 
         // What is lent takes no memory.
-        ensures lent { ((IsUtf8 (bytes self) × (normal (bytes self) ≡ bytes self)) ⊎ (normal (bytes self) ≡ 46 ∷ [])) → IsOk result };
+        ensures lent { ((IsUtf8 (bytes self) × (normal (bytes self) ≡ bytes self)) ⊎ (normal (bytes self) ≡ 46 ∷ [])) →
+            IsOk result };
 
     /// The path from the root: itself, or behind the folder `cwd`, without `.`, `..`, repeated or trailing separators.
     fn absolutize_with(self, alloc: Global, cwd: Path<'_>) -> Result<PathCow<'a>, AllocError>
         requires { IsTrue (is_absolute (bytes self) || is_absolute (path_bytes cwd)) }
         ensures path { IfOk result (λ p. cow_bytes p ≡ from_folder (path_bytes cwd.entry) (bytes self)) }
-        ensures borrowed { IfOk result (λ p. IsTrue (is_borrowed p) ↔ (IsTrue (is_absolute (bytes self)) × IsUtf8 (bytes self) × (place (bytes self) ≡ bytes self))) }
-        ensures lent { (IsTrue (is_absolute (bytes self)) × IsUtf8 (bytes self) × (place (bytes self) ≡ bytes self)) → IsOk result };
+        ensures borrowed { IfOk result (λ p. IsTrue (is_borrowed p) ↔
+            (IsTrue (is_absolute (bytes self)) × IsUtf8 (bytes self) × (place (bytes self) ≡ bytes self))) }
+        ensures lent { (IsTrue (is_absolute (bytes self)) × IsUtf8 (bytes self) × (place (bytes self) ≡ bytes self)) →
+            IsOk result };
 
     /// As `absolutize_with`, where the working folder is known if it is needed.
     fn absolutize(self, alloc: Global, cwd: &CwdAnswer) -> Result<PathCow<'a>, AllocError>
         requires { IsTrue (is_absolute (bytes self) || is_absolute (folder_of cwd.now)) }
         ensures path { IfOk result (λ p. cow_bytes p ≡ from_folder (folder_of cwd.now) (bytes self)) }
-        ensures borrowed { IfOk result (λ p. IsTrue (is_borrowed p) ↔ (IsTrue (is_absolute (bytes self)) × IsUtf8 (bytes self) × (place (bytes self) ≡ bytes self))) }
-        ensures lent { (IsTrue (is_absolute (bytes self)) × IsUtf8 (bytes self) × (place (bytes self) ≡ bytes self)) → IsOk result };
+        ensures borrowed { IfOk result (λ p. IsTrue (is_borrowed p) ↔
+            (IsTrue (is_absolute (bytes self)) × IsUtf8 (bytes self) × (place (bytes self) ≡ bytes self))) }
+        ensures lent { (IsTrue (is_absolute (bytes self)) × IsUtf8 (bytes self) × (place (bytes self) ≡ bytes self)) →
+            IsOk result };
 
     /// As `absolutize_with`, with a fault where the working folder is needed and unknown.
     fn try_absolutize(self, alloc: Global, cwd: &CwdAnswer) -> Result<PathCow<'a>, TryError>
         requires { IsTrue (absolute_if_known cwd.now) }
         ensures path { IfOk result (λ p. cow_bytes p ≡ from_folder (folder_of cwd.now) (bytes self)) }
-        ensures borrowed { IfOk result (λ p. IsTrue (is_borrowed p) ↔ (IsTrue (is_absolute (bytes self)) × IsUtf8 (bytes self) × (place (bytes self) ≡ bytes self))) }
-        ensures lent { (IsTrue (is_absolute (bytes self)) × IsUtf8 (bytes self) × (place (bytes self) ≡ bytes self)) → IsOk result }
-        ensures no_cwd { (result ≡ Err TryError.NoCwd) ↔ (IsTrue (not (is_absolute (bytes self))) × IsTrue (not (is_known cwd.now))) };
+        ensures borrowed { IfOk result (λ p. IsTrue (is_borrowed p) ↔
+            (IsTrue (is_absolute (bytes self)) × IsUtf8 (bytes self) × (place (bytes self) ≡ bytes self))) }
+        ensures lent { (IsTrue (is_absolute (bytes self)) × IsUtf8 (bytes self) × (place (bytes self) ≡ bytes self)) →
+            IsOk result }
+        ensures no_cwd { (result ≡ Err TryError.NoCwd) ↔
+            (IsTrue (not (is_absolute (bytes self))) × IsTrue (not (is_known cwd.now))) };
 
-    /// The path from `base` to this one: `..` out of the folders of `base`, and then the names. Two paths of one place have the empty path between them.
+    /// The path from `base` to this one: `..` out of the folders of `base`, and then the names. It is empty between two
+    /// paths of one place, and lent where it stands at the end of this path.
     fn relative_with(
         self,
         alloc: Global,
         base: Path<'_>,
         cwd: Path<'_>,
     ) -> Result<PathCow<'a>, AllocError>
-        requires { IsTrue (not (needs_folder (path_bytes base) (bytes self)) || is_absolute (path_bytes cwd)) }
-        ensures path { IfOk result (λ p. cow_bytes p ≡ relative_from (path_bytes cwd.entry) (path_bytes base.entry) (bytes self)) }
-        ensures borrowed { IfOk result (λ p. IsTrue (is_borrowed p) ↔ IsWayLent (path_bytes base.entry) (bytes self)) }
+        requires { IsTrue (
+            not (needs_folder (path_bytes base) (bytes self)) || is_absolute (path_bytes cwd)) }
+        ensures path { IfOk result (λ p. cow_bytes p ≡
+            relative_from (path_bytes cwd.entry) (path_bytes base.entry) (bytes self)) }
+        ensures borrowed { IfOk result (λ p. IsTrue (is_borrowed p) ↔
+            IsWayLent (path_bytes base.entry) (bytes self)) }
         ensures lent { IsWayLent (path_bytes base.entry) (bytes self) → IsOk result };
 
     /// As `relative_with`, where the working folder is known if it is needed.
@@ -73,9 +86,12 @@ pub trait SugarPath<'a>: Sealed {
         base: Path<'_>,
         cwd: &CwdAnswer,
     ) -> Result<PathCow<'a>, AllocError>
-        requires { IsTrue (not (needs_folder (path_bytes base) (bytes self)) || is_absolute (folder_of cwd.now)) }
-        ensures path { IfOk result (λ p. cow_bytes p ≡ relative_from (folder_of cwd.now) (path_bytes base.entry) (bytes self)) }
-        ensures borrowed { IfOk result (λ p. IsTrue (is_borrowed p) ↔ IsWayLent (path_bytes base.entry) (bytes self)) }
+        requires { IsTrue (
+            not (needs_folder (path_bytes base) (bytes self)) || is_absolute (folder_of cwd.now)) }
+        ensures path { IfOk result (λ p. cow_bytes p ≡
+            relative_from (folder_of cwd.now) (path_bytes base.entry) (bytes self)) }
+        ensures borrowed { IfOk result (λ p. IsTrue (is_borrowed p) ↔
+            IsWayLent (path_bytes base.entry) (bytes self)) }
         ensures lent { IsWayLent (path_bytes base.entry) (bytes self) → IsOk result };
 
     /// As `relative_with`, with a fault where the working folder is needed and unknown.
@@ -86,10 +102,13 @@ pub trait SugarPath<'a>: Sealed {
         cwd: &CwdAnswer,
     ) -> Result<PathCow<'a>, TryError>
         requires { IsTrue (absolute_if_known cwd.now) }
-        ensures path { IfOk result (λ p. cow_bytes p ≡ relative_from (folder_of cwd.now) (path_bytes base.entry) (bytes self)) }
-        ensures borrowed { IfOk result (λ p. IsTrue (is_borrowed p) ↔ IsWayLent (path_bytes base.entry) (bytes self)) }
+        ensures path { IfOk result (λ p. cow_bytes p ≡
+            relative_from (folder_of cwd.now) (path_bytes base.entry) (bytes self)) }
+        ensures borrowed { IfOk result (λ p. IsTrue (is_borrowed p) ↔
+            IsWayLent (path_bytes base.entry) (bytes self)) }
         ensures lent { IsWayLent (path_bytes base.entry) (bytes self) → IsOk result }
-        ensures no_cwd { (result ≡ Err TryError.NoCwd) ↔ (IsTrue (needs_folder (path_bytes base.entry) (bytes self)) × IsTrue (not (is_known cwd.now))) };
+        ensures no_cwd { (result ≡ Err TryError.NoCwd) ↔
+            (IsTrue (needs_folder (path_bytes base.entry) (bytes self)) × IsTrue (not (is_known cwd.now))) };
 
     /// The path as text.
     fn to_slash(self) -> &'a str

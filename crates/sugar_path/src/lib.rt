@@ -19,7 +19,6 @@ mod plain_traits;
 mod prefix;
 mod reading;
 mod sealed;
-mod steps;
 mod ways;
 
 pub use clean::{clean_text, is_clean};

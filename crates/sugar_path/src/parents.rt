@@ -1,51 +1,44 @@
 // The folder that a path names its last component in.
-ghost use Rattle.std.specs.Prelude.{◌≡◌, ◌==◌, ◌||◌, length, option_map};
+ghost use Rattle.std.specs.Prelude.{◌≡◌, option_map};
 ghost use Rattle.sugar_path.specs.PathTypes.{path_bytes};
-ghost use Rattle.sugar_path.specs.Path.{parts, is_absolute};
-ghost use Rattle.sugar_path.specs.Parent.{is_silent, parent_of};
-ghost use Rattle.sugar_path.specs.ParentEnd.{parent_end};
+ghost use Rattle.sugar_path.specs.Path.{parts};
+ghost use Rattle.sugar_path.specs.Parent.{is_silent, or_slash, parent_of};
+ghost use Rattle.sugar_path.specs.ParentEnd.{until_last};
 
 use crate::path::Path;
+use memchr::memrchr;
 
 /// The path without its last component, as `std::path` has it: the root and the empty path have none.
 pub fn parent(path: Path<'_>) -> Option<Path<'_>>
     ensures { option_map path_bytes result ≡ parent_of (path_bytes path.entry) }
 {
-    let bytes = path.bytes();
-    match end_of_parent(bytes) {
-        // only the root stands in front of a first slash
-        Some(0) => Some(Path::of_bytes(&bytes[..1])),
-        Some(end) => Some(Path::of_bytes(&bytes[..end])),
-        None if is_empty_or_root(bytes) => None,
+    let text = until_last(path.bytes());
+    match memrchr(b'/', text) {
+        Some(slash) => Some(Path::of_bytes(or_root(until_last(&text[..slash])))),
+        None if text.is_empty() => None,
         None => Some(Path::of_bytes(b"")),
     }
 }
 
-// Whether nothing stands before the end or the first slash of a path.
-fn is_empty_or_root(path: &[u8]) -> bool
-    ensures { result ≡ ((length path.now == 0) || is_absolute path.now) }
+// The path as far as its last component: what follows it says nothing.
+fn until_last(path: &[u8]) -> &[u8]
+    ensures { result.now ≡ until_last (parts path.now) }
 {
-    path.is_empty() || path[0] == b'/'
+    let mut text = path;
+    while let Some(slash) = memrchr(b'/', text) {
+        if !is_silent(&text[slash + 1..]) {
+            return text;
+        }
+        text = &text[..slash];
+    }
+    text
 }
 
-// Where the last component but one ends, if there are two with the first part.
-fn end_of_parent(path: &[u8]) -> Option<usize>
-    ensures { result ≡ parent_end (parts path.now) }
+// The root, where nothing stands in front of a slash.
+fn or_root(path: &[u8]) -> &[u8]
+    ensures { result.now ≡ or_slash path.now }
 {
-    let mut at = 0;
-    let mut end = 0;
-    let mut parent = None;
-    for part in path.split(|b| *b == b'/') {
-        let stop = at + part.len();
-        if at == 0 {
-            end = stop;
-        } else if !is_silent(part) {
-            parent = Some(end);
-            end = stop;
-        }
-        at = stop + 1;
-    }
-    parent
+    if path.is_empty() { b"/" } else { path }
 }
 
 /// Whether a part behind the first one is no component.

@@ -1,17 +1,24 @@
 // The way from one place to another, by the names that lead there.
-ghost use Rattle.std.specs.Prelude.{◌≡◌, ◌==◌, ◌||◌, ◌≤◌, List, ℕ, length, IfOk, IsTrue, map, not, bytes_eq};
-ghost use Rattle.std.specs.List.{AllByRecursion, common_prefix_len, join_with_byte};
-ghost use Rattle.sugar_path.specs.Path.{is_absolute, join};
-ghost use Rattle.sugar_path.specs.Route.{Route, route_of, route_parts};
-ghost use Rattle.sugar_path.specs.Reading.{HasKept, IsPart};
-ghost use Rattle.sugar_path.specs.Relative.{between, way, same_start, needs_folder, relative_from};
+ghost use Rattle.std.specs.Prelude.{◌≡◌, ◌||◌, List, ℕ, length, IfOk, IfSome, IsTrue, not, bytes_eq};
+ghost use Rattle.std.specs.List.{common_prefix_len, join_with_byte};
+ghost use Rattle.sugar_path.specs.ComponentTypes.{parts_if};
+ghost use Rattle.sugar_path.specs.Path.{is_absolute, parts};
+ghost use Rattle.sugar_path.specs.PathTypes.{cow_bytes};
+ghost use Rattle.sugar_path.specs.Reading.{IsPlaceOf};
+ghost use Rattle.sugar_path.specs.Relative.{between, needs_folder, relative_from};
+ghost use Rattle.sugar_path.specs.SharedTexts.{SharesSlash};
+ghost use Rattle.sugar_path.specs.Route.{Route, route_parts, place, from_folder};
 
-use crate::normal::needs_folder;
-use crate::reading::push_part;
-use crate::steps::Steps;
+use crate::component::split_first_part;
+use crate::normal::{is_place, needs_folder};
+use crate::path::{Path, PathBuf, PathCow};
+use crate::prefix::common_prefix_len;
+use crate::reading::{is_absolute, place_below, place_of, push_part};
+use memchr::memrchr;
 use std::alloc::{AllocError, Global};
 
-/// The relative path from a base to a target, which are read from a folder where they don't begin at one.
+/// The relative path from a base to a target, which are read from a folder where they don't begin
+/// at one.
 pub(crate) fn relative_of(
     alloc: Global,
     cwd: &[u8],
@@ -22,35 +29,125 @@ pub(crate) fn relative_of(
     ensures { IfOk result (λ v. v.items ≡ relative_from cwd.now base.now target.now) }
 {
     if needs_folder(base, target) {
-        let from = Steps::below(alloc, cwd, base)?;
-        let to = Steps::below(alloc, cwd, target)?;
-        return way_between(alloc, from.parts(), to.parts());
+        let from = place_from(alloc, cwd, base)?;
+        let to = place_from(alloc, cwd, target)?;
+        return way_between(alloc, from.as_path().bytes(), to.as_path().bytes());
     }
-    let from = Steps::of(alloc, base)?;
-    let to = Steps::of(alloc, target)?;
-    way_between(alloc, from.parts(), to.parts())
+    let from = place_alone(alloc, base)?;
+    let to = place_alone(alloc, target)?;
+    way_between(alloc, from.as_path().bytes(), to.as_path().bytes())
 }
 
-// How many leading parts two paths share.
-fn shared_parts(left: &[&[u8]], right: &[&[u8]]) -> usize
-    ensures shared { result ≡ common_prefix_len bytes_eq (map (λ x. x.now) left.now) (map (λ x. x.now) right.now) }
-    ensures within_left { result ≤ length left.now }
-    ensures within_right { result ≤ length right.now }
+// The place of a path that is read from a folder.
+fn place_from<'a>(alloc: Global, folder: &[u8], path: &'a [u8]) -> Result<PathCow<'a>, AllocError>
+    ensures { IfOk result (λ p. cow_bytes p ≡ from_folder folder.now path.now) }
 {
-    left.iter().zip(right).take_while(|(a, b)| a == b).count()
+    if is_absolute(path) {
+        return place_alone(alloc, path);
+    }
+    Ok(PathCow::Owned(PathBuf::from(place_below(alloc, folder, path)?)))
 }
 
-// The way from a base to a target: one `..` for each part of the base that they don't share, then what is left of the target.
-fn way_between(alloc: Global, base: &[&[u8]], target: &[&[u8]]) -> Result<Vec<u8>, AllocError>
-    ensures { AllByRecursion IsPart (map (λ x. x.now) target.now) → IfOk result (λ v. v.items ≡ join_with_byte 47 (between (map (λ x. x.now) base.now) (map (λ x. x.now) target.now))) }
+// The place of a path, lent where the path is its own.
+fn place_alone<'a>(alloc: Global, path: &'a [u8]) -> Result<PathCow<'a>, AllocError>
+    ensures { IfOk result (λ p. cow_bytes p ≡ place path.now) }
 {
-    let shared = shared_parts(target, base);
-    let mut text = Vec::new(alloc);
-    for _ in shared..base.len() {
+    if is_place(path) {
+        return Ok(PathCow::Borrowed(Path::of_bytes(path)));
+    }
+    Ok(PathCow::Owned(PathBuf::from(place_of(alloc, path)?)))
+}
+
+// The way from a base to a target, both places: one `..` for each part of the base that they
+// don't share, then what is left of the target.
+fn way_between(alloc: Global, base: &[u8], target: &[u8]) -> Result<Vec<u8>, AllocError>
+    ensures { (r s : Route) → IsPlaceOf r base.now → IsPlaceOf s target.now →
+        IfOk result (λ v. v.items ≡ join_with_byte 47 (between (route_parts r) (route_parts s))) }
+{
+    let (left, rest) = past_shared(parts_of_place(base), parts_of_place(target));
+    let ups = parts_left(left);
+    let mut text = Vec::with_capacity(alloc, ups.saturating_mul(3).saturating_add(target.len()))?;
+    for _ in 0..ups {
         push_part(&mut text, b"..")?;
     }
-    for part in &target[shared..] {
-        push_part(&mut text, part)?;
+    if let Some(rest) = rest {
+        push_part(&mut text, rest)?;
     }
     Ok(text)
+}
+
+// The parts of a place, joined by slashes, if there are any.
+fn parts_of_place(place: &[u8]) -> Option<&[u8]>
+    ensures { (r : Route) → IsPlaceOf r place.now → parts_if result ≡ route_parts r }
+{
+    match place.strip_prefix(b"/") {
+        Some(names) if names.is_empty() => None,
+        Some(names) => Some(names),
+        None if place == b".".as_slice() => None,
+        None => Some(place),
+    }
+}
+
+// What is left of a base and a target behind the parts that both begin with.
+#[tactic(auto, using(crate::proofs::SharedTexts::apart_none))]
+fn past_shared<'a, 'b>(
+    base: Option<&'a [u8]>,
+    target: Option<&'b [u8]>,
+) -> (Option<&'a [u8]>, Option<&'b [u8]>)
+    ensures way { between (parts_if result.0) (parts_if result.1) ≡
+        between (parts_if base.entry) (parts_if target.entry) }
+    ensures apart { common_prefix_len bytes_eq (parts_if result.1) (parts_if result.0) ≡ 0 }
+{
+    let Some(from) = base else {
+        return (None, target);
+    };
+    let Some(to) = target else {
+        return (base, None);
+    };
+    let (from, to) = past_shared_text(from, to);
+    let mut left = Some(from);
+    let mut rest = Some(to);
+    while let (Some(from), Some(to)) = (left, rest) {
+        let (part, behind) = split_first_part(from);
+        let (other, beyond) = split_first_part(to);
+        if part != other {
+            break;
+        }
+        left = behind;
+        rest = beyond;
+    }
+    (left, rest)
+}
+
+// What is left of a base and a target behind the last slash in the text that both begin with.
+fn past_shared_text<'a, 'b>(base: &'a [u8], target: &'b [u8]) -> (&'a [u8], &'b [u8])
+    ensures { between (parts result.0.now) (parts result.1.now) ≡
+        between (parts base.now) (parts target.now) }
+{
+    match last_shared_slash(base, target) {
+        None => (base, target),
+        Some(slash) => {
+            let left = &base[slash + 1..];
+            let rest = &target[slash + 1..];
+            (left, rest)
+        }
+    }
+}
+
+// The last slash in the text that a base and a target both begin with.
+fn last_shared_slash(base: &[u8], target: &[u8]) -> Option<usize>
+    ensures { IfSome result (SharesSlash base.now target.now) }
+{
+    let shared = common_prefix_len(base, target);
+    memrchr(b'/', &base[..shared])
+}
+
+// How many parts are left of a path.
+fn parts_left(path: Option<&[u8]>) -> usize
+    ensures { result ≡ length (parts_if path.entry) }
+{
+    match path {
+        None => 0,
+        Some(text) => text.split(|b| *b == b'/').count(),
+    }
 }

@@ -1,5 +1,5 @@
-use Rattle.std.proofs.Common.{◌≡◌, false, true, sym, ◌∙◌, refl}
-use Rattle.sugar_path.specs.Lent.{IsInOrder, IsWayLent}
+use Rattle.std.proofs.Common.{◌≡◌, false, true, refl}
+use Rattle.sugar_path.specs.Lent.{IsInOrder}
 use Rattle.sugar_path.proofs.LentWays.{lent-none, lent-below, lent-way, not_told}
 use Rattle.sugar_path.proofs.lent.lent_way.Goals as goal
 use Rattle.sugar_path.proofs.lent.lent_way.Goals.{in_default-via-in-Some+then-is_in_order+else-is_in_order-2, in_default-via-in-Some+else-is_in_order, in_default-via-in_default}

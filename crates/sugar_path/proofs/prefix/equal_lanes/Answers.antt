@@ -1,4 +1,4 @@
-use Rattle.std.proofs.Common.{drop, length, take, arith, length-drop, ◌∙◌}
+use Rattle.std.proofs.Common.{drop, take, ◌∙◌}
 use Rattle.std.proofs.lemmas.Simd.{length-chunk}
 use Rattle.sugar_path.proofs.Lanes.{lanes-equal}
 use Rattle.sugar_path.proofs.prefix.equal_lanes.Goals as goal

@@ -1,4 +1,4 @@
-use Rattle.std.proofs.Common.{◌≡◌, true, false, sym, ap, ◌∙◌, rules}
+use Rattle.std.proofs.Common.{◌≡◌, true, sym, ◌∙◌, rules}
 use Rattle.sugar_path.specs.PathTypes.{path_bytes}
 use Rattle.sugar_path.specs.Relative.{needs_folder}
 use Rattle.sugar_path.proofs.LentWays.{lent-alone}
