@@ -1,5 +1,5 @@
 -- What a document gives, or the first cause against it; and what is written for it.
-use Rattle.std.specs.Prelude.{ℕ, List, [], ◌∷◌, Bool, cond, codes, map, Option, Some, None, Result, Ok, Err}
+use Rattle.std.specs.Prelude.{ℕ, List, [], ◌∷◌, cond, codes, map, Option, Some, None, Result, Ok, Err}
 use Rattle.std.specs.FinMap as finite
 use Rattle.sugar_path.specs.Path.{path_in}
 use Rattle.tree_core.specs.Plan.{answer}

@@ -66,6 +66,7 @@ fn bare_names_are_answered(rt: HostRuntime) -> Result<(), Fail> {
         ("foo/sub/part.mjs", "/w/lib/foo/sub/part.mts"),
         ("foo/sub/..", "/real/foo.js"),
         ("foo/sub", "refused"),
+        ("foo/../bar", "refused"),
         ("bar", "refused"),
     ];
     for (specifier, wanted) in cases {

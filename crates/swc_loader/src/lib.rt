@@ -10,3 +10,6 @@ mod shape;
 pub use resolution::{FileName, Found, Resolution, Via};
 pub use search::{Searched, folder, place};
 pub use tree_core::{NODE_BUILTINS, ResolveError};
+
+#[cfg(test)]
+mod tests;
