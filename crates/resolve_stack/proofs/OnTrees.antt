@@ -20,7 +20,7 @@ use Rattle.resolve_stack.specs.Rows.{readable, manifest_in, manifest_of, answer_
 use Rattle.resolve_stack.specs.BoundSearch.{behind, searched, whole, inside, bound}
 use Rattle.resolve_stack.specs.Order.{join}
 use Rattle.resolve_stack.specs.Verdict.{verdict_of, verdict}
-use Rattle.resolve_stack.specs.OnTree.{asks_after, manifest_in_file, manifest_on, reading_asks, manifest_asks, bound_on, bound_asks, name_on, join_on, join_asks, VerdictOnTree, BoundOnTree}
+use Rattle.resolve_stack.specs.OnTree.{asks_after, manifest_in_file, manifest_on, reading_asks, manifest_asks, bound_on, bound_asks, name_on, join_on, join_asks, JoinOnTree, VerdictOnTree, BoundOnTree}
 use Rattle.resolve_stack.specs.OnTree as on
 
 append_nothing : {A : Type 0} (xs : List A) → xs ++ [] ≡ xs
@@ -125,6 +125,9 @@ answer-verdict t project request = answer-then t (join project request) (λ resu
 asked-verdict : (t : Files) (project : ProjectSettings) (request : Request) → asked t (verdict project request) ≡ join_asks t project request
 unfolding verdict
 asked-verdict t project request = asked-then t (join project request) (λ result. Done (verdict_of result)) ∙ ap (λ qs. asked t (join project request) ++ qs) (asked-done t _) ∙ append_nothing _ ∙ asked-join t project request
+
+pub join_on_tree : JoinOnTree
+join_on_tree = record { answers = answer-join; asks = asked-join }
 
 pub verdict_on_tree : VerdictOnTree
 verdict_on_tree = record { answers = answer-verdict; asks = asked-verdict }

@@ -66,17 +66,26 @@ read_of file (Ok contents) m h = by_test (is_some contents.ignore_pattern_data) 
     by_test false h = let same : contents ≡ m = cc in ap Ok same
 read_of file (Err cause) m h = cc
 
+no_pattern_of : (file : Path) (r : Result Contents HydrationCause) (m : Contents) → readable file r ≡ Ok m → m.ignore_pattern_data ≡ None
+no_pattern_of file (Err cause) m h = cc
+no_pattern_of file (Ok contents) m h = by_pattern contents.ignore_pattern_data refl h
+  where
+    by_pattern : (o : Option (List ℕ)) → contents.ignore_pattern_data ≡ o → cond {A = Result Contents JoinRefusal} (is_some o) (Err NotBuilt) (Ok contents) ≡ Ok m → m.ignore_pattern_data ≡ None
+    by_pattern (Some p) is h = cc
+    by_pattern None is h = let same : contents ≡ m = cc in let P : Contents → Type 0 = λ x. x.ignore_pattern_data ≡ None in subst P same is
+
 record Read (t : Files) (p : Path) (m : Contents) : Type 0 where
   manifest : Path
   nearest : nearest_on t p ≡ Some manifest
   reads : loaded_on t manifest ≡ Ok m
+  no_pattern : m.ignore_pattern_data ≡ None
 
 read_from : (t : Files) (p : Path) (m : Contents) → manifest_on t p ≡ Ok m → Read t p m
 read_from t p m h = by_near (nearest_on t p) refl h
   where
     by_near : (near : Option Path) → nearest_on t p ≡ near → manifest_in_file t near ≡ Ok m → Read t p m
     by_near None is h = cc
-    by_near (Some file) is h = record { manifest = file; nearest = is; reads = read_of file (loaded_on t file) m h }
+    by_near (Some file) is h = record { manifest = file; nearest = is; reads = read_of file (loaded_on t file) m h; no_pattern = no_pattern_of file (loaded_on t file) m h }
 
 bound_by : (m : Contents) (o : PackageLocator) (importer : Path) (target name : List ℕ) (b : PackageLocator) → bound_of m o importer target name ≡ Ok b → bind m o name ≡ Bound b
 bound_by m o importer target name b h = by_test (is_settled m o name) h
@@ -122,6 +131,7 @@ found_on t project request r h =
       from = asked.importer;
       nearest = ap (nearest_on t) asked.path ∙ read.nearest;
       reads = read.reads;
+      no_pattern = read.no_pattern;
       owns = ap (owner manifest.0) asked.path ∙ there (owner manifest.0 importer.0) asking.0 asking.1;
       names = ap split_bare same ∙ there (split_bare target.0) identifier.0 identifier.1;
       binds = bound_by manifest.0 asking.0 importer.0 target.0 identifier.0.0 locator.0 locator.1;

@@ -16,6 +16,7 @@ use Rattle.resolve_stack.specs.Settings.{ProjectSettings}
 use Rattle.resolve_stack.specs.Request.{Request}
 use Rattle.resolve_stack.specs.Rows.{importer_of, readable, owner_of, target_of, identifier_of, bound_of, row_of, folder_of, via_of, spelled, answer_through}
 use Rattle.resolve_stack.specs.BoundSearch.{behind, searched, contained, bound}
+use Rattle.resolve_stack.specs.Order.{join}
 use Rattle.resolve_stack.specs.Verdict.{verdict_of, verdict}
 
 -- one result, and then the one that its value gives
@@ -92,6 +93,13 @@ join_asks t project request =
     asks_after (folder_of location) (λ folder.
     bound_asks t folder identifier.1 ++ asks_after (bound_on t folder identifier.1) (λ found.
     asks_after (contained folder found) (λ file. Canon (text_of file) ∷ []))))))))))
+
+-- the order, on each tree
+pub record JoinOnTree : Type 0 where
+  pub answers : (t : Files) (project : ProjectSettings) (request : Request) →
+      answer t (join project request) ≡ join_on t project request
+  pub asks : (t : Files) (project : ProjectSettings) (request : Request) →
+      asked t (join project request) ≡ join_asks t project request
 
 -- the verdict, on each tree
 pub record VerdictOnTree : Type 0 where

@@ -25,7 +25,7 @@ pub record LiesBelow (file location : List ℕ) : Type 0 where
   pub location_is : location ≡ text_of folder
   pub within : below path folder ≡ true
 
--- The importer is a path. The manifest nearest to it says who owns it, and the owner's row, or an allowed fallback, binds the name asked for to the package whose row has this location. The file lies below it.
+-- The importer is a path. The manifest nearest to it, which ignores no path by a pattern, says who owns it, and the owner's row, or an allowed fallback, binds the name asked for to the package whose row has this location. The file lies below it.
 pub record ThroughRow (t : Files) (project : ProjectSettings) (request : Request) (file : List ℕ) (v : Via) : Type 0 where
   pub importer : List ℕ
   pub manifest : Path
@@ -37,6 +37,7 @@ pub record ThroughRow (t : Files) (project : ProjectSettings) (request : Request
   pub from : request.importer ≡ Real importer
   pub nearest : nearest_on t (clean project.cwd importer) ≡ Some manifest
   pub reads : loaded_on t manifest ≡ Ok contents
+  pub no_pattern : contents.ignore_pattern_data ≡ None
   pub owns : owner contents (clean project.cwd importer) ≡ Some asking
   pub names : split_bare request.specifier ≡ Some (name, subpath)
   pub binds : bind contents asking name ≡ Bound (locator v.name v.reference)

@@ -1,12 +1,12 @@
 // The top call: the verdict of a request over any tree, with the trail that decides it.
 ghost use Rattle.std.specs.Prelude.{◌≡◌, IsTrue, IfOk, IsErrOf, length};
 ghost use Rattle.tree_core.specs.Tree.{Files, Agrees, HasCause, put_times};
-ghost use Rattle.tree_core.specs.Asks.{Asks, Settles, AgreeWith, FailsAt};
+ghost use Rattle.tree_core.specs.Asks.{Asks, Settles, AgreeWith};
 ghost use Rattle.resolve_stack.specs.Verdict.{verdict};
 ghost use Rattle.resolve_stack.specs.Through.{IsFound};
 ghost use Rattle.resolve_stack.specs.Request.{asked_for};
-ghost use Rattle.resolve_stack.specs.ImportFault.{as_read, TellsNext};
-ghost use Rattle.resolve_stack.specs.declared.import.ImportError.TheVariants.{TreeFault};
+ghost use Rattle.resolve_stack.specs.ImportFault.{as_read, EndsInFault, EndsStarved};
+ghost use Rattle.resolve_stack.specs.declared.import.ImportError.TheVariants.{TreeFault, NoMemory};
 
 use crate::join::join;
 use crate::request::Request;
@@ -57,12 +57,13 @@ pub fn resolve_import<T: Tree>(
     ensures found { IfOk result (λ o. (t : Files) → Agrees t o.trail → IsFound t project.now (asked_for importer.now specifier.now) o.verdict) }
     ensures stands { (T.state tree.new).stands_for ≡ (T.state tree.old).stands_for }
     ensures cause { HasCause (T.state tree.old).faults (T.state tree.new).faults (as_read result) }
-    // Where the tree tells the question that a fault refused, it is the order's next one.
-    ensures told { IsErrOf result TreeFault → TellsNext (T.state tree.old).stands_for (T.state tree.new).told (verdict project.now (asked_for importer.now specifier.now)) }
     // The tree was asked once for each question of the trail.
     ensures put { IfOk result (λ o. (T.state tree.new).questions ≡ put_times (length o.trail) (T.state tree.old).questions) }
-    // The tree was asked once for each question before the refused one, and once for that one.
-    ensures fails { IsErrOf result TreeFault → FailsAt (T.state tree.old).stands_for (T.state tree.old).questions (T.state tree.new).questions (verdict project.now (asked_for importer.now specifier.now)) }
+    // A fault refused one of the order's questions: the tree was asked once for each question before it and once for that one,
+    // and where the tree tells a question, it is that one.
+    ensures fails { IsErrOf result TreeFault → EndsInFault (T.state tree.old).stands_for (T.state tree.old).questions (T.state tree.new).questions (T.state tree.new).told (verdict project.now (asked_for importer.now specifier.now)) }
+    // Where memory was wanting, the tree was asked as often as there are different questions before, or once more.
+    ensures starves { IsErrOf result NoMemory → EndsStarved (T.state tree.old).stands_for (T.state tree.old).questions (T.state tree.new).questions (verdict project.now (asked_for importer.now specifier.now)) }
 {
     let mut recorder = Recorder::new(alloc, tree);
     let request = Request {

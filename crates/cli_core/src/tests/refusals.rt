@@ -21,7 +21,8 @@ fn rows() -> &'static str {
 "text":"const RAW_RUNTIME_STATE = '{\"dependencyTreeRoots\":[],\"enableTopLevelFallback\":true,\"fallbackExclusionList\":[],\"fallbackPool\":[],\"packageRegistryData\":[]}'"|"from":"/w/a.js","specifier":"foo"|{"refused":{"cause":"NoTopLevel","kind":"FailedManifestHydration","manifest":"/w/.pnp.cjs"}}
 whole|"from":"/w/a.js","specifier":"bar"|{"refused":{"dependency":"bar","issuer":{"name":"app","reference":"workspace:."},"kind":"UndeclaredDependency","message":"Your application tried to access bar, but it isn't declared in your dependencies; this makes the require call ambiguous and unsound.\n\nRequired package: bar\nRequired by: /w/a.js","path":"/w/a.js","request":"bar"}}
 whole|"from":"/w/.yarn/foo/a.js","specifier":"bar/b"|{"refused":{"dependency":"bar","issuer":{"name":"foo","reference":"npm:1.0.0"},"kind":"UndeclaredDependency","message":"foo tried to access bar, but it isn't declared in its dependencies; this makes the require call ambiguous and unsound.\n\nRequired package: bar (via \"bar/b\")\nRequired by: foo@npm:1.0.0 (via /w/.yarn/foo/a.js)","path":"/w/.yarn/foo/a.js","request":"bar/b"}}
-whole|"from":"/w/a.js","specifier":"foo/b"|{"refused":{"kind":"NotFound","text":"/w/.yarn/foo/b"}}"##
+whole|"from":"/w/a.js","specifier":"foo/b"|{"refused":{"kind":"NotFound","text":"/w/.yarn/foo/b"}}
+whole|"from":"/w/a.js","specifier":"foo/../../.pnp.cjs"|{"refused":{"file":"/w/.pnp.cjs","kind":"Outside","location":"/w/.yarn/foo"}}"##
 }
 
 fn document(alloc: Global, manifest: &str, request: &str) -> Result<String, AllocError> {
@@ -47,7 +48,7 @@ fn each_refusal_has_its_line(rt: HostRuntime) -> Result<(), Fail> {
         assert!(rt; came, "at {manifest} with {request}");
         tried = tried.saturating_add(1);
     }
-    assert_eq!(rt; tried, 7);
+    assert_eq!(rt; tried, 8);
     Ok(())
 }
 

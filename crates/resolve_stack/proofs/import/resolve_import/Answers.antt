@@ -1,10 +1,10 @@
 use Rattle.std.proofs.Common.{Err, arith, sym, subst}
 use Rattle.std.proofs.lemmas.Grind.{common_steps}
-use Rattle.tree_core.proofs.Asking.{settles, put_all, is_next, fails_at}
+use Rattle.tree_core.proofs.Asking.{settles, put_all}
 use Rattle.resolve_stack.specs.Request.{asked_for}
 use Rattle.resolve_stack.specs.declared.verdict.Verdict.{Verdict}
 use Rattle.resolve_stack.specs.Through.{IsFound}
-use Rattle.resolve_stack.proofs.Faults.{is_fault, tells_next, fails_there}
+use Rattle.resolve_stack.proofs.Faults.{is_fault, is_starved, ends_in_fault, ends_starved}
 use Rattle.resolve_stack.proofs.ThroughRows.{found}
 use Rattle.resolve_stack.proofs.import.resolve_import.Goals as goal
 
@@ -25,12 +25,12 @@ returns-clause-found g c = λ t agrees.
 pub returns-clause-put : goal.returns-clause-put
 returns-clause-put g c = rw (← c.new-recorder.ensures.at, c.into_parts-trail.ensures.trail) (grind (arith, common_steps, put_all c.new-recorder.ensures.trail c.in_ok-decided.ensures))
 
-pub returns-in_err-decided-clause-told : goal.returns-in_err-decided-clause-told
-returns-in_err-decided-clause-told g c = λ is.
-    rw (← c.new-recorder.ensures.at)
-    (tells_next (grind (arith, common_steps)) (is_next (Err c.in_err-decided.field-0.0) c.new-recorder.ensures.trail (λ t stands. c.decide-decided.new.tree.agrees t (rw c.in_err-decided.ensures.stands stands)) c.in_err-decided.ensures (is_fault _ _ c.from_residual.ensures.1 is)))
-
 pub returns-in_err-decided-clause-fails : goal.returns-in_err-decided-clause-fails
 returns-in_err-decided-clause-fails g c = λ is.
     rw (← c.new-recorder.ensures.at)
-    (fails_there (grind (arith, common_steps)) (fails_at (Err c.in_err-decided.field-0.0) c.new-recorder.ensures.trail (λ t stands. c.decide-decided.new.tree.agrees t (rw c.in_err-decided.ensures.stands stands)) c.in_err-decided.ensures (is_fault _ _ c.from_residual.ensures.1 is)))
+    (ends_in_fault (Err c.in_err-decided.field-0.0) c.new-recorder.ensures.trail (λ t stands. c.decide-decided.new.tree.agrees t (rw c.in_err-decided.ensures.stands stands)) c.in_err-decided.ensures (is_fault _ _ c.from_residual.ensures.1 is) (grind (arith, common_steps)) (grind (arith, common_steps)))
+
+pub returns-in_err-decided-clause-starves : goal.returns-in_err-decided-clause-starves
+returns-in_err-decided-clause-starves g c = λ is.
+    rw (← c.new-recorder.ensures.at)
+    (ends_starved (Err c.in_err-decided.field-0.0) c.new-recorder.ensures.trail (λ t stands. c.decide-decided.new.tree.agrees t (rw c.in_err-decided.ensures.stands stands)) c.in_err-decided.ensures (is_starved _ _ c.from_residual.ensures.1 is) (grind (arith, common_steps)))
