@@ -1,0 +1,4 @@
+pub mod Package
+pub mod Fields
+pub mod Exports
+pub mod Loading
