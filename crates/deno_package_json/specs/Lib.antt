@@ -2,3 +2,8 @@ pub mod Package
 pub mod Fields
 pub mod Exports
 pub mod Loading
+pub mod Entry
+pub mod FileUrl
+pub mod Requirements
+pub mod Message
+pub mod Value

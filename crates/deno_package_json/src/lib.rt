@@ -1,13 +1,23 @@
 //! package.json files: their fields, their requirements, and loads over any reader of files with a cache.
 #![tactic(auto)]
 
+mod dep_value;
+mod entry;
 mod error;
 mod exports;
 mod fields;
 mod floats;
+mod kind;
 mod load;
+mod location;
 mod package_json;
+mod rc;
+mod requirement;
 mod tables;
+mod to_value;
 
+pub use dep_value::{PackageJsonDepValue, PackageJsonDepValueParseError, PackageJsonDeps};
 pub use error::PackageJsonLoadError;
+pub use kind::NodeModuleKind;
 pub use package_json::PackageJson;
+pub use rc::{PackageJsonRc, new_rc};
