@@ -3,7 +3,6 @@ pub mod Tries
 pub mod Owners
 pub mod Walking
 pub mod Payloads
-pub mod Readings
 pub mod Normal
 pub mod Relocations
 pub mod Hydrations

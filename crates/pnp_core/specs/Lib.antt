@@ -1,3 +1,4 @@
+pub use Rattle.json_reading.specs.Reading
 pub mod NormalizePath
 pub mod Slashed
 pub mod BareIdentifier

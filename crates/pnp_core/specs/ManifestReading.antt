@@ -1,10 +1,14 @@
 -- The manifest that bytes are: the JSON of their payload, field by field.
-use Rattle.std.specs.Prelude.{◌≡◌, ℕ, false, cond, List, [], ◌∷◌, ◌++◌, Option, Some, None, Result, Ok, Err, map, filter, codes, bytes_eq, is_none, option_map, option_and_then, unwrap_or}
+use Rattle.std.specs.Prelude.{ℕ, false, cond, List, [], Option, Some, None, Result, Ok, Err, map, filter, codes, bytes_eq, is_none, option_map, unwrap_or}
+use Rattle.std.specs.Option.{option_or}
 use Rattle.std.specs.Str.{is_utf8}
-use Rattle.serde_json.specs.Data.{Data, null, boolean, number, string, array, object, Items, no_items, item}
-use Rattle.serde_json.specs.Find.{get, as_str, as_bool, as_array}
+use Rattle.serde_json.specs.Data.{Data}
+use Rattle.serde_json.specs.Find.{as_str, as_bool}
 use Rattle.serde_json.specs.Read.{read}
 use Rattle.serde_json.specs.Written.{has_float}
+use Rattle.json_reading.specs.Reading.{◌>>=◌, list_by, pair_by, nullable_by, field_by, field_or}
+use Rattle.json_reading.specs.declared.error.FromJsonError.{FromJsonError}
+use Rattle.json_reading.specs.declared.error.FromJsonError.TheVariants.{OtherKind, NoMemory}
 use Rattle.indexmap.specs.IndexMap.{insert_all}
 use Rattle.indexmap.specs.IndexSet as set
 use Rattle.sugar_path.specs.Path.{Path, parent, text_of, join}
@@ -16,63 +20,8 @@ use Rattle.pnp_core.specs.declared.manifest.PackageLocator.{PackageLocator}
 use Rattle.pnp_core.specs.declared.manifest.PackageDependency.{PackageDependency}
 use Rattle.pnp_core.specs.declared.manifest.PackageDependency.TheVariants.{Reference, Alias}
 use Rattle.pnp_core.specs.NormalizePath.{normalize_path}
-use Rattle.pnp_core.specs.Payload.{payload, or_else}
+use Rattle.pnp_core.specs.Payload.{payload}
 use Rattle.pnp_core.specs.Manifest.{Dependencies, Package, Registry, Contents, locator, locator_eq, top_level, at, package_at, has_row}
-
-infixl 10 ◌>>=◌
-abbrev pub ◌>>=◌ : {A B : Type 0} → Option A → (A → Option B) → Option B
-found >>= next = option_and_then next found
-
--- a reader answers what is read, and refuses where nothing is
-abbrev pub ReadsAs : {A : Type 0} → Result A ReadManifestError → Option A → Type 0
-ReadsAs (Ok a) o = o ≡ Some a
-ReadsAs (Err refusal.BadJson) o = o ≡ None
-ReadsAs (Err refusal.NoMemory) o = Unit {0}
-
--- each member of a list, read
-abbrev pub items_by : {A : Type 0} → (Data → Option A) → Items → Option (List A)
-items_by f no_items = Some []
-items_by f (item d ds) = do
-  a ← f d
-  rest ← items_by f ds
-  Some (a ∷ rest)
-
-abbrev pub list_by : {A : Type 0} → (Data → Option A) → Data → Option (List A)
-list_by f d = as_array d >>= items_by f
-
--- exactly two members, read
-abbrev pub two_by : {A B : Type 0} → (Data → Option A) → (Data → Option B) → Items → Option (A × B)
-two_by f g no_items = None
-two_by f g (item a no_items) = None
-two_by f g (item a (item b no_items)) = do
-  first ← f a
-  second ← g b
-  Some (first, second)
-two_by f g (item a (item b (item c rest))) = None
-
-abbrev pub pair_by : {A B : Type 0} → (Data → Option A) → (Data → Option B) → Data → Option (A × B)
-pair_by f g d = as_array d >>= two_by f g
-
--- a value that may be null
-abbrev pub nullable_by : {A : Type 0} → (Data → Option A) → Data → Option (Option A)
-nullable_by f null = Some None
-nullable_by f (boolean b) = option_map Some (f (boolean b))
-nullable_by f (number n) = option_map Some (f (number n))
-nullable_by f (string s) = option_map Some (f (string s))
-nullable_by f (array ds) = option_map Some (f (array ds))
-nullable_by f (object ms) = option_map Some (f (object ms))
-
--- a field that has to be there
-abbrev pub field_by : {A : Type 0} → List ℕ → (Data → Option A) → Data → Option A
-field_by k f d = get k d >>= f
-
--- a field, or what stands for it where it is absent
-abbrev pub present_or : {A : Type 0} → A → (Data → Option A) → Option Data → Option A
-present_or absent f None = Some absent
-present_or absent f (Some d) = f d
-
-abbrev pub field_or : {A : Type 0} → List ℕ → A → (Data → Option A) → Data → Option A
-field_or k absent f d = present_or absent f (get k d)
 
 -- a repeated name keeps its place and takes the last value
 abbrev pub entries_of : {A : Type 0} → List (List ℕ × A) → List (List ℕ × A)
@@ -84,7 +33,7 @@ named pair = (unwrap_or pair.0 [], pair.1)
 
 -- a text is a reference of the package of the bound name, and two texts are a name and a reference
 abbrev pub dependency_in : Data → Option PackageDependency
-dependency_in d = or_else (option_map Reference (as_str d)) (option_map (λ pair. Alias pair.0 pair.1) (pair_by as_str as_str d))
+dependency_in d = option_or (option_map Reference (as_str d)) (option_map (λ pair. Alias pair.0 pair.1) (pair_by as_str as_str d))
 
 abbrev pub dependencies_in : Data → Option Dependencies
 dependencies_in d = option_map entries_of (list_by (pair_by as_str (nullable_by dependency_in)) d)
@@ -141,6 +90,11 @@ fields_in d = do
 -- a value with a float is no manifest
 abbrev pub manifest_in : Data → Option Contents
 manifest_in d = cond (has_float d) None (fields_in d)
+
+-- what a call tells that reads a manifest, by what a reader of its fields tells
+abbrev pub of_reading : FromJsonError → ReadManifestError
+of_reading OtherKind = refusal.BadJson
+of_reading NoMemory = refusal.NoMemory
 
 -- a location is read from the manifest's folder
 abbrev pub located : List ℕ → Package → Package

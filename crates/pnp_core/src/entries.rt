@@ -3,9 +3,8 @@ ghost use Rattle.std.specs.Prelude.{◌≡◌, IfOk, map, []};
 ghost use Rattle.pnp_core.specs.ManifestReading.{entries_of, named};
 ghost use Rattle.indexmap.specs.IndexSet as set;
 
-use crate::ReadManifestError;
-use crate::from_json::FromJson;
 use indexmap::{IndexMap, IndexSet};
+use json_reading::{FromJson, FromJsonError};
 use serde_json::Value;
 use std::alloc::{AllocError, Global};
 use std::hash::Hash;
@@ -29,11 +28,12 @@ impl<V> Model for Entries<V> {
 impl<V: FromJson> FromJson for Entries<V> {
     ghost use Rattle.std.specs.Prelude.{option_map};
     ghost use Rattle.serde_json.specs.Find.{as_str};
-    ghost use Rattle.pnp_core.specs.ManifestReading.{entries_of, list_by, pair_by};
+    ghost use Rattle.json_reading.specs.Reading.{list_by, pair_by};
+    ghost use Rattle.pnp_core.specs.ManifestReading.{entries_of};
 
     ghost reads = { λ d. option_map entries_of (list_by (pair_by as_str V.reads) d) };
 
-    fn from_json(alloc: Global, value: &Value) -> Result<Self, ReadManifestError> {
+    fn from_json(alloc: Global, value: &Value) -> Result<Self, FromJsonError> {
         let pairs = List::<(Text, V)>::from_json(alloc, value)?;
         let entries = collected(alloc, pairs.into())?;
         Ok(entries)
@@ -57,11 +57,12 @@ impl<V> Model for NullableEntries<V> {
 impl<V: FromJson> FromJson for NullableEntries<V> {
     ghost use Rattle.std.specs.Prelude.{option_map, map};
     ghost use Rattle.serde_json.specs.Find.{as_str};
-    ghost use Rattle.pnp_core.specs.ManifestReading.{entries_of, list_by, pair_by, nullable_by, named};
+    ghost use Rattle.json_reading.specs.Reading.{list_by, nullable_by, pair_by};
+    ghost use Rattle.pnp_core.specs.ManifestReading.{entries_of, named};
 
     ghost reads = { λ d. option_map (λ pairs. entries_of (map named pairs)) (list_by (pair_by (nullable_by as_str) V.reads) d) };
 
-    fn from_json(alloc: Global, value: &Value) -> Result<Self, ReadManifestError> {
+    fn from_json(alloc: Global, value: &Value) -> Result<Self, FromJsonError> {
         let pairs = List::<(Option<Text>, V)>::from_json(alloc, value)?;
         let Entries { map } = collected(alloc, named(alloc, pairs.into())?)?;
         Ok(NullableEntries { map })
@@ -85,11 +86,11 @@ impl<T: Eq + Hash> Model for Members<T> {
 impl<T: FromJson + Eq + Hash> FromJson for Members<T> {
     ghost use Rattle.std.specs.Prelude.{option_map, []};
     ghost use Rattle.indexmap.specs.IndexSet as set;
-    ghost use Rattle.pnp_core.specs.ManifestReading.{list_by};
+    ghost use Rattle.json_reading.specs.Reading.{list_by};
 
     ghost reads = { λ d. option_map (set.insert_all T.eq []) (list_by T.reads d) };
 
-    fn from_json(alloc: Global, value: &Value) -> Result<Self, ReadManifestError> {
+    fn from_json(alloc: Global, value: &Value) -> Result<Self, FromJsonError> {
         let members = List::<T>::from_json(alloc, value)?;
         let members = distinct(alloc, members.into())?;
         Ok(members)

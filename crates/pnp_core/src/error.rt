@@ -2,7 +2,8 @@
 ghost use Rattle.std.specs.Prelude.{◌≡◌};
 
 use crate::PackageLocator;
-use std::alloc::{AllocError, AllocFailed};
+use json_reading::FromJsonError;
+use std::alloc::AllocError;
 use sugar_path::Text;
 use thiserror::Error;
 use tree_core::ReadError;
@@ -93,22 +94,15 @@ impl From<ReadError> for Error {
     }
 }
 
-impl From<AllocError> for ReadManifestError {
-    ghost use Rattle.pnp_core.specs.declared.error.ReadManifestError.TheVariants.{NoMemory};
+impl From<FromJsonError> for ReadManifestError {
+    ghost use Rattle.pnp_core.specs.ManifestReading.{of_reading};
 
-    ghost from_gives = { λ _ e. e ≡ NoMemory };
+    ghost from_gives = { λ e raised. raised ≡ of_reading e };
 
-    fn from(_: AllocError) -> Self {
-        ReadManifestError::NoMemory
-    }
-}
-
-impl<T: Drop> From<AllocFailed<T>> for ReadManifestError {
-    ghost use Rattle.pnp_core.specs.declared.error.ReadManifestError.TheVariants.{NoMemory};
-
-    ghost from_gives = { λ _ e. e ≡ NoMemory };
-
-    fn from(_: AllocFailed<T>) -> Self {
-        ReadManifestError::NoMemory
+    fn from(e: FromJsonError) -> Self {
+        match e {
+            FromJsonError::OtherKind => ReadManifestError::BadJson,
+            FromJsonError::NoMemory => ReadManifestError::NoMemory,
+        }
     }
 }

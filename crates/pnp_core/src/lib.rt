@@ -5,8 +5,6 @@ mod bare_identifier;
 mod binding;
 mod entries;
 mod error;
-mod floats;
-mod from_json;
 mod initialize;
 pub mod laws;
 mod loading;

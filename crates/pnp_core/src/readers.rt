@@ -1,15 +1,16 @@
 // A manifest read from the value of its payload.
-ghost use Rattle.std.specs.Prelude.{◌≡◌, IfOk, map};
+ghost use Rattle.std.specs.Prelude.{◌≡◌, Some, None, IfOk, IsErrOf, map};
 ghost use Rattle.serde_json.specs.View.{view};
-ghost use Rattle.pnp_core.specs.ManifestReading.{ReadsAs, entries_of, manifest_in, fields_in};
+ghost use Rattle.json_reading.specs.Reading.{ReadsAs};
+ghost use Rattle.pnp_core.specs.ManifestReading.{entries_of, manifest_in, fields_in};
+ghost use Rattle.pnp_core.specs.declared.error.ReadManifestError.TheVariants.{BadJson};
 
 use crate::entries::{Entries, Members, NullableEntries, named};
-use crate::floats::holds_float;
-use crate::from_json::{FromJson, field, field_or};
 use crate::{
     Manifest, PackageDependency, PackageInformation, PackageLocator, ReadManifestError, Trie,
 };
 use indexmap::{IndexMap, IndexSet};
+use json_reading::{FromJson, FromJsonError, field, field_or, holds_float};
 use serde_json::Value;
 use std::alloc::{AllocError, Global};
 use std::marker::Model;
@@ -18,16 +19,17 @@ use sugar_path::{List, Text};
 /// The manifest that a JSON value says. It has no folder and no path yet, and its locations are as they were written.
 /// `BadJson` comes for a value of another kind and for one that holds a float.
 pub fn read_manifest(alloc: Global, value: &Value) -> Result<Manifest, ReadManifestError>
-    ensures { ReadsAs result (manifest_in (view value.now)) }
+    ensures ok { IfOk result (λ manifest. manifest_in (view value.now) ≡ Some manifest) }
+    ensures refused { IsErrOf result BadJson → manifest_in (view value.now) ≡ None }
 {
     if holds_float(value) {
         return Err(ReadManifestError::BadJson);
     }
-    fields(alloc, value)
+    Ok(fields(alloc, value)?)
 }
 
 // The fields of a manifest; others are passed over.
-fn fields(alloc: Global, value: &Value) -> Result<Manifest, ReadManifestError>
+fn fields(alloc: Global, value: &Value) -> Result<Manifest, FromJsonError>
     ensures { ReadsAs result (fields_in (view value.now)) }
 {
     let enable_top_level_fallback: bool = field(alloc, value, "enableTopLevelFallback")?;
@@ -54,7 +56,7 @@ impl FromJson for PackageLocator {
 
     ghost reads = { locator_in };
 
-    fn from_json(alloc: Global, value: &Value) -> Result<Self, ReadManifestError> {
+    fn from_json(alloc: Global, value: &Value) -> Result<Self, FromJsonError> {
         let name: Text = field(alloc, value, "name")?;
         let reference: Text = field(alloc, value, "reference")?;
         Ok(PackageLocator { name, reference })
@@ -66,7 +68,7 @@ impl FromJson for PackageDependency {
 
     ghost reads = { dependency_in };
 
-    fn from_json(alloc: Global, value: &Value) -> Result<Self, ReadManifestError> {
+    fn from_json(alloc: Global, value: &Value) -> Result<Self, FromJsonError> {
         match value {
             Value::String(reference) => Ok(PackageDependency::Reference(Text::of(
                 alloc,
@@ -85,7 +87,7 @@ impl FromJson for PackageInformation {
 
     ghost reads = { package_in };
 
-    fn from_json(alloc: Global, value: &Value) -> Result<Self, ReadManifestError> {
+    fn from_json(alloc: Global, value: &Value) -> Result<Self, FromJsonError> {
         let package_location: Text = field(alloc, value, "packageLocation")?;
         let discard_from_lookup: bool = field_or(alloc, value, "discardFromLookup", false)?;
         let dependencies: Entries<Option<PackageDependency>> = field(
@@ -120,7 +122,7 @@ impl FromJson for Exclusions {
 
     ghost reads = { exclusions_in };
 
-    fn from_json(alloc: Global, value: &Value) -> Result<Self, ReadManifestError> {
+    fn from_json(alloc: Global, value: &Value) -> Result<Self, FromJsonError> {
         let pairs = List::<(Text, Members<Text>)>::from_json(alloc, value)?;
         let exclusions = collect_exclusions(alloc, pairs.into())?;
         Ok(exclusions)
@@ -161,7 +163,7 @@ impl FromJson for Registry {
 
     ghost reads = { registry_in };
 
-    fn from_json(alloc: Global, value: &Value) -> Result<Self, ReadManifestError> {
+    fn from_json(alloc: Global, value: &Value) -> Result<Self, FromJsonError> {
         let pairs = List::<(Option<Text>, NullableEntries<PackageInformation>)>::from_json(
             alloc, value,
         )?;

@@ -1,6 +1,6 @@
 use Rattle.std.proofs.Common.{◌≡◌, [], refl, rules}
 use Rattle.pnp_core.specs.ManifestReading.{fields_in}
-use Rattle.pnp_core.proofs.Readings.{reads_stops, reads_then, some_then}
+use Rattle.json_reading.proofs.Readings.{reads_stops, reads_then, some_then}
 use Rattle.pnp_core.proofs.readers.fields.Goals as goal
 
 pub returns-in_err-enable_top_level_fallback : goal.returns-in_err-enable_top_level_fallback

@@ -1,6 +1,6 @@
 use Rattle.std.proofs.Common.{refl}
 use Rattle.pnp_core.specs.ManifestReading.{package_in}
-use Rattle.pnp_core.proofs.Readings.{reads_stops, reads_then, some_then}
+use Rattle.json_reading.proofs.Readings.{reads_stops, reads_then, some_then}
 use Rattle.pnp_core.proofs.readers.PackageInformationFromJson.from_json.Goals as goal
 
 pub returns-in_err-package_location : goal.returns-in_err-package_location

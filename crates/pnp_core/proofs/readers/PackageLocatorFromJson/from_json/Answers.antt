@@ -1,6 +1,6 @@
 use Rattle.std.proofs.Common.{refl}
 use Rattle.pnp_core.specs.ManifestReading.{locator_in}
-use Rattle.pnp_core.proofs.Readings.{reads_stops, reads_then, some_then}
+use Rattle.json_reading.proofs.Readings.{reads_stops, reads_then, some_then}
 use Rattle.pnp_core.proofs.readers.PackageLocatorFromJson.from_json.Goals as goal
 
 pub returns-in_err-name : goal.returns-in_err-name

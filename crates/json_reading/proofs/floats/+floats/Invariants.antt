@@ -1,7 +1,7 @@
 use Rattle.std.proofs.Common.{◌≡◌, drop}
 use Rattle.serde_json.specs.View.{items_view, members_view}
 use Rattle.serde_json.specs.Written.{items_have_float, members_have_float}
-use Rattle.pnp_core.proofs.floats.+floats.Given as goal
+use Rattle.json_reading.proofs.floats.+floats.Given as goal
 
 -- what is left decides
 abbrev pub invariant-items_hold-loop-item : goal.invariant-items_hold-loop-item

@@ -5,9 +5,9 @@ ghost use Rattle.serde_json.specs.Written.{has_float, items_have_float, members_
 
 use serde_json::{Map, Value};
 
-// Whether a number of the value is a float.
+/// Whether a number of the value, at any depth, is a float: one with a fraction or an exponent, or outside 64 bits.
 #[cycle(floats)]
-pub(crate) fn holds_float(value: &Value) -> bool
+pub fn holds_float(value: &Value) -> bool
     ensures { result ≡ has_float (view value.now) }
 {
     match value {

@@ -1,13 +1,13 @@
 -- Lists of JSON values, read one member after the other.
 use Rattle.std.proofs.Common.{◌≡◌, ◌≢◌, ◌<◌, ◌+◌, ℕ, List, [], ◌∷◌, ◌++◌, length, get_or, drop, refl, sym, ap, ◌∙◌, append_assoc, append-nil, arith, Option, Some, None}
 use Rattle.std.specs.Prelude.{option_map, option_and_then, Result, Ok, Err, IsErrAnd}
-use Rattle.pnp_core.specs.declared.error.ReadManifestError.{ReadManifestError}
-use Rattle.pnp_core.specs.declared.error.ReadManifestError.TheVariants.{BadJson, NoMemory}
+use Rattle.json_reading.specs.declared.error.FromJsonError.{FromJsonError}
+use Rattle.json_reading.specs.declared.error.FromJsonError.TheVariants.{OtherKind, NoMemory}
 use Rattle.std.proofs.lemmas.List.{drop_more}
 use Rattle.serde_json.specs.Data.{Data, no_items, item}
 use Rattle.serde_json.specs.View.{view, items_view}
 use Rattle.serde_json.specs.declared.value.Value.{Value}
-use Rattle.pnp_core.specs.ManifestReading.{ReadsAs, ◌>>=◌, two_by, items_by}
+use Rattle.json_reading.specs.Reading.{ReadsAs, ◌>>=◌, two_by, items_by}
 
 -- a list of other than two members is no pair
 pub two_by-other : {A B : Type 0} (f : Data → Option A) (g : Data → Option B) (vs : List Value) → length vs ≢ 2 → two_by f g (items_view vs) ≡ None
@@ -38,16 +38,16 @@ pub read_on-none : {A : Type 0} (f : Data → Option A) (made : List A) (vs : Li
 read_on-none f made vs i v lt is reads = rw (drop_more vs i v lt, ← is, reads) refl
 
 -- a field that isn't read ends the reading
-pub reads_stops : {A B : Type 0} (e : ReadManifestError) (k : A → Option B) (r : Result B ReadManifestError) (o : Option A) → IsErrAnd r (λ x. x ≡ e) → ReadsAs {A = A} (Err e) o → ReadsAs r (o >>= k)
+pub reads_stops : {A B : Type 0} (e : FromJsonError) (k : A → Option B) (r : Result B FromJsonError) (o : Option A) → IsErrAnd r (λ x. x ≡ e) → ReadsAs {A = A} (Err e) o → ReadsAs r (o >>= k)
 reads_stops e k (Ok b) o is h = elim is [ ]
 reads_stops {A} {B} e k (Err x) o is h = rw is (by_error e h)
   where
-    by_error : (e : ReadManifestError) → ReadsAs {A = A} (Err e) o → ReadsAs {A = B} (Err e) (o >>= k)
-    by_error BadJson h = rw h refl
+    by_error : (e : FromJsonError) → ReadsAs {A = A} (Err e) o → ReadsAs {A = B} (Err e) (o >>= k)
+    by_error OtherKind h = rw h refl
     by_error NoMemory h = tt
 
 -- a field that is read leads to the rest
-pub reads_then : {A B : Type 0} {a : A} (k : A → Option B) (r : Result B ReadManifestError) (o : Option A) → o ≡ Some a → ReadsAs r (k a) → ReadsAs r (o >>= k)
+pub reads_then : {A B : Type 0} {a : A} (k : A → Option B) (r : Result B FromJsonError) (o : Option A) → o ≡ Some a → ReadsAs r (k a) → ReadsAs r (o >>= k)
 reads_then k r o read rest = rw read rest
 
 pub some_then : {A B : Type 0} {a : A} {b : B} (k : A → Option B) (o : Option A) → o ≡ Some a → k a ≡ Some b → (o >>= k) ≡ Some b

@@ -1,0 +1,63 @@
+-- What a JSON value (RFC 8259) reads as: a reader takes a value to what it says, and to nothing where the value is of another kind.
+use Rattle.std.specs.Prelude.{◌≡◌, ℕ, List, [], ◌∷◌, Option, Some, None, Result, Ok, Err, option_map, option_and_then}
+use Rattle.serde_json.specs.Data.{Data, null, boolean, number, string, array, object, Items, no_items, item}
+use Rattle.serde_json.specs.Find.{get, as_array}
+use Rattle.json_reading.specs.declared.error.FromJsonError.{FromJsonError}
+use Rattle.json_reading.specs.declared.error.FromJsonError.TheVariants.{OtherKind, NoMemory}
+
+-- one reading behind the other: nothing where either gives nothing
+infixl 10 ◌>>=◌
+abbrev pub ◌>>=◌ : {A B : Type 0} → Option A → (A → Option B) → Option B
+found >>= next = option_and_then next found
+
+-- a call answers what is read, and refuses where nothing is
+abbrev pub ReadsAs : {A : Type 0} → Result A FromJsonError → Option A → Type 0
+ReadsAs (Ok a) o = o ≡ Some a
+ReadsAs (Err OtherKind) o = o ≡ None
+ReadsAs (Err NoMemory) o = Unit {0}
+
+-- each item of a list, read in order
+abbrev pub items_by : {A : Type 0} → (Data → Option A) → Items → Option (List A)
+items_by f no_items = Some []
+items_by f (item d ds) = do
+  a ← f d
+  rest ← items_by f ds
+  Some (a ∷ rest)
+
+abbrev pub list_by : {A : Type 0} → (Data → Option A) → Data → Option (List A)
+list_by f d = as_array d >>= items_by f
+
+-- exactly two items, read
+abbrev pub two_by : {A B : Type 0} → (Data → Option A) → (Data → Option B) → Items → Option (A × B)
+two_by f g no_items = None
+two_by f g (item a no_items) = None
+two_by f g (item a (item b no_items)) = do
+  first ← f a
+  second ← g b
+  Some (first, second)
+two_by f g (item a (item b (item c rest))) = None
+
+abbrev pub pair_by : {A B : Type 0} → (Data → Option A) → (Data → Option B) → Data → Option (A × B)
+pair_by f g d = as_array d >>= two_by f g
+
+-- a value that may be null
+abbrev pub nullable_by : {A : Type 0} → (Data → Option A) → Data → Option (Option A)
+nullable_by f null = Some None
+nullable_by f (boolean b) = option_map Some (f (boolean b))
+nullable_by f (number n) = option_map Some (f (number n))
+nullable_by f (string s) = option_map Some (f (string s))
+nullable_by f (array ds) = option_map Some (f (array ds))
+nullable_by f (object ms) = option_map Some (f (object ms))
+
+-- the member of an object that has to be there
+abbrev pub field_by : {A : Type 0} → List ℕ → (Data → Option A) → Data → Option A
+field_by key f d = get key d >>= f
+
+-- a value that may be absent, and what stands for it then
+abbrev pub present_or : {A : Type 0} → A → (Data → Option A) → Option Data → Option A
+present_or absent f None = Some absent
+present_or absent f (Some d) = f d
+
+-- the member of an object, and what stands for it where it is absent. A value that isn't an object has no member
+abbrev pub field_or : {A : Type 0} → List ℕ → A → (Data → Option A) → Data → Option A
+field_or key absent f d = present_or absent f (get key d)

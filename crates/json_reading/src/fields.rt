@@ -1,0 +1,35 @@
+// The members of an object.
+ghost use Rattle.serde_json.specs.View.{view};
+ghost use Rattle.json_reading.specs.Reading.{ReadsAs, field_by};
+ghost use Rattle.json_reading.specs.Reading as reading;
+
+use crate::error::FromJsonError;
+use crate::from_json::FromJson;
+use serde_json::Value;
+use std::alloc::Global;
+
+/// A member that has to be there. `OtherKind` comes where the value is no object, where the object lacks it, and where it is
+/// of another kind.
+pub fn field<T: FromJson>(alloc: Global, value: &Value, name: &str) -> Result<T, FromJsonError>
+    ensures { ReadsAs result (field_by name.now T.reads (view value.now)) }
+{
+    match value.get(name) {
+        Some(member) => T::from_json(alloc, member),
+        None => Err(FromJsonError::OtherKind),
+    }
+}
+
+/// A member, or what stands for it where it is absent, also where the value is no object. A null member isn't absent.
+pub fn field_or<T: FromJson>(
+    alloc: Global,
+    value: &Value,
+    name: &str,
+    absent: T,
+) -> Result<T, FromJsonError>
+    ensures { ReadsAs result (reading.field_or name.now absent T.reads (view value.now)) }
+{
+    match value.get(name) {
+        Some(member) => T::from_json(alloc, member),
+        None => Ok(absent),
+    }
+}
