@@ -1,1 +1,6 @@
 pub mod RisingNames
+pub mod NewNames
+pub mod Colons
+pub mod Copies
+pub mod Escapes
+pub mod Parents

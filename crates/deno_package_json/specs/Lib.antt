@@ -7,3 +7,5 @@ pub mod FileUrl
 pub mod Requirements
 pub mod Message
 pub mod Value
+pub mod Reader
+pub mod Cache

@@ -1,8 +1,6 @@
 -- The package of a JSON value and of a text, or the first fault.
-use Rattle.std.specs.Prelude.{◌≡◌, ℕ, List, Option, Some, None, Result, Ok, Err, codes, if◌then◌else◌}
-use Rattle.std.specs.Char.{is_whitespace}
-use Rattle.std.specs.List.{list_all}
-use Rattle.std.specs.Str.{chars}
+use Rattle.std.specs.Prelude.{◌≡◌, ◌==◌, ℕ, List, length, Option, Some, None, Result, Ok, Err, codes, if◌then◌else◌}
+use Rattle.std.specs.Str.{trim}
 use Rattle.serde_json.specs.Data.{Data}
 use Rattle.serde_json.specs.Find.{get}
 use Rattle.serde_json.specs.Read.{read}
@@ -44,7 +42,7 @@ from_json path (Some d) = from_value path d
 
 -- the package of a text: white space says nothing, any other text is JSON of at most 127 levels
 abbrev pub from_text : List ℕ → List ℕ → Result Package PackageJsonLoadError
-from_text path text = if list_all is_whitespace (chars text) then Ok (empty_package path) else from_json path (read text)
+from_text path text = if length (trim text) == 0 then Ok (empty_package path) else from_json path (read text)
 
 -- a refusal is the first fault, or want of memory
 abbrev pub RefusedFor : PackageJsonLoadError → Result Package PackageJsonLoadError → Type 0

@@ -1,6 +1,7 @@
 -- A package as the JSON that its file could hold.
-use Rattle.std.specs.Prelude.{ℕ, List, [], ◌∷◌, ◌++◌, Option, codes, fold, option_map, unwrap_or}
-use Rattle.serde_json.specs.Data.{Data, null, string, array, object, Items, no_items, item, Members, no_members, put}
+use Rattle.std.specs.Prelude.{ℕ, List, [], ◌∷◌, Option, codes, fold, map, option_map, unwrap_or}
+use Rattle.serde_json.specs.Data.{Data, null, string, array, object, Members, no_members, put}
+use Rattle.serde_json.specs.View.{items_of}
 use Rattle.deno_package_json.specs.Package.{Package, Table}
 
 -- fields by name
@@ -18,12 +19,8 @@ or_null f o = unwrap_or (option_map f o) null
 abbrev pub table_value : Table → Data
 table_value table = object (fold (λ found entry. put entry.0 (string entry.1) found) no_members table)
 
-abbrev pub items_from : List (List ℕ) → Items
-items_from [] = no_items
-items_from (text ∷ texts) = item (string text) (items_from texts)
-
 abbrev pub texts_value : List (List ℕ) → Data
-texts_value texts = array (items_from texts)
+texts_value texts = array (items_of (map string texts))
 
 -- the fields that are kept as JSON
 abbrev pub json_fields : Package → Fields

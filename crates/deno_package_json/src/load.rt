@@ -4,16 +4,16 @@ ghost use Rattle.serde_json.specs.Find.{get};
 ghost use Rattle.serde_json.specs.View.{view, members_view};
 ghost use Rattle.deno_package_json.specs.Exports.{exports_in};
 ghost use Rattle.deno_package_json.specs.Fields.{imports_in, table_under, text_under, texts_under, typ_in, types_in};
-ghost use Rattle.deno_package_json.specs.Loading.{Loads, from_value, package_in};
-ghost use Rattle.deno_package_json.specs.Package.{package_of};
+ghost use Rattle.deno_package_json.specs.Loading.{Loads, from_text, from_value, package_in};
+ghost use Rattle.deno_package_json.specs.Package.{empty_package, package_of};
 
 use crate::error::PackageJsonLoadError;
 use crate::exports::{bin_in, exports_in, has_mixed_exports, imports_in};
 use crate::fields::{text_under, typ_in, types_in};
-use crate::floats::holds_float;
 use crate::package_json::PackageJson;
 use crate::tables::{table_under, texts_under};
 use indexmap::IndexMap;
+use json_reading::holds_float;
 use serde_json::{Map, Value};
 use std::alloc::{AllocError, Global};
 use sugar_path::{List, Text};
@@ -35,6 +35,50 @@ impl PackageJson {
         }
         Ok(package_in(alloc, path, value)?)
     }
+
+    /// The package of a text, whose file is told to be at the path. White space alone is an empty package.
+    pub fn load_from_string(
+        alloc: Global,
+        path: Text,
+        source: &str,
+    ) -> Result<PackageJson, PackageJsonLoadError>
+        ensures { Loads result (from_text path source.now) }
+    {
+        if source.trim().is_empty() {
+            return Ok(empty_package(alloc, path)?);
+        }
+        match Value::from_str(alloc, source) {
+            Ok(value) => PackageJson::load_from_value(alloc, path, &value),
+            Err(e) => if e.is_memory() {
+                Err(PackageJsonLoadError::NoMemory)
+            } else {
+                Err(PackageJsonLoadError::Deserialize { path })
+            },
+        }
+    }
+}
+
+// The package of a file that says nothing.
+fn empty_package(alloc: Global, path: Text) -> Result<PackageJson, AllocError>
+    ensures { IfOk result (λ p. package_of p ≡ empty_package path) }
+{
+    let typ = Text::of(alloc, "none")?;
+    Ok(PackageJson {
+        exports: None,
+        imports: None,
+        bin: None,
+        main: None,
+        module: None,
+        name: None,
+        version: None,
+        path,
+        typ,
+        types: None,
+        dependencies: None,
+        dev_dependencies: None,
+        scripts: None,
+        workspaces: None,
+    })
 }
 
 // The fields of a value that has passed the tests.

@@ -1,9 +1,9 @@
 // A package as JSON.
-ghost use Rattle.std.specs.Prelude.{◌≡◌, IfOk, OnOk, fold, option_map};
+ghost use Rattle.std.specs.Prelude.{◌≡◌, IfOk, OnOk, fold, map, option_map};
 ghost use Rattle.serde_json.specs.Data.{no_members, object, put as with_member, string};
-ghost use Rattle.serde_json.specs.View.{view, items_view, members_view};
+ghost use Rattle.serde_json.specs.View.{view, items_of, items_view, members_view};
 ghost use Rattle.deno_package_json.specs.Package.{package_of};
-ghost use Rattle.deno_package_json.specs.Value.{items_from, json_fields, or_null, table_fields, table_value, text_fields, texts_value, value_of, with_fields};
+ghost use Rattle.deno_package_json.specs.Value.{json_fields, or_null, table_fields, table_value, text_fields, texts_value, value_of, with_fields};
 
 use crate::package_json::PackageJson;
 use indexmap::IndexMap;
@@ -118,7 +118,7 @@ fn texts_or_null(alloc: Global, texts: &Option<List<Text>>) -> Result<Value, All
 }
 
 fn text_values(alloc: Global, texts: &[Text]) -> Result<Vec<Value>, AllocError>
-    ensures { IfOk result (λ values. items_view values.items ≡ items_from texts.now) }
+    ensures { IfOk result (λ values. items_view values.items ≡ items_of (map string texts.now)) }
 {
     let mut values = Vec::new(alloc);
     for text in texts {
