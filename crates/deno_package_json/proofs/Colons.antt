@@ -31,7 +31,7 @@ around_colon-some (c ∷ cs) h = by_test (c == 58) h (around_colon-some cs)
     by_test false h rest = later (position_or_len is_colon cs) ∙ ap (parted_by false c cs) (rest (omega arith))
       where
         later : (n : ℕ) → parted_at (1 + n) (c ∷ cs) ≡ parted_by false c cs (parted_at n cs)
-        later n = rw (one-add n, add-one n) refl
+        later n = rw (one-add n, add-one n, add-one (suc n)) refl
 
 abbrev parted_now : Bor (List ℕ) × Bor (List ℕ) → Option (List ℕ × List ℕ)
 parted_now x = Some (x.0.now, x.1.now)

@@ -4,3 +4,4 @@ pub mod Colons
 pub mod Copies
 pub mod Escapes
 pub mod Parents
+pub mod KeptEntries

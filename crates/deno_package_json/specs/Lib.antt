@@ -9,3 +9,4 @@ pub mod Message
 pub mod Value
 pub mod Reader
 pub mod Cache
+pub mod PathLoading

@@ -1,7 +1,7 @@
 // Packages that are kept by the paths of their files.
 ghost use Rattle.std.specs.Prelude.{◌≡◌, IfOk, OnOk, OnErr, option_map, string_bytes};
 ghost use Rattle.std.specs.FinMap as finite;
-ghost use Rattle.deno_package_json.specs.Cache.{Kept, kept_by};
+ghost use Rattle.deno_package_json.specs.Cache.{Kept, shared};
 
 use crate::rc::PackageJsonRc;
 use std::alloc::{AllocError, Global};
@@ -15,11 +15,11 @@ pub trait PackageJsonCache {
 
     /// The package that is kept under a path.
     fn get(&self, path: &str) -> Result<Option<PackageJsonRc>, AllocError>
-        ensures { IfOk result (λ found. option_map (λ rc. rc.value) found ≡ finite.get (kept self.now) path.now) };
+        ensures { IfOk result (λ found. option_map shared found ≡ finite.get (kept self.now) path.now) };
 
     /// Keeps a package under a path, in place of an earlier one.
     fn set(&mut self, path: Text, package_json: PackageJsonRc) -> Result<(), AllocError>
-        ensures put { OnOk result (kept self.new ≡ finite.insert (kept self.old) path package_json.value) }
+        ensures put { OnOk result (kept self.new ≡ finite.insert (kept self.old) path (shared package_json)) }
         ensures same { OnErr result (kept self.new ≡ kept self.old) };
 }
 
@@ -41,9 +41,9 @@ impl BTreeMapCache {
 }
 
 impl PackageJsonCache for BTreeMapCache {
-    ghost use Rattle.deno_package_json.specs.Cache.{kept_by};
+    ghost use Rattle.deno_package_json.specs.Cache.{kept_by, shared};
 
-    ghost kept = { λ c. kept_by c.packages.entries (λ rc. rc.value) };
+    ghost kept = { λ c. kept_by c.packages.entries shared };
 
     fn get(&self, path: &str) -> Result<Option<PackageJsonRc>, AllocError> {
         match self.packages.get(path) {

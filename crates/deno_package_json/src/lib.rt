@@ -10,6 +10,7 @@ mod fields;
 mod fs;
 mod kind;
 mod load;
+mod load_path;
 mod location;
 mod package_json;
 mod rc;
