@@ -25,11 +25,11 @@ get-from_texts es q = finite.get-from_entries nat_list_cmp_total es q ∙ found-
 
 found-kept : {V W : Type 0} (es : List (String Global × V)) (seen : V → W) (q : List ℕ) → finite.find (slice_cmp nat_cmp) q (map (λ e. (string_bytes e.0, seen e.1)) es) ≡ option_map seen (lookup (is_at (λ k. slice_cmp nat_cmp q (string_bytes k))) es)
 found-kept [] seen q = refl
-found-kept {V = V} {W = W} (e ∷ es) seen q = by_test (is_at (λ k. slice_cmp nat_cmp q (string_bytes k)) e.0) (found-kept es seen q)
+found-kept {V = V} {W = W} (e ∷ es) seen q = by_test (is_at (λ k. slice_cmp nat_cmp q (string_bytes k)) e.0) _ _ (found-kept es seen q)
   where
-    by_test : (b : Bool) {f : Option W} {l : Option V} → f ≡ option_map seen l → cond b (Some (seen e.1)) f ≡ option_map seen (cond b (Some e.1) l)
-    by_test true rest = refl
-    by_test false rest = rest
+    by_test : (b : Bool) (f : Option W) (l : Option V) → f ≡ option_map seen l → cond b (Some (seen e.1)) f ≡ option_map seen (cond b (Some e.1) l)
+    by_test true f l rest = refl
+    by_test false f l rest = rest
 
 pub get-kept_by : {V W : Type 0} (es : List (String Global × V)) (seen : V → W) (q : List ℕ) → finite.get (kept_by es seen) q ≡ option_map seen (lookup (is_at (λ k. slice_cmp nat_cmp q (string_bytes k))) es)
 get-kept_by es seen q = finite.get-from_entries nat_list_cmp_total _ q ∙ found-kept es seen q

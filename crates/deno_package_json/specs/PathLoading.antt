@@ -1,5 +1,7 @@
 -- Loads by way of a reader of files, and of a cache.
-use Rattle.std.specs.Prelude.{◌≡◌, ℕ, List, Option, Some, None, Result, Ok, Err}
+use Rattle.std.specs.Prelude.{◌≡◌, ◌⊎◌, ℕ, List, Option, Some, None, Result, Ok, Err, option_map, option_and_then}
+use Rattle.std.specs.Borrow.{MutBor}
+use Rattle.std.proofs.Common.{inl, inr}
 use Rattle.std.specs.FinMap as finite
 use Rattle.std.specs.declared.alloc.Global.{Global}
 use Rattle.std.specs.declared.rc.Rc.{Rc}
@@ -50,3 +52,24 @@ HasLoadCause before now (Err e) = IsCauseOf before now e
 abbrev pub KeepsAnswer : Kept → Kept → List ℕ → Loaded → Type 0
 KeepsAnswer old new path (Ok rc) = new ≡ finite.insert old path (shared rc)
 KeepsAnswer old new path (Err e) = new ≡ old
+
+-- what a cache that may be lent keeps as the call begins
+abbrev pub lent_kept : {C : Type 0} → (C → Kept) → Option (MutBor C) → Option Kept
+lent_kept kept lent = option_map (λ c. kept c.now) lent
+
+-- what it keeps as the call ends, where the loan is seen by its cases: no cache, or the one that was lent
+abbrev pub left_kept : {C : Type 0} → (C → Kept) → Unit {0} ⊎ ((MutBor C × Unit {0}) ⊎ ⊥) → Option Kept
+left_kept kept (inl nothing) = None
+left_kept kept (inr (inl lent)) = Some (kept lent.0.now)
+left_kept kept (inr (inr never)) = absurd never
+
+-- a cache that was lent keeps the answer
+abbrev pub KeepsIfLent : Option Kept → Option Kept → List ℕ → Loaded → Type 0
+KeepsIfLent None None path result = Unit {0}
+KeepsIfLent None (Some new) path result = ⊥
+KeepsIfLent (Some old) None path result = ⊥
+KeepsIfLent (Some old) (Some new) path result = KeepsAnswer old new path result
+
+-- what a cache that may be lent keeps under a path
+abbrev pub kept_at : List ℕ → Option Kept → Option PackageJson
+kept_at path lent = option_and_then (λ kept. finite.get kept path) lent
