@@ -27,7 +27,10 @@ pub enum PackageJsonDepValueParseError {
 }
 
 /// Requirements by the names under which a package asks for them.
-pub type PackageJsonDeps = IndexMap<Text, Result<PackageJsonDepValue, PackageJsonDepValueParseError>>;
+pub type PackageJsonDeps = IndexMap<
+    Text,
+    Result<PackageJsonDepValue, PackageJsonDepValueParseError>,
+>;
 
 impl PackageJsonDepValueParseError {
     /// The message in full. On a range it shows the range from the place on.

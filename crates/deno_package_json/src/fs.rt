@@ -103,7 +103,10 @@ pub struct RealDenoPkgJsonFs<'r, R: Files + AllocGlobal> {
 }
 
 impl<'r, R: Files + AllocGlobal> RealDenoPkgJsonFs<'r, R> {
-    pub fn new(rt: &'r R) -> RealDenoPkgJsonFs<'r, R> {
+    /// A reader of the runtime's files.
+    pub fn new(rt: &'r R) -> RealDenoPkgJsonFs<'r, R>
+        ensures { ⟦<RealDenoPkgJsonFs<'r, R> as DenoPkgJsonFs>⟧.faults result ≡ 0 }
+    {
         RealDenoPkgJsonFs { rt, faults: 0 }
     }
 }

@@ -25,3 +25,8 @@ pub use fs::{DenoPkgJsonFs, MapFs, RealDenoPkgJsonFs};
 pub use kind::NodeModuleKind;
 pub use package_json::PackageJson;
 pub use rc::{PackageJsonRc, new_rc};
+
+#[cfg(test)]
+mod test_loads;
+#[cfg(test)]
+mod tests;

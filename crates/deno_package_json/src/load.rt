@@ -25,7 +25,8 @@ impl PackageJson {
         path: Text,
         value: &Value,
     ) -> Result<PackageJson, PackageJsonLoadError>
-        ensures { Loads result (from_value path (view value.now)) }
+        ensures loads { Loads result (from_value path (view value.now)) }
+        ensures path { IfOk result (λ p. p.path ≡ path) }
     {
         if holds_float(value) {
             return Err(PackageJsonLoadError::HoldsFloat { path });
@@ -42,7 +43,8 @@ impl PackageJson {
         path: Text,
         source: &str,
     ) -> Result<PackageJson, PackageJsonLoadError>
-        ensures { Loads result (from_text path source.now) }
+        ensures loads { Loads result (from_text path source.now) }
+        ensures path { IfOk result (λ p. p.path ≡ path) }
     {
         if source.trim().is_empty() {
             return Ok(empty_package(alloc, path)?);
@@ -60,7 +62,8 @@ impl PackageJson {
 
 // The package of a file that says nothing.
 fn empty_package(alloc: Global, path: Text) -> Result<PackageJson, AllocError>
-    ensures { IfOk result (λ p. package_of p ≡ empty_package path) }
+    ensures fields { IfOk result (λ p. package_of p ≡ empty_package path) }
+    ensures path { IfOk result (λ p. p.path ≡ path) }
 {
     let typ = Text::of(alloc, "none")?;
     Ok(PackageJson {
@@ -83,7 +86,8 @@ fn empty_package(alloc: Global, path: Text) -> Result<PackageJson, AllocError>
 
 // The fields of a value that has passed the tests.
 fn package_in(alloc: Global, path: Text, value: &Value) -> Result<PackageJson, AllocError>
-    ensures { IfOk result (λ p. package_of p ≡ package_in path (view value.now)) }
+    ensures fields { IfOk result (λ p. package_of p ≡ package_in path (view value.now)) }
+    ensures path { IfOk result (λ p. p.path ≡ path) }
 {
     let entries = Entries::of(alloc, value)?;
     let texts = Texts::of(alloc, value)?;

@@ -10,7 +10,24 @@ use std::alloc::{AllocError, Global};
 use sugar_path::{Path, SugarPath, Text, parent};
 
 // What a file URL escapes of a path, beside all bytes above 127.
-const ESCAPED: AsciiSet = ascii_set!(CONTROLS.add(b' ').add(b'"').add(b'#').add(b'%').add(b'<').add(b'>').add(b'?').add(b'[').add(b'\\').add(b']').add(b'^').add(b'`').add(b'{').add(b'|').add(b'}'));
+const ESCAPED: AsciiSet = ascii_set!(
+    CONTROLS
+        .add(b' ')
+        .add(b'"')
+        .add(b'#')
+        .add(b'%')
+        .add(b'<')
+        .add(b'>')
+        .add(b'?')
+        .add(b'[')
+        .add(b'\\')
+        .add(b']')
+        .add(b'^')
+        .add(b'`')
+        .add(b'{')
+        .add(b'|')
+        .add(b'}')
+);
 
 impl PackageJson {
     /// The folder of the file. It takes no memory.
@@ -18,7 +35,9 @@ impl PackageJson {
         requires { IsSome (parent_of self.now.path) }
         ensures { parent_of self.now.path ≡ Some result.now }
     {
-        parent(Path::of_text(self.path.as_str())).unwrap().to_slash()
+        parent(Path::of_text(self.path.as_str()))
+            .unwrap()
+            .to_slash()
     }
 
     /// The file's URL. The path is an absolute one.

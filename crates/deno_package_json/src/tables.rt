@@ -23,10 +23,7 @@ pub(crate) fn table_under(
     }
 }
 
-fn table_of(
-    alloc: Global,
-    members: &Map<String, Value>,
-) -> Result<IndexMap<Text, Text>, AllocError>
+fn table_of(alloc: Global, members: &Map<String, Value>) -> Result<IndexMap<Text, Text>, AllocError>
     ensures { IfOk result (λ table. table.entries ≡ table_of (members_view members.now.entries)) }
 {
     let mut table = IndexMap::with_capacity(alloc, members.len())?;

@@ -50,8 +50,18 @@ fn put_texts(
     put(fields, alloc, "main", text_or_null(alloc, &from.main)?)?;
     put(fields, alloc, "module", text_or_null(alloc, &from.module)?)?;
     put(fields, alloc, "name", text_or_null(alloc, &from.name)?)?;
-    put(fields, alloc, "version", text_or_null(alloc, &from.version)?)?;
-    put(fields, alloc, "type", Value::try_from_str(alloc, from.typ.as_str())?)?;
+    put(
+        fields,
+        alloc,
+        "version",
+        text_or_null(alloc, &from.version)?,
+    )?;
+    put(
+        fields,
+        alloc,
+        "type",
+        Value::try_from_str(alloc, from.typ.as_str())?,
+    )?;
     put(fields, alloc, "types", text_or_null(alloc, &from.types)?)
 }
 
@@ -62,10 +72,30 @@ fn put_tables(
 ) -> Result<(), AllocError>
     ensures { OnOk result (members_view fields.new.entries ≡ with_fields (members_view fields.old.entries) (table_fields (package_of from.now))) }
 {
-    put(fields, alloc, "dependencies", table_or_null(alloc, &from.dependencies)?)?;
-    put(fields, alloc, "devDependencies", table_or_null(alloc, &from.dev_dependencies)?)?;
-    put(fields, alloc, "scripts", table_or_null(alloc, &from.scripts)?)?;
-    put(fields, alloc, "workspaces", texts_or_null(alloc, &from.workspaces)?)
+    put(
+        fields,
+        alloc,
+        "dependencies",
+        table_or_null(alloc, &from.dependencies)?,
+    )?;
+    put(
+        fields,
+        alloc,
+        "devDependencies",
+        table_or_null(alloc, &from.dev_dependencies)?,
+    )?;
+    put(
+        fields,
+        alloc,
+        "scripts",
+        table_or_null(alloc, &from.scripts)?,
+    )?;
+    put(
+        fields,
+        alloc,
+        "workspaces",
+        texts_or_null(alloc, &from.workspaces)?,
+    )
 }
 
 fn object_or_null(members: &Option<Map<String, Value>>) -> Result<Value, AllocError>
@@ -103,7 +133,12 @@ fn table_members(
 {
     let mut members = Map::new(alloc);
     for (name, text) in table.iter() {
-        put(&mut members, alloc, name.as_str(), Value::try_from_str(alloc, text.as_str())?)?;
+        put(
+            &mut members,
+            alloc,
+            name.as_str(),
+            Value::try_from_str(alloc, text.as_str())?,
+        )?;
     }
     Ok(members)
 }

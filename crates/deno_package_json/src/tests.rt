@@ -1,0 +1,288 @@
+// Values from outside, and that calls succeed: the fields, their JSON and the paths.
+use crate::{NodeModuleKind, PackageJson, PackageJsonLoadError, new_rc};
+use serde_json::Value;
+use std::alloc::Global;
+use std::test::Fail;
+use sugar_path::Text;
+
+// A package whose file lies in `/p`.
+fn loaded(alloc: Global, source: &str) -> Result<PackageJson, PackageJsonLoadError> {
+    PackageJson::load_from_string(alloc, Text::of(alloc, "/p/package.json")?, source)
+}
+
+fn value_of(alloc: Global, source: &str) -> Result<Value, PackageJsonLoadError> {
+    let package = loaded(alloc, source)?;
+    Ok(package.to_value(alloc)?)
+}
+
+// The compact JSON of one field.
+fn field_of(alloc: Global, source: &str, name: &str) -> Result<String, PackageJsonLoadError> {
+    let value = value_of(alloc, source)?;
+    match value.get(name) {
+        Some(field) => Ok(field.to_string(alloc)?),
+        None => Ok(String::from_str(alloc, "absent")?),
+    }
+}
+
+#[test]
+fn fields_are_read_by_their_kinds(rt: HostRuntime) -> Result<(), Fail> {
+    for (source, name, written) in [
+        ("{}", "type", "\"none\""),
+        ("[]", "type", "\"none\""),
+        ("\"x\"", "name", "null"),
+        ("null", "main", "null"),
+        ("7", "version", "null"),
+        ("{\"main\":\"m\"}", "main", "\"m\""),
+        ("{\"main\":\" m \"}", "main", "\" m \""),
+        ("{\"main\":7}", "main", "\"7\""),
+        ("{\"main\":-7}", "main", "\"-7\""),
+        (
+            "{\"main\":18446744073709551615}",
+            "main",
+            "\"18446744073709551615\"",
+        ),
+        (
+            "{\"main\":-9223372036854775808}",
+            "main",
+            "\"-9223372036854775808\"",
+        ),
+        ("{\"main\":null}", "main", "null"),
+        ("{\"main\":true}", "main", "null"),
+        ("{\"main\":[]}", "main", "null"),
+        ("{\"main\":{}}", "main", "null"),
+        ("{\"module\":0}", "module", "\"0\""),
+        ("{\"name\":\"n\"}", "name", "\"n\""),
+        ("{\"name\":[\"n\"]}", "name", "null"),
+        ("{\"version\":1}", "version", "\"1\""),
+        ("{\"name\":\"a\",\"name\":\"b\"}", "name", "\"b\""),
+        ("{\"type\":\"module\"}", "type", "\"module\""),
+        ("{\"type\":\"commonjs\"}", "type", "\"commonjs\""),
+        ("{\"type\":\"Module\"}", "type", "\"none\""),
+        ("{\"type\":7}", "type", "\"none\""),
+        ("{\"type\":null}", "type", "\"none\""),
+        ("{\"types\":\"t\"}", "types", "\"t\""),
+        ("{\"types\":\"t\",\"typings\":\"u\"}", "types", "\"u\""),
+        ("{\"types\":\"t\",\"typings\":3}", "types", "\"3\""),
+        ("{\"types\":\"t\",\"typings\":null}", "types", "null"),
+        ("{\"types\":\"t\",\"typings\":[]}", "types", "null"),
+        ("{\"imports\":{\"#a\":1}}", "imports", "{\"#a\":1}"),
+        ("{\"imports\":\"x\"}", "imports", "null"),
+        ("{\"imports\":[1]}", "imports", "null"),
+        ("{\"bin\":{\"a\":[1,true]}}", "bin", "{\"a\":[1,true]}"),
+        ("{\"bin\":false}", "bin", "false"),
+        ("{\"exports\":\"x\"}", "exports", "{\".\":\"x\"}"),
+        (
+            "{\"exports\":[\"x\",null]}",
+            "exports",
+            "{\".\":[\"x\",null]}",
+        ),
+        (
+            "{\"exports\":{\"import\":\"x\",\"\":1}}",
+            "exports",
+            "{\".\":{\"\":1,\"import\":\"x\"}}",
+        ),
+        (
+            "{\"exports\":{\"./b\":1,\".\":2}}",
+            "exports",
+            "{\".\":2,\"./b\":1}",
+        ),
+        ("{\"exports\":{}}", "exports", "{}"),
+        ("{\"exports\":null}", "exports", "null"),
+        ("{\"exports\":7}", "exports", "null"),
+        ("{\"exports\":true}", "exports", "null"),
+        (
+            "{\"dependencies\":{\"b\":\"1\",\"a\":2,\"c\":null,\"d\":[],\"e\":{},\"f\":true,\"g\":-3}}",
+            "dependencies",
+            "{\"a\":\"2\",\"b\":\"1\",\"g\":\"-3\"}",
+        ),
+        ("{\"dependencies\":[]}", "dependencies", "null"),
+        ("{\"dependencies\":\"a\"}", "dependencies", "null"),
+        ("{\"dependencies\":{}}", "dependencies", "{}"),
+        (
+            "{\"devDependencies\":{\"a\":\"^1\"}}",
+            "devDependencies",
+            "{\"a\":\"^1\"}",
+        ),
+        (
+            "{\"scripts\":{\"b\":\"x\",\"a\":0}}",
+            "scripts",
+            "{\"a\":\"0\",\"b\":\"x\"}",
+        ),
+        ("{\"scripts\":null}", "scripts", "null"),
+        (
+            "{\"workspaces\":[\"a\",1,null,true,[],{},\"b\"]}",
+            "workspaces",
+            "[\"a\",\"1\",\"b\"]",
+        ),
+        (
+            "{\"workspaces\":{\"packages\":[\"a\"]}}",
+            "workspaces",
+            "null",
+        ),
+    ] {
+        let field = field_of(rt.alloc(), source, name)?;
+        assert_eq!(rt; field.as_str(), written, "{name} of {source}");
+    }
+    Ok(())
+}
+
+// Which fault is told, or that there is none.
+fn fault_of(loaded: &Result<PackageJson, PackageJsonLoadError>) -> &'static str {
+    match loaded {
+        Ok(_) => "none",
+        Err(PackageJsonLoadError::Io { .. }) => "Io",
+        Err(PackageJsonLoadError::Deserialize { .. }) => "Deserialize",
+        Err(PackageJsonLoadError::HoldsFloat { .. }) => "HoldsFloat",
+        Err(PackageJsonLoadError::MixedExports { .. }) => "MixedExports",
+        Err(PackageJsonLoadError::NoMemory) => "NoMemory",
+    }
+}
+
+#[test]
+fn the_first_fault_is_told(rt: HostRuntime) -> Result<(), Fail> {
+    for (source, fault) in [
+        ("", "none"),
+        (" \t\r\n\u{a0}\u{2003}\u{3000}", "none"),
+        ("{", "Deserialize"),
+        ("{} {}", "Deserialize"),
+        ("\u{feff}{}", "Deserialize"),
+        ("{\"name\":\"\\ud800\"}", "Deserialize"),
+        ("{\"x\":1.5}", "HoldsFloat"),
+        ("{\"x\":[{\"y\":1e2}]}", "HoldsFloat"),
+        ("{\"x\":18446744073709551616}", "HoldsFloat"),
+        ("{\"x\":-0}", "HoldsFloat"),
+        ("1.5", "HoldsFloat"),
+        ("{\"exports\":{\".\":1,\"a\":2.5}}", "HoldsFloat"),
+        ("{\"exports\":{\".\":1,\"a\":2}}", "MixedExports"),
+        ("{\"exports\":{\"./a\":1,\"\":2}}", "MixedExports"),
+        ("{\"exports\":{\"..\":1,\".\":2}}", "none"),
+        ("{\"exports\":[{\".\":1,\"a\":2}]}", "none"),
+        ("{\"imports\":{\".\":1,\"a\":2}}", "none"),
+    ] {
+        let found = loaded(rt.alloc(), source);
+        assert_eq!(rt; fault_of(&found), fault, "{source}");
+    }
+    Ok(())
+}
+
+#[test]
+fn hostile_texts_are_read_or_refused(rt: HostRuntime) -> Result<(), Fail> {
+    let mut text = String::new(rt.alloc());
+    for _ in 0..131072 {
+        text.push_str("        ")?;
+    }
+    assert_eq!(rt; fault_of(&loaded(rt.alloc(), text.as_str())), "none");
+    text.push_str("{\"name\":\"n\"}")?;
+    assert_eq!(rt; fault_of(&loaded(rt.alloc(), text.as_str())), "none");
+    text.push_str("x")?;
+    assert_eq!(rt; fault_of(&loaded(rt.alloc(), text.as_str())), "Deserialize");
+    for (levels, fault) in [(127, "none"), (128, "Deserialize"), (100000, "Deserialize")] {
+        let mut nested = String::new(rt.alloc());
+        for _ in 0..levels {
+            nested.push_str("[")?;
+        }
+        for _ in 0..levels {
+            nested.push_str("]")?;
+        }
+        assert_eq!(rt;
+            fault_of(&loaded(rt.alloc(), nested.as_str())),
+            fault,
+            "{levels}"
+        );
+    }
+    Ok(())
+}
+
+#[test]
+fn values_are_loaded_and_written(rt: HostRuntime) -> Result<(), Fail> {
+    for (source, written) in [
+        (
+            "{}",
+            "{\"bin\":null,\"dependencies\":null,\"devDependencies\":null,\"exports\":null,\"imports\":null,\"main\":null,\"module\":null,\"name\":null,\"scripts\":null,\"type\":\"none\",\"types\":null,\"version\":null,\"workspaces\":null}",
+        ),
+        (
+            "{\"name\":\"t\",\"version\":\"1\",\"exports\":{\".\":\"./m.js\"},\"bin\":\"./m.js\",\"types\":\"./t.d.ts\",\"imports\":{\"#t\":\"./m.js\"},\"main\":\"./m.js\",\"module\":\"./n.js\",\"type\":\"module\",\"dependencies\":{\"n\":\"1.2\"},\"devDependencies\":{\"n\":\"1.2\"},\"scripts\":{\"t\":\"x\"},\"workspaces\":[\"a\",\"b\"]}",
+            "{\"bin\":\"./m.js\",\"dependencies\":{\"n\":\"1.2\"},\"devDependencies\":{\"n\":\"1.2\"},\"exports\":{\".\":\"./m.js\"},\"imports\":{\"#t\":\"./m.js\"},\"main\":\"./m.js\",\"module\":\"./n.js\",\"name\":\"t\",\"scripts\":{\"t\":\"x\"},\"type\":\"module\",\"types\":\"./t.d.ts\",\"version\":\"1\",\"workspaces\":[\"a\",\"b\"]}",
+        ),
+    ] {
+        let given = Value::from_str(rt.alloc(), source)?;
+        let path = Text::of(rt.alloc(), "/p/package.json")?;
+        let package = PackageJson::load_from_value(rt.alloc(), path, &given)?;
+        let text = package.to_value(rt.alloc())?.to_string(rt.alloc())?;
+        assert_eq!(rt; text.as_str(), written);
+    }
+    Ok(())
+}
+
+#[test]
+fn the_main_module_depends_on_who_asks(rt: HostRuntime) -> Result<(), Fail> {
+    for (source, esm, cjs) in [
+        ("{}", None, None),
+        ("{\"main\":\"m\"}", Some("m"), Some("m")),
+        ("{\"module\":\"n\",\"main\":\"m\"}", Some("m"), Some("m")),
+        ("{\"type\":\"commonjs\",\"module\":\"n\"}", None, None),
+        (
+            "{\"type\":\"module\",\"module\":\"n\",\"main\":\"m\"}",
+            Some("n"),
+            Some("m"),
+        ),
+        (
+            "{\"type\":\"module\",\"module\":\"\",\"main\":\"m\"}",
+            None,
+            Some("m"),
+        ),
+        ("{\"type\":\"module\",\"main\":\"m\"}", Some("m"), Some("m")),
+        ("{\"main\":\" \u{a0}m n\\t\\n\"}", Some("m n"), Some("m n")),
+        ("{\"main\":\" \u{2003} \"}", None, None),
+        ("{\"main\":7}", Some("7"), Some("7")),
+    ] {
+        let package = loaded(rt.alloc(), source)?;
+        assert_eq!(rt; package.main(NodeModuleKind::Esm), esm, "{source}");
+        assert_eq!(rt; package.main(NodeModuleKind::Cjs), cjs, "{source}");
+    }
+    Ok(())
+}
+
+#[test]
+fn a_package_knows_its_folder(rt: HostRuntime) -> Result<(), Fail> {
+    let package = loaded(rt.alloc(), "")?;
+    assert_eq!(rt; package.dir_path(), "/p");
+    assert!(rt; package.bin.is_none());
+    let shared = new_rc(rt.alloc(), package)?;
+    assert_eq!(rt; shared.path.as_str(), "/p/package.json");
+    Ok(())
+}
+
+#[test]
+fn bytes_of_a_path_are_escaped(rt: HostRuntime) -> Result<(), Fail> {
+    for (path, url) in [
+        ("/a b/package.json", "file:///a%20b/package.json"),
+        (
+            "/\u{e9}\u{20ac}\u{1f600}",
+            "file:///%C3%A9%E2%82%AC%F0%9F%98%80",
+        ),
+        ("/./a//../b/", "file:///./a//../b/"),
+        (
+            "/\x00\x01\x02\x03\x04\x05\x06\x07\x08\x09\x0a\x0b\x0c\x0d\x0e\x0f\x10\x11\x12\x13\x14\x15\x16\x17\x18\x19\x1a\x1b\x1c\x1d\x1e\x1f",
+            "file:///%00%01%02%03%04%05%06%07%08%09%0A%0B%0C%0D%0E%0F%10%11%12%13%14%15%16%17%18%19%1A%1B%1C%1D%1E%1F",
+        ),
+        (
+            "/ !\"#$%&'()*+,-./0123456789:;<=>?",
+            "file:///%20!%22%23$%25&'()*+,-./0123456789:;%3C=%3E%3F",
+        ),
+        (
+            "/@ABCDEFGHIJKLMNOPQRSTUVWXYZ[\\]^_",
+            "file:///@ABCDEFGHIJKLMNOPQRSTUVWXYZ%5B%5C%5D%5E_",
+        ),
+        (
+            "/`abcdefghijklmnopqrstuvwxyz{|}~\x7f",
+            "file:///%60abcdefghijklmnopqrstuvwxyz%7B%7C%7D~%7F",
+        ),
+    ] {
+        assert!(rt; path.starts_with('/'));
+        let package = PackageJson::load_from_string(rt.alloc(), Text::of(rt.alloc(), path)?, "")?;
+        let specifier = package.specifier(rt.alloc())?;
+        assert_eq!(rt; specifier.as_str(), url);
+    }
+    Ok(())
+}
