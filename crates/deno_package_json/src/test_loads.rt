@@ -144,7 +144,7 @@ fn files_are_loaded_by_their_paths(rt: HostRuntime) -> Result<(), Fail> {
         &mut fs,
         None,
     );
-    match absent {
+    match &absent {
         Err(PackageJsonLoadError::Io { path }) => assert_eq!(rt; path.as_str(), "/package.json"),
         _ => assert!(rt; false),
     }
