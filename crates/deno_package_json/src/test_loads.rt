@@ -1,7 +1,8 @@
 // Values from outside, and that calls succeed: requirements, readers and caches.
 use crate::{
     BTreeMapCache, DenoPkgJsonFs, MapFs, PackageJson, PackageJsonCache, PackageJsonDepValue,
-    PackageJsonDepValueParseError, PackageJsonLoadError, RealDenoPkgJsonFs,
+    PackageJsonDepValueParseError, PackageJsonDeps, PackageJsonLoadError, PackageJsonRc,
+    RealDenoPkgJsonFs,
 };
 use indexmap::IndexMap;
 use std::alloc::{AllocError, Global};
@@ -33,17 +34,26 @@ fn shown(alloc: Global, name: &str, required: &Required) -> Result<String, Alloc
     }
 }
 
-// The requirements of a package, one a line.
-fn requirements(alloc: Global, source: &str) -> Result<String, PackageJsonLoadError> {
+fn deps_of(alloc: Global, source: &str) -> Result<PackageJsonDeps, PackageJsonLoadError> {
     let path = Text::of(alloc, "/p/package.json")?;
     let package = PackageJson::load_from_string(alloc, path, source)?;
-    let deps = package.resolve_local_package_json_deps(alloc)?;
+    Ok(package.resolve_local_package_json_deps(alloc)?)
+}
+
+fn lines_of(alloc: Global, deps: &PackageJsonDeps) -> Result<String, AllocError> {
     let mut lines = String::new(alloc);
     for (name, required) in deps.iter() {
-        lines.push_str(shown(alloc, name.as_str(), required)?.as_str())?;
+        let line = shown(alloc, name.as_str(), required)?;
+        lines.push_str(line.as_str())?;
         lines.push_str("\n")?;
     }
     Ok(lines)
+}
+
+// The requirements of a package, one a line.
+fn requirements(alloc: Global, source: &str) -> Result<String, PackageJsonLoadError> {
+    let deps = deps_of(alloc, source)?;
+    Ok(lines_of(alloc, &deps)?)
 }
 
 #[test]
@@ -124,30 +134,40 @@ fn files(alloc: Global, path: &str, bytes: &[u8]) -> Result<MapFs, AllocError> {
     Ok(MapFs::new(files))
 }
 
+// The name of a package that was loaded, or its fault.
+fn named(
+    alloc: Global,
+    loaded: &Result<PackageJsonRc, PackageJsonLoadError>,
+) -> Result<String, AllocError> {
+    match loaded {
+        Ok(package) => match &package.name {
+            Some(name) => String::from_str(alloc, name.as_str()),
+            None => String::from_str(alloc, "none"),
+        },
+        Err(PackageJsonLoadError::Io { path }) => format!(in alloc; "Io {path}"),
+        Err(_) => String::from_str(alloc, "refused"),
+    }
+}
+
+fn name_at(
+    alloc: Global,
+    path: &str,
+    fs: &mut MapFs,
+    cache: Option<&mut BTreeMapCache>,
+) -> Result<String, AllocError> {
+    let loaded = PackageJson::load_from_path(alloc, path, fs, cache);
+    named(alloc, &loaded)
+}
+
 #[test]
 fn files_are_loaded_by_their_paths(rt: HostRuntime) -> Result<(), Fail> {
-    let mut fs = files(rt.alloc(), "/p/package.json", b"{\"name\":\"n\xff\"}")?;
-    let package = PackageJson::load_from_path::<MapFs, BTreeMapCache>(
-        rt.alloc(),
-        "/p/package.json",
-        &mut fs,
-        None,
-    )?;
-    match &package.name {
-        Some(name) => assert_eq!(rt; name.as_str(), "n\u{fffd}"),
-        None => assert!(rt; false),
-    }
-    assert_eq!(rt; fs.faults(), 0);
-    let absent = PackageJson::load_from_path::<MapFs, BTreeMapCache>(
-        rt.alloc(),
-        "/package.json",
-        &mut fs,
-        None,
+    let mut fs = files(rt.alloc(), "/p", b"{\"name\":\"n\xff\"}")?;
+    assert_eq!(rt;
+        name_at(rt.alloc(), "/p", &mut fs, None)?.as_str(),
+        "n\u{fffd}"
     );
-    match &absent {
-        Err(PackageJsonLoadError::Io { path }) => assert_eq!(rt; path.as_str(), "/package.json"),
-        _ => assert!(rt; false),
-    }
+    assert_eq!(rt; fs.faults(), 0);
+    assert_eq!(rt; name_at(rt.alloc(), "/", &mut fs, None)?.as_str(), "Io /");
     assert_eq!(rt; fs.faults(), 1);
     Ok(())
 }
@@ -156,13 +176,11 @@ fn files_are_loaded_by_their_paths(rt: HostRuntime) -> Result<(), Fail> {
 fn a_cache_keeps_what_was_loaded(rt: HostRuntime) -> Result<(), Fail> {
     let mut cache = BTreeMapCache::new(rt.alloc());
     let mut fs = files(rt.alloc(), "/p", b"{\"name\":\"n\"}")?;
-    let mut none = files(rt.alloc(), "/q", b"{")?;
-    let first = PackageJson::load_from_path(rt.alloc(), "/p", &mut fs, Some(&mut cache))?;
-    let again = PackageJson::load_from_path(rt.alloc(), "/p", &mut none, Some(&mut cache))?;
-    assert_eq!(rt; none.faults(), 0);
-    assert_eq!(rt; first.path.as_str(), again.path.as_str());
-    let refused = PackageJson::load_from_path(rt.alloc(), "/q", &mut none, Some(&mut cache));
-    assert!(rt; refused.is_err());
+    for (path, name, faults) in [("/p", "n", 0), ("/q", "Io /q", 1), ("/p", "n", 1)] {
+        let found = name_at(rt.alloc(), path, &mut fs, Some(&mut cache))?;
+        assert_eq!(rt; found.as_str(), name);
+        assert_eq!(rt; fs.faults(), faults);
+    }
     assert!(rt; cache.get("/q")?.is_none());
     assert!(rt; cache.get("/p")?.is_some());
     Ok(())

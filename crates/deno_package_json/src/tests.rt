@@ -1,4 +1,7 @@
 // Values from outside, and that calls succeed: the fields, their JSON and the paths.
+ghost use Rattle.std.specs.Prelude.{◌≡◌, IfOk, codes};
+ghost use Rattle.sugar_path.specs.Path.{is_absolute};
+
 use crate::{NodeModuleKind, PackageJson, PackageJsonLoadError, new_rc};
 use serde_json::Value;
 use std::alloc::Global;
@@ -6,7 +9,9 @@ use std::test::Fail;
 use sugar_path::Text;
 
 // A package whose file lies in `/p`.
-fn loaded(alloc: Global, source: &str) -> Result<PackageJson, PackageJsonLoadError> {
+fn loaded(alloc: Global, source: &str) -> Result<PackageJson, PackageJsonLoadError>
+    ensures { IfOk result (λ p. p.path ≡ codes "/p/package.json") }
+{
     PackageJson::load_from_string(alloc, Text::of(alloc, "/p/package.json")?, source)
 }
 
@@ -193,6 +198,15 @@ fn hostile_texts_are_read_or_refused(rt: HostRuntime) -> Result<(), Fail> {
     Ok(())
 }
 
+// The JSON of a package that was loaded from a value.
+fn rewritten(alloc: Global, source: &str) -> Result<String, Fail> {
+    let given = Value::from_str(alloc, source)?;
+    let path = Text::of(alloc, "/p/package.json")?;
+    let package = PackageJson::load_from_value(alloc, path, &given)?;
+    let value = package.to_value(alloc)?;
+    Ok(value.to_string(alloc)?)
+}
+
 #[test]
 fn values_are_loaded_and_written(rt: HostRuntime) -> Result<(), Fail> {
     for (source, written) in [
@@ -205,10 +219,7 @@ fn values_are_loaded_and_written(rt: HostRuntime) -> Result<(), Fail> {
             "{\"bin\":\"./m.js\",\"dependencies\":{\"n\":\"1.2\"},\"devDependencies\":{\"n\":\"1.2\"},\"exports\":{\".\":\"./m.js\"},\"imports\":{\"#t\":\"./m.js\"},\"main\":\"./m.js\",\"module\":\"./n.js\",\"name\":\"t\",\"scripts\":{\"t\":\"x\"},\"type\":\"module\",\"types\":\"./t.d.ts\",\"version\":\"1\",\"workspaces\":[\"a\",\"b\"]}",
         ),
     ] {
-        let given = Value::from_str(rt.alloc(), source)?;
-        let path = Text::of(rt.alloc(), "/p/package.json")?;
-        let package = PackageJson::load_from_value(rt.alloc(), path, &given)?;
-        let text = package.to_value(rt.alloc())?.to_string(rt.alloc())?;
+        let text = rewritten(rt.alloc(), source)?;
         assert_eq!(rt; text.as_str(), written);
     }
     Ok(())
@@ -244,6 +255,7 @@ fn the_main_module_depends_on_who_asks(rt: HostRuntime) -> Result<(), Fail> {
 }
 
 #[test]
+#[tactic(auto, unfolding(sugar_path::specs::Parent::parent_of))]
 fn a_package_knows_its_folder(rt: HostRuntime) -> Result<(), Fail> {
     let package = loaded(rt.alloc(), "")?;
     assert_eq!(rt; package.dir_path(), "/p");
@@ -251,6 +263,15 @@ fn a_package_knows_its_folder(rt: HostRuntime) -> Result<(), Fail> {
     let shared = new_rc(rt.alloc(), package)?;
     assert_eq!(rt; shared.path.as_str(), "/p/package.json");
     Ok(())
+}
+
+fn is_absolute(path: &str) -> bool
+    ensures { result ≡ is_absolute path.now }
+{
+    match path.as_bytes() {
+        [first, ..] => *first == b'/',
+        [] => false,
+    }
 }
 
 #[test]
@@ -279,7 +300,7 @@ fn bytes_of_a_path_are_escaped(rt: HostRuntime) -> Result<(), Fail> {
             "file:///%60abcdefghijklmnopqrstuvwxyz%7B%7C%7D~%7F",
         ),
     ] {
-        assert!(rt; path.starts_with('/'));
+        assert!(rt; is_absolute(path));
         let package = PackageJson::load_from_string(rt.alloc(), Text::of(rt.alloc(), path)?, "")?;
         let specifier = package.specifier(rt.alloc())?;
         assert_eq!(rt; specifier.as_str(), url);
