@@ -27,6 +27,8 @@ pub use package_json::PackageJson;
 pub use rc::{PackageJsonRc, new_rc};
 
 #[cfg(test)]
+mod fixtures;
+#[cfg(test)]
 mod test_loads;
 #[cfg(test)]
 mod tests;
