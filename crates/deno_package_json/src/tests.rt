@@ -5,7 +5,7 @@ ghost use Rattle.sugar_path.specs.Path.{is_absolute};
 use crate::fixtures::{objects, paths, texts};
 use crate::{NodeModuleKind, PackageJson, PackageJsonLoadError, new_rc};
 use serde_json::Value;
-use std::alloc::Global;
+use std::alloc::{AllocError, Global};
 use std::test::Fail;
 use sugar_path::Text;
 
@@ -80,30 +80,36 @@ fn the_first_fault_is_told(rt: HostRuntime) -> Result<(), Fail> {
     Ok(())
 }
 
-#[test]
-fn hostile_texts_are_read_or_refused(rt: HostRuntime) -> Result<(), Fail> {
-    let mut text = String::new(rt.alloc());
-    for _ in 0..131072 {
-        text.push_str("        ")?;
+fn fault_in(alloc: Global, source: &str) -> &'static str {
+    fault_of(&loaded(alloc, source))
+}
+
+// So many times the text.
+fn repeated(alloc: Global, text: &str, times: usize) -> Result<String, AllocError> {
+    let mut whole = String::new(alloc);
+    for _ in 0..times {
+        whole.push_str(text)?;
     }
-    assert_eq!(rt; fault_of(&loaded(rt.alloc(), text.as_str())), "none");
+    Ok(whole)
+}
+
+#[test]
+fn long_texts_are_read_or_refused(rt: HostRuntime) -> Result<(), Fail> {
+    let mut text = repeated(rt.alloc(), "        ", 131072)?;
+    assert_eq!(rt; fault_in(rt.alloc(), text.as_str()), "none");
     text.push_str("{\"name\":\"n\"}")?;
-    assert_eq!(rt; fault_of(&loaded(rt.alloc(), text.as_str())), "none");
+    assert_eq!(rt; fault_in(rt.alloc(), text.as_str()), "none");
     text.push_str("x")?;
-    assert_eq!(rt; fault_of(&loaded(rt.alloc(), text.as_str())), "Deserialize");
+    assert_eq!(rt; fault_in(rt.alloc(), text.as_str()), "Deserialize");
+    Ok(())
+}
+
+#[test]
+fn deep_texts_are_read_or_refused(rt: HostRuntime) -> Result<(), Fail> {
     for (levels, fault) in [(127, "none"), (128, "Deserialize"), (100000, "Deserialize")] {
-        let mut nested = String::new(rt.alloc());
-        for _ in 0..levels {
-            nested.push_str("[")?;
-        }
-        for _ in 0..levels {
-            nested.push_str("]")?;
-        }
-        assert_eq!(rt;
-            fault_of(&loaded(rt.alloc(), nested.as_str())),
-            fault,
-            "{levels}"
-        );
+        let mut text = repeated(rt.alloc(), "[", levels)?;
+        text.push_str(repeated(rt.alloc(), "]", levels)?.as_str())?;
+        assert_eq!(rt; fault_in(rt.alloc(), text.as_str()), fault);
     }
     Ok(())
 }
