@@ -1,0 +1,12 @@
+use Rattle.std.proofs.Common.{◌≡◌, bytes_eq, false, sym, ◌∙◌}
+use Rattle.std.specs.Prelude.{is_some}
+use Rattle.indexmap.specs.IndexMap.{get_by}
+use Rattle.deno_package_json.specs.Requirements.{required}
+use Rattle.deno_package_json.proofs.NewNames.{with_new-insert_entry}
+use Rattle.deno_package_json.proofs.requirement.insert_dep.Goals as goal
+
+pub returns : goal.returns
+returns c =
+    let absent : is_some (get_by (bytes_eq c.args.name.now) c.args.deps.now) ≡ false = sym c.contains_key.ensures ∙ c.if-contains_key.false in
+    let found = c.in_ok-found.ensures ∙ (λ i. required (c.as_str.ensures i) (c.as_str-2.ensures i)) in
+    with_new-insert_entry c.args.deps.now c.args.name.now c.args.value.now _ _ _ absent c.in_ok-try_clone.ensures found c.in_ok-insert.ensures.entries

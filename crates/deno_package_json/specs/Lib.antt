@@ -1,0 +1,12 @@
+pub mod Package
+pub mod Fields
+pub mod Exports
+pub mod Loading
+pub mod Entry
+pub mod FileUrl
+pub mod Requirements
+pub mod Message
+pub mod Value
+pub mod Reader
+pub mod Cache
+pub mod PathLoading
