@@ -8,7 +8,7 @@ use Rattle.tree_core.specs.Builtins.{is_builtin}
 abbrev pub begins_in : List ℕ → List ℕ → Bool
 begins_in t component = bytes_eq t component || starts_with nat_eq t (component ++ 47 ∷ [])
 
--- a specifier is bare where it is neither absolute nor relative: it names a package. The empty text is bare
+-- a specifier is bare where it is neither absolute nor relative: it may name a package. The empty text is bare
 abbrev pub is_bare : List ℕ → Bool
 is_bare t = not (is_absolute t) && not (begins_in t (codes ".")) && not (begins_in t (codes ".."))
 

@@ -11,14 +11,15 @@ use sugar_path::{CleanPath, Text};
 use swc_loader::{Searched, folder, place};
 use tree_core::{Asker, ResolveError};
 
-/// The file that is found at a bound location: without a subpath in the folder, else at the place behind it. It may lie elsewhere.
+// The file that is found at a bound location: without a subpath in the folder, else at the place behind it. It may lie elsewhere.
 pub(crate) fn search_bound<R: Asker>(
     alloc: Global,
     tree: &mut R,
     location: &CleanPath,
     subpath: &Option<Text>,
 ) -> Result<CleanPath, ResolveError<JoinRefusal>>
-    ensures { Resolves (R.asking tree.old) (R.asking tree.new) result (bound location.now subpath.now) }
+    ensures { Resolves (R.asking tree.old) (R.asking tree.new) result
+        (bound location.now subpath.now) }
 {
     match subpath {
         None => search_whole(alloc, tree, location),
@@ -29,7 +30,7 @@ pub(crate) fn search_bound<R: Asker>(
     }
 }
 
-/// A file that lies below a location; any other is refused.
+// A file that lies below a location; any other is refused.
 pub(crate) fn contained(
     alloc: Global,
     location: &CleanPath,
@@ -65,7 +66,8 @@ fn search_behind<R: Asker>(
     location: &CleanPath,
     text: &str,
 ) -> Result<CleanPath, ResolveError<JoinRefusal>>
-    ensures { Resolves (R.asking tree.old) (R.asking tree.new) result (if path_eq (clean [] text.now) location.now then whole location.now else inside text.now) }
+    ensures { Resolves (R.asking tree.old) (R.asking tree.new) result
+        (if path_eq (clean [] text.now) location.now then whole location.now else inside text.now) }
 {
     let at = CleanPath::read(alloc, &CleanPath::root(alloc), text)?;
     if at == *location {

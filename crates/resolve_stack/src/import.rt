@@ -50,20 +50,27 @@ pub fn resolve_import<T: Tree>(
     specifier: &str,
 ) -> Result<Outcome, ImportError>
     // The verdict and the trail are those of the order on each tree that agrees with the trail.
-    ensures settled { IfOk result (λ o. Settles o.verdict o.trail (verdict project.now (asked_for importer.now specifier.now))) }
+    ensures settled { IfOk result (λ o. Settles o.verdict o.trail
+        (verdict project.now (asked_for importer.now specifier.now))) }
     // Each tree that the object stands for agrees with the trail.
     ensures agree { IfOk result (λ o. AgreeWith (T.state tree.old).stands_for o.trail) }
     // A file found through a row lies below the location of the row that binds the name asked for.
-    ensures found { IfOk result (λ o. (t : Files) → Agrees t o.trail → IsFound t project.now (asked_for importer.now specifier.now) o.verdict) }
+    ensures found { IfOk result (λ o. (t : Files) → Agrees t o.trail →
+        IsFound t project.now (asked_for importer.now specifier.now) o.verdict) }
     ensures stands { (T.state tree.new).stands_for ≡ (T.state tree.old).stands_for }
     ensures cause { HasCause (T.state tree.old).faults (T.state tree.new).faults (as_read result) }
     // The tree was asked once for each question of the trail.
-    ensures put { IfOk result (λ o. (T.state tree.new).questions ≡ put_times (length o.trail) (T.state tree.old).questions) }
+    ensures put { IfOk result (λ o. (T.state tree.new).questions ≡
+        put_times (length o.trail) (T.state tree.old).questions) }
     // A fault refused one of the order's questions: the tree was asked once for each question before it and once for that one,
     // and where the tree tells a question, it is that one.
-    ensures fails { IsErrOf result TreeFault → EndsInFault (T.state tree.old).stands_for (T.state tree.old).questions (T.state tree.new).questions (T.state tree.new).told (verdict project.now (asked_for importer.now specifier.now)) }
+    ensures fails { IsErrOf result TreeFault → EndsInFault (T.state tree.old).stands_for
+        (T.state tree.old).questions (T.state tree.new).questions (T.state tree.new).told
+        (verdict project.now (asked_for importer.now specifier.now)) }
     // Where memory was wanting, the tree was asked as often as there are different questions before, or once more.
-    ensures starves { IsErrOf result NoMemory → EndsStarved (T.state tree.old).stands_for (T.state tree.old).questions (T.state tree.new).questions (verdict project.now (asked_for importer.now specifier.now)) }
+    ensures starves { IsErrOf result NoMemory → EndsStarved (T.state tree.old).stands_for
+        (T.state tree.old).questions (T.state tree.new).questions
+        (verdict project.now (asked_for importer.now specifier.now)) }
 {
     let mut recorder = Recorder::new(alloc, tree);
     let request = Request {
@@ -86,7 +93,8 @@ fn decide<R: Asker>(
     project: &Project,
     request: &Request<'_>,
 ) -> Result<Verdict, ReadError>
-    ensures { Asks (R.asking tree.old) (R.asking tree.new) result (verdict project.now (asked_for request.now.importer.now request.now.specifier.now)) }
+    ensures { Asks (R.asking tree.old) (R.asking tree.new) result
+        (verdict project.now (asked_for request.now.importer.now request.now.specifier.now)) }
 {
     match join(alloc, tree, project, request) {
         Ok(resolution) => Ok(Verdict::Answered(resolution)),

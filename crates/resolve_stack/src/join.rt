@@ -23,14 +23,15 @@ use sugar_path::{CleanPath, Text};
 use swc_loader::{FileName, Found, Resolution, Via};
 use tree_core::{Asker, ResolveError};
 
-/// What a request comes to: the join rows, in their order.
+// What a request comes to: the join rows, in their order.
 pub(crate) fn join<R: Asker>(
     alloc: Global,
     tree: &mut R,
     project: &Project,
     request: &Request<'_>,
 ) -> Result<Resolution, ResolveError<JoinRefusal>>
-    ensures { Resolves (R.asking tree.old) (R.asking tree.new) result (join_order project.now (asked_for request.now.importer.now request.now.specifier.now)) }
+    ensures { Resolves (R.asking tree.old) (R.asking tree.new) result
+        (join_order project.now (asked_for request.now.importer.now request.now.specifier.now)) }
 {
     let importer = importer_of(alloc, project, request)?;
     let manifest = manifest_of(alloc, tree, &importer)?;
@@ -47,7 +48,8 @@ fn join_by_manifest<R: Asker>(
 ) -> Result<Resolution, ResolveError<JoinRefusal>>
     requires ready { IsReady manifest.now }
     requires no_pattern { IsNone manifest.now.ignore_pattern_data }
-    ensures { Resolves (R.asking tree.old) (R.asking tree.new) result (from_manifest manifest.now importer.now specifier.now) }
+    ensures { Resolves (R.asking tree.old) (R.asking tree.new) result
+        (from_manifest manifest.now importer.now specifier.now) }
 {
     let owner = owner_of(alloc, manifest, importer)?;
     let target = target_of(specifier)?;
@@ -64,7 +66,8 @@ fn join_in_package<R: Asker>(
     locator: PackageLocator,
     subpath: &Option<Text>,
 ) -> Result<Resolution, ResolveError<JoinRefusal>>
-    ensures { Resolves (R.asking tree.old) (R.asking tree.new) result (from_package manifest.now locator subpath.now) }
+    ensures { Resolves (R.asking tree.old) (R.asking tree.new) result
+        (from_package manifest.now locator subpath.now) }
 {
     let location = row_of(manifest, &locator)?;
     let folder = folder_of(alloc, location)?;
@@ -79,7 +82,8 @@ fn join_in_folder<R: Asker>(
     folder: &CleanPath,
     subpath: &Option<Text>,
 ) -> Result<Resolution, ResolveError<JoinRefusal>>
-    ensures { Resolves (R.asking tree.old) (R.asking tree.new) result (from_folder locator folder.now subpath.now) }
+    ensures { Resolves (R.asking tree.old) (R.asking tree.new) result
+        (from_folder locator folder.now subpath.now) }
 {
     let found = search_bound(alloc, tree, folder, subpath)?;
     let file = contained(alloc, folder, found)?;
@@ -99,7 +103,8 @@ fn importer_of(
     project: &Project,
     request: &Request<'_>,
 ) -> Result<CleanPath, ResolveError<JoinRefusal>>
-    ensures { IsDecided result (rows.importer_of project.now request.now.importer.now request.now.specifier.now) }
+    ensures { IsDecided result
+        (rows.importer_of project.now request.now.importer.now request.now.specifier.now) }
 {
     match request.importer {
         FileName::Real(text) => {
@@ -119,7 +124,8 @@ fn manifest_of<R: Asker>(
     tree: &mut R,
     importer: &CleanPath,
 ) -> Result<Manifest, ResolveError<JoinRefusal>>
-    ensures asks { Resolves (R.asking tree.old) (R.asking tree.new) result (rows.manifest_of importer.now) }
+    ensures asks { Resolves (R.asking tree.old) (R.asking tree.new) result
+        (rows.manifest_of importer.now) }
     ensures ready { IfOk result IsReady }
     ensures no_pattern { IfOk result (λ m. IsNone m.ignore_pattern_data) }
 {
@@ -207,7 +213,8 @@ fn bound_of(
     target: &str,
     name: &Text,
 ) -> Result<PackageLocator, ResolveError<JoinRefusal>>
-    ensures { IsDecided result (rows.bound_of manifest.now owner.now importer.now target.now name.now) }
+    ensures { IsDecided result
+        (rows.bound_of manifest.now owner.now importer.now target.now name.now) }
 {
     if !is_settled(manifest, owner, name) {
         return Err(ResolveError::Refused(JoinRefusal::NotBuilt));
