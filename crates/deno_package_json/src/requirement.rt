@@ -1,13 +1,12 @@
 // The requirements of a package.
 ghost use Rattle.std.specs.Prelude.{◌≡◌, Err, IfOk, OnOk, fold, option_map};
-ghost use Rattle.npm_req.specs.Package.{name_and_range};
 ghost use Rattle.deno_package_json.specs.Package.{package_of};
 ghost use Rattle.deno_package_json.specs.Requirements.{around_colon, is_unsupported, of_package, of_workspace, required, requirements_of, with_new, with_table};
 
 use crate::dep_value::{PackageJsonDepValue, PackageJsonDepValueParseError, PackageJsonDeps};
 use crate::package_json::PackageJson;
 use indexmap::IndexMap;
-use npm_req::{NpmVersionReqParseError, PackageReq, VersionReq};
+use npm_req::{NpmVersionReqParseError, PackageReq, VersionReq, name_and_range};
 use std::alloc::{AllocError, Global};
 use sugar_path::Text;
 
@@ -127,17 +126,4 @@ fn refused(alloc: Global, range: &str, place: usize) -> Result<Required, AllocEr
 {
     let text = Text::of(alloc, range)?;
     Ok(Err(PackageJsonDepValueParseError::VersionReq { text, place }))
-}
-
-// The name, which ends at the last `@` that isn't the first byte, and the range behind it; without one the range is `*`.
-fn name_and_range(text: &str) -> (&str, &str)
-    ensures { (result.0.now, result.1.now) ≡ name_and_range text.now }
-{
-    let Some((name, range)) = text.rsplit_once('@') else {
-        return (text, "*");
-    };
-    if name.is_empty() {
-        return (text, "*");
-    }
-    (name, range)
 }

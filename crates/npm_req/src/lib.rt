@@ -15,7 +15,7 @@ mod version;
 mod word;
 
 pub use error::{NpmVersionParseError, NpmVersionReqParseError, PackageReqParseError};
-pub use package_req::PackageReq;
+pub use package_req::{PackageReq, name_and_range};
 pub use requirement::VersionReq;
 pub use version::Version;
 

@@ -12,14 +12,14 @@ use Rattle.resolve_stack.specs.BoundSearch.{bound, contained}
 -- Rows 4, 8 and 11 have nothing to do yet: without aliases a bare specifier's target is bare, no lock is accepted, and there are no browser rules.
 unfoldable pub join : ProjectSettings → Request → Plan (Result Resolution JoinRefusal)
 join project request = do
-  importer ← Done (importer_of project request.importer request.specifier)  -- row 0
-  manifest ← manifest_of importer  -- row 1
-  owner ← Done (owner_of manifest importer)  -- row 2
-  target ← Done (target_of request.specifier)  -- row 3
-  identifier ← Done (identifier_of target)  -- row 5
-  locator ← Done (bound_of manifest owner importer target identifier.0)  -- row 6
-  location ← Done (row_of manifest locator)  -- row 7
-  folder ← Done (folder_of location)  -- row 9
-  found ← bound folder identifier.1  -- row 10
-  file ← Done (contained folder found)  -- row 12
-  answered (via_of locator folder) file  -- row 13
+  importer ← Done (importer_of project request.importer request.specifier)  -- join row 0
+  manifest ← manifest_of importer  -- join row 1
+  owner ← Done (owner_of manifest importer)  -- join row 2
+  target ← Done (target_of request.specifier)  -- join row 3
+  identifier ← Done (identifier_of target)  -- join row 5
+  locator ← Done (bound_of manifest owner importer target identifier.0)  -- join row 6
+  location ← Done (row_of manifest locator)  -- join row 7
+  folder ← Done (folder_of location)  -- join row 9
+  found ← bound folder identifier.1  -- join row 10
+  file ← Done (contained folder found)  -- join row 12
+  answered (via_of locator folder) file  -- join row 13

@@ -29,65 +29,65 @@ abbrev pub or_not_built : {A : Type 0} → Option A → Result A JoinRefusal
 or_not_built None = Err NotBuilt
 or_not_built (Some a) = Ok a
 
--- Row 0: a bare specifier from a path is asked from that path, read from the working folder. Others go by the node rows, which aren't built.
+-- Join row 0: a bare specifier from a path is asked from that path, read from the working folder. Others go by the node rows, which aren't built.
 abbrev pub importer_of : ProjectSettings → FileName → List ℕ → Result Path JoinRefusal
 importer_of project (Real text) specifier =
     if is_bare specifier then Ok (clean project.cwd text) else Err NotBuilt
 importer_of project (Custom name) specifier = Err NotBuilt
 importer_of project Anon specifier = Err NotBuilt
 
--- Row 1: a manifest with an ignore pattern isn't searched yet.
+-- Join row 1: a manifest with an ignore pattern isn't searched yet.
 abbrev pub without_pattern : Contents → Result Contents JoinRefusal
 without_pattern manifest = if is_some manifest.ignore_pattern_data then Err NotBuilt else Ok manifest
 
--- Row 1: a manifest that can't be read is refused with its cause.
+-- Join row 1: a manifest that can't be read is refused with its cause.
 abbrev pub readable : Path → Result Contents HydrationCause → Result Contents JoinRefusal
 readable file (Ok manifest) = without_pattern manifest
 readable file (Err cause) = Err (FailedManifestHydration cause (text_of file))
 
--- Row 1: without a manifest the node rows hold, which aren't built.
+-- Join row 1: without a manifest the node rows hold, which aren't built.
 abbrev pub manifest_in : Option Path → Plan (Result Contents JoinRefusal)
 manifest_in None = Done (Err NotBuilt)
 manifest_in (Some file) = do
   read ← loading file
   Done (readable file read)
 
--- Row 1: the manifest that is nearest to the importer
+-- Join row 1: the manifest that is nearest to the importer
 unfoldable pub manifest_of : Path → Plan (Result Contents JoinRefusal)
 manifest_of importer = do
   found ← nearest importer
   manifest_in found
 
--- Row 2: the owner of the importer. Without one the node rows hold, which aren't built.
+-- Join row 2: the owner of the importer. Without one the node rows hold, which aren't built.
 abbrev pub owner_of : Contents → Path → Result PackageLocator JoinRefusal
 owner_of manifest importer = or_not_built (owner manifest importer)
 
--- Row 3: a module of Node's own isn't answered yet. There are no aliases yet, so the target is the specifier.
+-- Join row 3: a module of Node's own isn't answered yet. There are no aliases yet, so the target is the specifier.
 abbrev pub target_of : List ℕ → Result (List ℕ) JoinRefusal
 target_of specifier = if is_node_module specifier then Err NotBuilt else Ok specifier
 
--- Row 5: the package name and the subpath. A scope alone names no package; its refusal isn't built.
+-- Join row 5: the package name and the subpath. A scope alone names no package; its refusal isn't built.
 abbrev pub identifier_of : List ℕ → Result (List ℕ × Option (List ℕ)) JoinRefusal
 identifier_of target = or_not_built (split_bare target)
 
--- Row 6: what the name is bound to, and what is told where nothing binds it. A binding to null isn't refused by name yet.
+-- Join row 6: what the name is bound to, and what is told where nothing binds it. A binding to null isn't refused by name yet.
 abbrev pub bound_or_refused : Told → Binding → Result PackageLocator JoinRefusal
 bound_or_refused told (Bound locator) = Ok locator
 bound_or_refused told MissingPeer = Err NotBuilt
 bound_or_refused told Undeclared = Err (UndeclaredDependency told)
 
--- Row 6: the binding of the name in the owner's row. A name that only a fallback could serve isn't searched yet.
+-- Join row 6: the binding of the name in the owner's row. A name that only a fallback could serve isn't searched yet.
 abbrev pub bound_of : Contents → PackageLocator → Path → List ℕ → List ℕ → Result PackageLocator JoinRefusal
 bound_of manifest asking importer target name =
     if is_settled manifest asking name
     then bound_or_refused (undeclared manifest asking target name (text_of importer)) (bind manifest asking name)
     else Err NotBuilt
 
--- Row 7: the row of the bound package. Without one the refusal isn't built.
+-- Join row 7: the row of the bound package. Without one the refusal isn't built.
 abbrev pub row_of : Contents → PackageLocator → Result (List ℕ) JoinRefusal
 row_of manifest bound = or_not_built (location_of manifest bound)
 
--- Row 9: the location of that row as a plain folder. One of a virtual package or inside an archive isn't searched yet.
+-- Join row 9: the location of that row as a plain folder. One of a virtual package or inside an archive isn't searched yet.
 abbrev pub folder_of : List ℕ → Result Path JoinRefusal
 folder_of location = if is_plain location then Ok (clean [] location) else Err NotBuilt
 
@@ -103,7 +103,7 @@ via_of bound location = record { name = bound.name; reference = bound.reference;
 abbrev pub answer_through : Via → Path → List ℕ → Resolution
 answer_through via f name = record { filename = Real name; slug = None; found = Some (record { file = text_of f; via = Some via }) }
 
--- Row 13: the answer is the file by its canonical name, with the row through which it was found.
+-- Join row 13: the answer is the file by its canonical name, with the row through which it was found.
 unfoldable pub answered : Via → Path → Plan (Result Resolution JoinRefusal)
 answered via f = do
   name ← canon f
