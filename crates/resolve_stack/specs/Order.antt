@@ -1,4 +1,4 @@
--- The order of search: how a request ends on a tree, as a plan of questions. `join` is one text, row by row as the join rows of docs/ORDER.md; each row stands by itself in Rows.antt and BoundSearch.antt.
+-- The order of search: how a request ends on a tree, as a plan of questions. `join` is one text, a line for each of the join rows of docs/ORDER.md that has something to do; each stands by itself in Rows.antt and BoundSearch.antt.
 use Rattle.std.specs.Prelude.{Result}
 use Rattle.tree_core.specs.Plan.{Plan, Done}
 use Rattle.tree_core.specs.Resolving.{◌>>=◌}
@@ -9,17 +9,17 @@ use Rattle.resolve_stack.specs.Request.{Request}
 use Rattle.resolve_stack.specs.Rows.{importer_of, manifest_of, owner_of, target_of, identifier_of, bound_of, row_of, folder_of, via_of, answered}
 use Rattle.resolve_stack.specs.BoundSearch.{bound, contained}
 
--- Rows 4, 8 and 11 have nothing to do yet: without aliases a bare specifier's target is bare, no lock is accepted, and there are no browser rules.
+-- Three rows have nothing to do yet: without aliases a bare specifier's target is bare, no lock is accepted, and there are no browser rules.
 unfoldable pub join : ProjectSettings → Request → Plan (Result Resolution JoinRefusal)
 join project request = do
-  importer ← Done (importer_of project request.importer request.specifier)  -- join row 0
-  manifest ← manifest_of importer  -- join row 1
-  owner ← Done (owner_of manifest importer)  -- join row 2
-  target ← Done (target_of request.specifier)  -- join row 3
-  identifier ← Done (identifier_of target)  -- join row 5
-  locator ← Done (bound_of manifest owner importer target identifier.0)  -- join row 6
-  location ← Done (row_of manifest locator)  -- join row 7
-  folder ← Done (folder_of location)  -- join row 9
-  found ← bound folder identifier.1  -- join row 10
-  file ← Done (contained folder found)  -- join row 12
-  answered (via_of locator folder) file  -- join row 13
+  importer ← Done (importer_of project request.importer request.specifier)
+  manifest ← manifest_of importer
+  owner ← Done (owner_of manifest importer)
+  target ← Done (target_of request.specifier)
+  identifier ← Done (identifier_of target)
+  locator ← Done (bound_of manifest owner importer target identifier.0)
+  location ← Done (row_of manifest locator)
+  folder ← Done (folder_of location)
+  found ← bound folder identifier.1
+  file ← Done (contained folder found)
+  answered (via_of locator folder) file

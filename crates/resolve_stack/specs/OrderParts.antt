@@ -10,21 +10,21 @@ use Rattle.resolve_stack.specs.declared.verdict.JoinRefusal.{JoinRefusal}
 use Rattle.resolve_stack.specs.Rows.{owner_of, target_of, identifier_of, bound_of, row_of, folder_of, via_of, answered}
 use Rattle.resolve_stack.specs.BoundSearch.{bound, contained}
 
--- behind row 9: the search in a folder, its containment and the answer
+-- behind the folder of the row: the search in a folder, its containment and the answer
 abbrev pub from_folder : PackageLocator → Path → Option (List ℕ) → Plan (Result Resolution JoinRefusal)
 from_folder locator folder subpath = do
   found ← bound folder subpath
   file ← Done (contained folder found)
   answered (via_of locator folder) file
 
--- behind row 6: the row of the bound package, and the search there
+-- behind the binding: the row of the bound package, and the search there
 abbrev pub from_package : Contents → PackageLocator → Option (List ℕ) → Plan (Result Resolution JoinRefusal)
 from_package manifest locator subpath = do
   location ← Done (row_of manifest locator)
   folder ← Done (folder_of location)
   from_folder locator folder subpath
 
--- behind row 1: the owner, the name that is asked for, what it is bound to, and the search there
+-- behind the manifest: the owner, the name that is asked for, what it is bound to, and the search there
 abbrev pub from_manifest : Contents → Path → List ℕ → Plan (Result Resolution JoinRefusal)
 from_manifest manifest importer specifier = do
   owner ← Done (owner_of manifest importer)

@@ -1,4 +1,4 @@
--- The rows of the order of search, each by itself, as docs/ORDER.md numbers the join rows. A row gives what the next one goes on with, or the refusal that ends the order.
+-- The rows of the order of search, each by itself, as docs/ORDER.md lists the join rows. A row gives what the next one goes on with, or the refusal that ends the order.
 use Rattle.std.specs.Prelude.{ℕ, if◌then◌else◌, List, [], Option, Some, None, Result, Ok, Err, is_some}
 use Rattle.sugar_path.specs.Path.{Path, text_of, clean}
 use Rattle.tree_core.specs.Plan.{Plan, Done, ◌>>=◌, canon}
@@ -29,65 +29,65 @@ abbrev pub or_not_built : {A : Type 0} → Option A → Result A JoinRefusal
 or_not_built None = Err NotBuilt
 or_not_built (Some a) = Ok a
 
--- Join row 0: a bare specifier from a path is asked from that path, read from the working folder. Others go by the node rows, which aren't built.
+-- A bare specifier from a path is asked from that path, read from the working folder. Others go by the node rows, which aren't built.
 abbrev pub importer_of : ProjectSettings → FileName → List ℕ → Result Path JoinRefusal
 importer_of project (Real text) specifier =
     if is_bare specifier then Ok (clean project.cwd text) else Err NotBuilt
 importer_of project (Custom name) specifier = Err NotBuilt
 importer_of project Anon specifier = Err NotBuilt
 
--- Join row 1: a manifest with an ignore pattern isn't searched yet.
+-- A manifest with an ignore pattern isn't searched yet.
 abbrev pub without_pattern : Contents → Result Contents JoinRefusal
 without_pattern manifest = if is_some manifest.ignore_pattern_data then Err NotBuilt else Ok manifest
 
--- Join row 1: a manifest that can't be read is refused with its cause.
+-- A manifest that can't be read is refused with its cause.
 abbrev pub readable : Path → Result Contents HydrationCause → Result Contents JoinRefusal
 readable file (Ok manifest) = without_pattern manifest
 readable file (Err cause) = Err (FailedManifestHydration cause (text_of file))
 
--- Join row 1: without a manifest the node rows hold, which aren't built.
+-- Without a manifest the node rows hold, which aren't built.
 abbrev pub manifest_in : Option Path → Plan (Result Contents JoinRefusal)
 manifest_in None = Done (Err NotBuilt)
 manifest_in (Some file) = do
   read ← loading file
   Done (readable file read)
 
--- Join row 1: the manifest that is nearest to the importer
+-- The manifest that is nearest to the importer
 unfoldable pub manifest_of : Path → Plan (Result Contents JoinRefusal)
 manifest_of importer = do
   found ← nearest importer
   manifest_in found
 
--- Join row 2: the owner of the importer. Without one the node rows hold, which aren't built.
+-- The owner of the importer. Without one the node rows hold, which aren't built.
 abbrev pub owner_of : Contents → Path → Result PackageLocator JoinRefusal
 owner_of manifest importer = or_not_built (owner manifest importer)
 
--- Join row 3: a module of Node's own isn't answered yet. There are no aliases yet, so the target is the specifier.
+-- A module of Node's own isn't answered yet. There are no aliases yet, so the target is the specifier.
 abbrev pub target_of : List ℕ → Result (List ℕ) JoinRefusal
 target_of specifier = if is_node_module specifier then Err NotBuilt else Ok specifier
 
--- Join row 5: the package name and the subpath. A scope alone names no package; its refusal isn't built.
+-- The package name and the subpath. A scope alone names no package; its refusal isn't built.
 abbrev pub identifier_of : List ℕ → Result (List ℕ × Option (List ℕ)) JoinRefusal
 identifier_of target = or_not_built (split_bare target)
 
--- Join row 6: what the name is bound to, and what is told where nothing binds it. A binding to null isn't refused by name yet.
+-- What the name is bound to, and what is told where nothing binds it. A binding to null isn't refused by name yet.
 abbrev pub bound_or_refused : Told → Binding → Result PackageLocator JoinRefusal
 bound_or_refused told (Bound locator) = Ok locator
 bound_or_refused told MissingPeer = Err NotBuilt
 bound_or_refused told Undeclared = Err (UndeclaredDependency told)
 
--- Join row 6: the binding of the name in the owner's row. A name that only a fallback could serve isn't searched yet.
+-- The binding of the name in the owner's row. A name that only a fallback could serve isn't searched yet.
 abbrev pub bound_of : Contents → PackageLocator → Path → List ℕ → List ℕ → Result PackageLocator JoinRefusal
 bound_of manifest asking importer target name =
     if is_settled manifest asking name
     then bound_or_refused (undeclared manifest asking target name (text_of importer)) (bind manifest asking name)
     else Err NotBuilt
 
--- Join row 7: the row of the bound package. Without one the refusal isn't built.
+-- The row of the bound package. Without one the refusal isn't built.
 abbrev pub row_of : Contents → PackageLocator → Result (List ℕ) JoinRefusal
 row_of manifest bound = or_not_built (location_of manifest bound)
 
--- Join row 9: the location of that row as a plain folder. One of a virtual package or inside an archive isn't searched yet.
+-- The location of that row as a plain folder. One of a virtual package or inside an archive isn't searched yet.
 abbrev pub folder_of : List ℕ → Result Path JoinRefusal
 folder_of location = if is_plain location then Ok (clean [] location) else Err NotBuilt
 
@@ -103,7 +103,7 @@ via_of bound location = record { name = bound.name; reference = bound.reference;
 abbrev pub answer_through : Via → Path → List ℕ → Resolution
 answer_through via f name = record { filename = Real name; slug = None; found = Some (record { file = text_of f; via = Some via }) }
 
--- Join row 13: the answer is the file by its canonical name, with the row through which it was found.
+-- The answer is the file by its canonical name, with the row through which it was found.
 unfoldable pub answered : Via → Path → Plan (Result Resolution JoinRefusal)
 answered via f = do
   name ← canon f

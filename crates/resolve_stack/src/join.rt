@@ -23,7 +23,7 @@ use sugar_path::{CleanPath, Text};
 use swc_loader::{FileName, Found, Resolution, Via};
 use tree_core::{Asker, ResolveError};
 
-// What a request comes to: the join rows, in their order.
+// What a request comes to: the join rows, one after the other.
 pub(crate) fn join<R: Asker>(
     alloc: Global,
     tree: &mut R,
