@@ -1,11 +1,13 @@
 //! What can be read from a JSON value: each reader answers what its definition reads, or that the value is of another kind.
 #![tactic(auto)]
 
+mod bytes;
 mod error;
 mod fields;
 mod floats;
 mod from_json;
 
+pub use bytes::read_json;
 pub use error::FromJsonError;
 pub use fields::{field, field_or};
 pub use floats::holds_float;

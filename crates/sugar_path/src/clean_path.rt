@@ -52,6 +52,18 @@ impl CleanPath {
         })
     }
 
+    /// The path that a clean absolute text names. It takes no memory.
+    pub fn from_clean(text: Text) -> CleanPath
+        requires { IsCleanPath text }
+        ensures { result ≡ path_in text }
+    {
+        let mut steps = String::from(text);
+        if steps.as_str() == "/" {
+            steps.clear();
+        }
+        CleanPath { steps }
+    }
+
     /// A text read from a folder, with `.`, `..` and separators resolved lexically. An absolute text is read from `/`.
     #[tactic(auto, unfolding(crate::specs::Path::clean))]
     pub fn read(alloc: Global, folder: &CleanPath, text: &str) -> Result<CleanPath, AllocError>

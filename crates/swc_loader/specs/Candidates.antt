@@ -1,7 +1,9 @@
 -- File candidates: the paths at which the text of a specifier may be a file, in order, as bundlers and TypeScript's resolver try them.
-use Rattle.std.specs.Prelude.{ℕ, ◌==◌, ◌&&◌, ◌||◌, Bool, true, false, not, cond, List, [], ◌∷◌, ◌++◌, map, filter, Option, Some, None, bytes_eq, codes, drop}
+use Rattle.std.specs.Prelude.{ℕ, ◌==◌, ◌&&◌, Bool, true, false, not, if◌then◌else◌, List, [], ◌∷◌, ◌++◌, map, filter, Option, Some, None, bytes_eq, drop, unwrap_or}
 use Rattle.std.specs.List.{list_any, before_last, after_last, last_or}
+use Rattle.std.specs.Map.{lookup}
 use Rattle.sugar_path.specs.Path.{Path, parts, clean}
+use Rattle.swc_loader.specs.Conventions.{Conventions}
 
 abbrev pub is_dot : ℕ → Bool
 is_dot c = c == 46
@@ -18,38 +20,33 @@ extension n = after_last is_dot n
 abbrev pub stem : List ℕ → List ℕ
 stem n = before_last is_dot n
 
--- the endings that a name is tried with, in order
-unfoldable pub endings : List (List ℕ)
-endings = codes ".ts" ∷ codes ".tsx" ∷ codes ".js" ∷ codes ".jsx" ∷ codes ".node" ∷ []
-
--- the endings of the TypeScript source that a written extension may stand for
-unfoldable pub source_endings : List ℕ → List (List ℕ)
-source_endings e =
-    cond (bytes_eq e (codes "js") || bytes_eq e (codes "jsx")) (codes ".ts" ∷ codes ".tsx" ∷ [])
-    (cond (bytes_eq e (codes "mjs")) (codes ".mts" ∷ [])
-    (cond (bytes_eq e (codes "cjs")) (codes ".cts" ∷ []) []))
+-- the endings of the sources that a written extension may stand for
+abbrev pub sources_of : Conventions → List ℕ → List (List ℕ)
+sources_of c e = unwrap_or (lookup (bytes_eq e) c.source_endings) []
 
 abbrev pub with_endings : List ℕ → List (List ℕ) → List (List ℕ)
 with_endings n es = map (λ e. n ++ e) es
 
 -- the name itself, where the text is closed
 abbrev pub itself : Bool → List ℕ → List (List ℕ)
-itself closed n = cond closed (n ∷ []) []
+itself closed n = if closed then n ∷ [] else []
 
 -- the names that are tried for a name with an extension: the name itself, the endings, and the sources that the extension stands for
-abbrev pub names_with_extension : List ℕ → Bool → List ℕ → List ℕ → List (List ℕ)
-names_with_extension n closed base e = itself closed n ++ (with_endings n endings ++ with_endings base (source_endings e))
+abbrev pub names_with_extension : Conventions → List ℕ → Bool → List ℕ → List ℕ → List (List ℕ)
+names_with_extension c n closed base e =
+    itself closed n ++ (with_endings n c.endings ++ with_endings base (sources_of c e))
 
--- the names that are tried for a name without one: `.js` first
-abbrev pub names_without_extension : List ℕ → Bool → List (List ℕ)
-names_without_extension n closed = (n ++ codes ".js") ∷ (itself closed n ++ with_endings n endings)
+-- the names that are tried for a name without one: some endings go before the name itself
+abbrev pub names_without_extension : Conventions → List ℕ → Bool → List (List ℕ)
+names_without_extension c n closed =
+    with_endings n c.first_endings ++ (itself closed n ++ with_endings n c.endings)
 
 -- the names that are tried for a name, in order
-abbrev pub candidate_names : List ℕ → Bool → List (List ℕ)
-candidate_names n closed =
-    cond (has_extension n)
-    (names_with_extension n closed (stem n) (extension n))
-    (names_without_extension n closed)
+abbrev pub candidate_names : Conventions → List ℕ → Bool → List (List ℕ)
+candidate_names c n closed =
+    if has_extension n
+    then names_with_extension c n closed (stem n) (extension n)
+    else names_without_extension c n closed
 
 -- names in a folder
 abbrev pub in_folder : Path → List (List ℕ) → List Path
@@ -77,10 +74,14 @@ abbrev pub is_closed : List ℕ → Bool
 is_closed t = is_closed_by (last_or None (parts t))
 
 -- the candidates for the last name of a path, each in that name's folder; `/` has none
-abbrev pub candidates_at : Path → Bool → List Path
-candidates_at [] closed = []
-candidates_at (n ∷ d) closed = in_folder d (candidate_names n closed)
+abbrev pub candidates_at : Conventions → Path → Bool → List Path
+candidates_at c [] closed = []
+candidates_at c (n ∷ d) closed = in_folder d (candidate_names c n closed)
 
--- the file candidates of a text that is read from a folder, in order: a text that isn't named has none
-abbrev pub files : Path → List ℕ → List Path
-files cwd t = cond (is_named t) (candidates_at (clean cwd t) (is_closed t)) []
+-- the file candidates of a text that means a path, in order: a text that isn't named has none
+abbrev pub files_at : Conventions → Path → List ℕ → List Path
+files_at c p t = if is_named t then candidates_at c p (is_closed t) else []
+
+-- the file candidates of a text that is read from a folder
+abbrev pub files : Conventions → Path → List ℕ → List Path
+files c cwd t = files_at c (clean cwd t) t

@@ -1,4 +1,15 @@
 pub mod Endings
+pub mod Conventions
+pub mod ConventionsView
 pub mod Candidates
+pub mod Entry
 pub mod Search
 pub mod SearchOnTree
+pub mod Walk
+pub mod Specifier
+pub mod Settings
+pub mod Spelling
+pub mod NodeRows
+pub mod NodeOrder
+pub mod Located
+pub mod NodeOnTree

@@ -3,9 +3,10 @@ ghost use Rattle.std.specs.Prelude.{◌≡◌, ◌++◌, ◌∷◌, ◌&&◌, Bo
 ghost use Rattle.sugar_path.specs.Path.{IsName, has_no_slash};
 ghost use Rattle.tree_core.specs.Asks.{Asks};
 ghost use Rattle.tree_core.specs.Plan.{first_file};
-ghost use Rattle.swc_loader.specs.Candidates.{has_extension, extension, stem, endings, source_endings, with_endings, itself, names_with_extension, names_without_extension, in_folder, candidates_at};
+ghost use Rattle.swc_loader.specs.Candidates.{has_extension, extension, stem, sources_of, with_endings, itself, names_with_extension, names_without_extension, in_folder, candidates_at};
 ghost use Rattle.swc_loader.specs.Endings.{is_ending, AreEndings};
 
+use crate::Conventions;
 use std::alloc::{AllocError, Global};
 use sugar_path::CleanPath;
 use tree_core::{Asker, ReadError};
@@ -14,18 +15,29 @@ use tree_core::{Asker, ReadError};
 pub(crate) fn candidate_file<R: Asker>(
     alloc: Global,
     tree: &mut R,
+    conventions: &Conventions,
     folder: &CleanPath,
     name: &str,
     closed: bool,
 ) -> Result<Option<CleanPath>, ReadError>
     requires { IsName name.now }
-    ensures { Asks (R.asking tree.old) (R.asking tree.new) result (first_file (candidates_at (name.now ∷ folder.now) closed)) }
+    ensures { Asks (R.asking tree.old) (R.asking tree.new) result
+        (first_file (candidates_at conventions.now (name.now ∷ folder.now) closed)) }
 {
     match split_extension(name) {
         Some((stem, extension)) => {
-            with_extension(alloc, tree, folder, name, closed, stem, extension)
+            with_extension(
+                alloc,
+                tree,
+                conventions,
+                folder,
+                name,
+                closed,
+                stem,
+                extension,
+            )
         }
-        None => without_extension(alloc, tree, folder, name, closed),
+        None => without_extension(alloc, tree, conventions, folder, name, closed),
     }
 }
 
@@ -33,6 +45,7 @@ pub(crate) fn candidate_file<R: Asker>(
 fn with_extension<R: Asker>(
     alloc: Global,
     tree: &mut R,
+    conventions: &Conventions,
     folder: &CleanPath,
     name: &str,
     closed: bool,
@@ -41,36 +54,38 @@ fn with_extension<R: Asker>(
 ) -> Result<Option<CleanPath>, ReadError>
     requires name { IsName name.now }
     requires stem { IsTrue (has_no_slash stem.now) }
-    ensures { Asks (R.asking tree.old) (R.asking tree.new) result (first_file (in_folder folder.now (names_with_extension name.now closed stem.now extension.now))) }
+    ensures { Asks (R.asking tree.old) (R.asking tree.new) result (first_file (in_folder folder.now
+        (names_with_extension conventions.now name.now closed stem.now extension.now))) }
 {
     if let Some(file) = itself_if_closed(alloc, tree, folder, name, closed)? {
         return Ok(Some(file));
     }
-    if let Some(file) = first_with_ending(alloc, tree, folder, name, endings_of_files())? {
+    if let Some(file) = first_with_ending(alloc, tree, folder, name, conventions.endings())? {
         return Ok(Some(file));
     }
-    first_with_ending(alloc, tree, folder, stem, endings_of_sources(extension))
+    first_with_ending(alloc, tree, folder, stem, conventions.sources_of(extension))
 }
 
 // The candidates of a name without an extension.
 fn without_extension<R: Asker>(
     alloc: Global,
     tree: &mut R,
+    conventions: &Conventions,
     folder: &CleanPath,
     name: &str,
     closed: bool,
 ) -> Result<Option<CleanPath>, ReadError>
     requires { IsName name.now }
-    ensures { Asks (R.asking tree.old) (R.asking tree.new) result (first_file (in_folder folder.now (names_without_extension name.now closed))) }
+    ensures { Asks (R.asking tree.old) (R.asking tree.new) result (first_file
+        (in_folder folder.now (names_without_extension conventions.now name.now closed))) }
 {
-    let script = with_ending(alloc, folder, name, ".js")?;
-    if tree.is_file(&script)? {
-        return Ok(Some(script));
+    if let Some(file) = first_with_ending(alloc, tree, folder, name, conventions.first_endings())? {
+        return Ok(Some(file));
     }
     if let Some(file) = itself_if_closed(alloc, tree, folder, name, closed)? {
         return Ok(Some(file));
     }
-    first_with_ending(alloc, tree, folder, name, endings_of_files())
+    first_with_ending(alloc, tree, folder, name, conventions.endings())
 }
 
 // The name itself, where the text is closed.
@@ -82,7 +97,8 @@ fn itself_if_closed<R: Asker>(
     closed: bool,
 ) -> Result<Option<CleanPath>, ReadError>
     requires { IsName name.now }
-    ensures { Asks (R.asking tree.old) (R.asking tree.new) result (first_file (in_folder folder.now (itself closed name.now))) }
+    ensures { Asks (R.asking tree.old) (R.asking tree.new) result
+        (first_file (in_folder folder.now (itself closed name.now))) }
 {
     if !closed {
         return Ok(None);
@@ -94,7 +110,7 @@ fn itself_if_closed<R: Asker>(
     Ok(None)
 }
 
-// The first of a base with each ending that is a file.
+// The first of a base with each ending that is a file. One path is built, and each ending is pushed onto it and cut off again.
 pub(crate) fn first_with_ending<R: Asker>(
     alloc: Global,
     tree: &mut R,
@@ -104,7 +120,8 @@ pub(crate) fn first_with_ending<R: Asker>(
 ) -> Result<Option<CleanPath>, ReadError>
     requires base { IsTrue (has_no_slash base.now) }
     requires endings { AreEndings (map (λ e. e.now) endings.now) }
-    ensures { Asks (R.asking tree.old) (R.asking tree.new) result (first_file (in_folder folder.now (with_endings base.now (map (λ e. e.now) endings.now)))) }
+    ensures { Asks (R.asking tree.old) (R.asking tree.new) result (first_file
+        (in_folder folder.now (with_endings base.now (map (λ e. e.now) endings.now)))) }
 {
     for ending in endings {
         let candidate = with_ending(alloc, folder, base, ending)?;
@@ -133,33 +150,12 @@ fn with_ending(
 
 // The stem and the extension of a name that has one.
 fn split_extension(name: &str) -> Option<(&str, &str)>
-    ensures { MatchOption result (has_extension name.now ≡ false) (λ x. (has_extension name.now ≡ true) × (x.0.now ≡ stem name.now) × (x.1.now ≡ extension name.now)) }
+    ensures { MatchOption result (has_extension name.now ≡ false)
+        (λ x. (has_extension name.now ≡ true) × (x.0.now ≡ stem name.now)
+        × (x.1.now ≡ extension name.now)) }
 {
     match name.rfind('.') {
         Some(dot) if dot > 0 => Some((&name[..dot], &name[dot + 1..])),
         _ => None,
-    }
-}
-
-// The endings that a name is tried with.
-#[tactic(auto, unfolding(crate::specs::Candidates::endings))]
-pub(crate) fn endings_of_files() -> &'static [&'static str]
-    ensures list { map (λ e. e.now) result.now ≡ endings }
-    ensures endings { AreEndings (map (λ e. e.now) result.now) }
-{
-    &[".ts", ".tsx", ".js", ".jsx", ".node"]
-}
-
-// The endings of the sources that an extension stands for.
-#[tactic(auto, unfolding(crate::specs::Candidates::source_endings))]
-fn endings_of_sources(extension: &str) -> &'static [&'static str]
-    ensures sources { map (λ e. e.now) result.now ≡ source_endings extension.now }
-    ensures endings { AreEndings (map (λ e. e.now) result.now) }
-{
-    match extension {
-        "js" | "jsx" => &[".ts", ".tsx"],
-        "mjs" => &[".mts"],
-        "cjs" => &[".cts"],
-        _ => &[],
     }
 }

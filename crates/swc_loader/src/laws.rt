@@ -1,5 +1,8 @@
 // What the searches come to on each tree, and which questions they put. The calls have it by their contracts.
-ghost use Rattle.swc_loader.specs.SearchOnTree.{FolderOnTree, PlaceOnTree};
+ghost use Rattle.swc_loader.specs.SearchOnTree.{FolderOnTree, PlaceOnTree, PlainPlaceOnTree};
+ghost use Rattle.swc_loader.specs.Walk.{WalkOnTree};
+ghost use Rattle.swc_loader.specs.Located.{LocatedOnTree};
+ghost use Rattle.swc_loader.specs.NodeOnTree.{SearchOnTree, NodeOnTree};
 
 /// The search of a folder, said as a function of the tree, with its questions.
 pub fn folder_on_tree()
@@ -9,4 +12,29 @@ pub fn folder_on_tree()
 /// The search of the place of a text, said as a function of the tree, with its questions.
 pub fn place_on_tree()
     ensures { PlaceOnTree }
+{}
+
+/// The same without entry.
+pub fn place_without_entry_on_tree()
+    ensures { PlainPlaceOnTree }
+{}
+
+/// The walk up through the folders' `node_modules`, said as a function of the tree, with its questions.
+pub fn walk_on_tree()
+    ensures { WalkOnTree }
+{}
+
+/// The search at the location of a package, said as a function of the tree, with its questions.
+pub fn located_on_tree()
+    ensures { LocatedOnTree }
+{}
+
+/// The search by a target, said as a function of the tree, with its questions.
+pub fn search_on_tree()
+    ensures { SearchOnTree }
+{}
+
+/// The order of search for Node's modules, said as a function of the tree, with its questions.
+pub fn node_on_tree()
+    ensures { NodeOnTree }
 {}

@@ -1,15 +1,30 @@
-//! The search of files by names: file candidates, folders, and the place that a text means.
+//! The search for Node's modules: file candidates, folders with their entries, and the walk through `node_modules`.
 #![tactic(auto)]
 
+mod before;
 mod candidates;
+mod conventions;
+mod entry;
 pub mod laws;
+mod located;
+mod refusal;
 mod resolution;
+mod resolver;
 mod search;
 mod shape;
+mod specifier;
+mod spelling;
+mod target;
+mod walk;
 
+pub use before::Before;
+pub use conventions::Conventions;
+pub use entry::PackageEntry;
+pub use located::Placed;
+pub use refusal::NodeRefusal;
 pub use resolution::{FileName, Found, Resolution, Via};
-pub use search::{Searched, folder, place};
+pub use resolver::{NodeModulesResolver, to_absolute_path};
+pub use search::Searched;
+pub use specifier::is_bare;
+pub use target::TargetEnv;
 pub use tree_core::{NODE_BUILTINS, ResolveError};
-
-#[cfg(test)]
-mod tests;

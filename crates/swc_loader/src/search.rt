@@ -1,14 +1,17 @@
 // The search of a folder, and of the place that a text names.
-ghost use Rattle.std.specs.Prelude.{◌≡◌, []};
-ghost use Rattle.sugar_path.specs.Path.{clean};
+ghost use Rattle.std.specs.Prelude.{◌≡◌, ◌++◌, IfOk, string_bytes};
+ghost use Rattle.sugar_path.specs.Path.{clean, join, text_of};
 ghost use Rattle.tree_core.specs.Asks.{Asks};
 ghost use Rattle.tree_core.specs.Plan.{first_file};
-ghost use Rattle.swc_loader.specs.Candidates.{files};
-ghost use Rattle.swc_loader.specs.Search.{index as index_plan, folder as folder_plan, place as place_plan};
+ghost use Rattle.swc_loader.specs.Candidates.{files_at};
+ghost use Rattle.swc_loader.specs.Search.{package_file, index_files, places_at, by_entry, entry_places, packaged, place_at, first_found};
+ghost use Rattle.swc_loader.specs.Search.{folder as folder_plan};
 
-use crate::candidates::{candidate_file, endings_of_files, first_with_ending};
+use crate::candidates::{candidate_file, first_with_ending};
+use crate::entry::entry_of;
 use crate::shape::shape_of;
-use std::alloc::Global;
+use crate::{Conventions, PackageEntry, TargetEnv};
+use std::alloc::{AllocError, Global};
 use sugar_path::CleanPath;
 use tree_core::{Asker, ReadError};
 
@@ -17,35 +20,55 @@ use tree_core::{Asker, ReadError};
 pub enum Searched {
     File(CleanPath),
     Nothing,
-    /// The folder has a package.json, whose entry isn't read yet.
-    Entry,
+    /// A package.json that the search reads isn't one, by its path.
+    Malformed(CleanPath),
 }
 
-/// The place of an absolute text, which means this path: its file candidates, and then its folder.
-pub fn place<R: Asker>(
+// The place of a text that means this path: its file candidates, and then its folder.
+pub(crate) fn place<R: Asker>(
     alloc: Global,
     tree: &mut R,
+    conventions: &Conventions,
+    target: TargetEnv,
     text: &str,
     at: &CleanPath,
 ) -> Result<Searched, ReadError>
-    requires { at.now ≡ clean [] text.now }
-    ensures { Asks (R.asking tree.old) (R.asking tree.new) result (place_plan [] text.now) }
+    ensures { Asks (R.asking tree.old) (R.asking tree.new) result
+        (place_at conventions.now target at.now text.now) }
 {
-    if let Some(file) = file_of(alloc, tree, text, at)? {
+    if let Some(file) = file_of(alloc, tree, conventions, text, at)? {
         return Ok(Searched::File(file));
     }
-    folder(alloc, tree, at)
+    folder(alloc, tree, conventions, target, at)
 }
 
-// The first file candidate of an absolute text that is a file.
-fn file_of<R: Asker>(
+// The same without entry: the index files follow at once.
+pub(crate) fn place_without_entry<R: Asker>(
     alloc: Global,
     tree: &mut R,
+    conventions: &Conventions,
     text: &str,
     at: &CleanPath,
 ) -> Result<Option<CleanPath>, ReadError>
-    requires { at.now ≡ clean [] text.now }
-    ensures { Asks (R.asking tree.old) (R.asking tree.new) result (first_file (files [] text.now)) }
+    ensures { Asks (R.asking tree.old) (R.asking tree.new) result
+        (first_file (places_at conventions.now at.now text.now)) }
+{
+    if let Some(file) = file_of(alloc, tree, conventions, text, at)? {
+        return Ok(Some(file));
+    }
+    index(alloc, tree, conventions, at)
+}
+
+// The first file candidate of a text that is a file.
+fn file_of<R: Asker>(
+    alloc: Global,
+    tree: &mut R,
+    conventions: &Conventions,
+    text: &str,
+    at: &CleanPath,
+) -> Result<Option<CleanPath>, ReadError>
+    ensures { Asks (R.asking tree.old) (R.asking tree.new) result
+        (first_file (files_at conventions.now at.now text.now)) }
 {
     let shape = shape_of(alloc, text)?;
     if !shape.named {
@@ -56,32 +79,114 @@ fn file_of<R: Asker>(
         Some(name) => {
             let mut folder = at.try_clone(alloc)?;
             let _below = folder.go_up();
-            candidate_file(alloc, tree, &folder, name, shape.closed)
+            candidate_file(alloc, tree, conventions, &folder, name, shape.closed)
         }
     }
 }
 
-/// The search of a folder.
-pub fn folder<R: Asker>(
+// The search of a folder: by the entry of its package.json where it has one, else by its index files.
+pub(crate) fn folder<R: Asker>(
     alloc: Global,
     tree: &mut R,
+    conventions: &Conventions,
+    target: TargetEnv,
     folder: &CleanPath,
 ) -> Result<Searched, ReadError>
-    ensures { Asks (R.asking tree.old) (R.asking tree.new) result (folder_plan folder.now) }
+    ensures { Asks (R.asking tree.old) (R.asking tree.new) result
+        (folder_plan conventions.now target folder.now) }
 {
-    let package = folder.child(alloc, "package.json")?;
-    if tree.is_file(&package)? {
-        return Ok(Searched::Entry);
+    let package_json = folder.child(alloc, "package.json")?;
+    if tree.is_file(&package_json)? {
+        return packaged_folder(alloc, tree, conventions, target, folder, package_json);
     }
-    index(alloc, tree, folder)
+    first_index(alloc, tree, conventions, folder)
 }
 
-// The first index file of a folder.
-fn index<R: Asker>(alloc: Global, tree: &mut R, folder: &CleanPath) -> Result<Searched, ReadError>
-    ensures { Asks (R.asking tree.old) (R.asking tree.new) result (index_plan folder.now) }
+// The search of a folder that has a package.json.
+fn packaged_folder<R: Asker>(
+    alloc: Global,
+    tree: &mut R,
+    conventions: &Conventions,
+    target: TargetEnv,
+    folder: &CleanPath,
+    package_json: CleanPath,
+) -> Result<Searched, ReadError>
+    requires { package_json ≡ package_file folder.now }
+    ensures { Asks (R.asking tree.old) (R.asking tree.new) result
+        (packaged conventions.now target folder.now) }
 {
-    match first_with_ending(alloc, tree, folder, "index", endings_of_files())? {
+    let content = tree.read(&package_json)?;
+    match entry_of(alloc, conventions, target, &content)? {
+        PackageEntry::Malformed => Ok(Searched::Malformed(package_json)),
+        PackageEntry::Missing => first_index(alloc, tree, conventions, folder),
+        PackageEntry::At(text) => at_entry(alloc, tree, conventions, folder, text.as_str()),
+    }
+}
+
+// The search of an entry text behind a folder, without entry. The folder's own index files follow.
+fn at_entry<R: Asker>(
+    alloc: Global,
+    tree: &mut R,
+    conventions: &Conventions,
+    folder: &CleanPath,
+    entry: &str,
+) -> Result<Searched, ReadError>
+    ensures { Asks (R.asking tree.old) (R.asking tree.new) result
+        (first_found (entry_places conventions.now folder.now entry.now)) }
+{
+    let text = joined(alloc, folder, entry)?;
+    let at = CleanPath::read(alloc, &CleanPath::root(alloc), text.as_str())?;
+    match place_without_entry(alloc, tree, conventions, text.as_str(), &at)? {
+        Some(file) => Ok(Searched::File(file)),
+        None => first_index(alloc, tree, conventions, folder),
+    }
+}
+
+// What a folder's index files come to.
+fn first_index<R: Asker>(
+    alloc: Global,
+    tree: &mut R,
+    conventions: &Conventions,
+    folder: &CleanPath,
+) -> Result<Searched, ReadError>
+    ensures { Asks (R.asking tree.old) (R.asking tree.new) result
+        (first_found (index_files conventions.now folder.now)) }
+{
+    match index(alloc, tree, conventions, folder)? {
         Some(file) => Ok(Searched::File(file)),
         None => Ok(Searched::Nothing),
     }
+}
+
+// The first index file of a folder that is a file.
+fn index<R: Asker>(
+    alloc: Global,
+    tree: &mut R,
+    conventions: &Conventions,
+    folder: &CleanPath,
+) -> Result<Option<CleanPath>, ReadError>
+    ensures { Asks (R.asking tree.old) (R.asking tree.new) result
+        (first_file (index_files conventions.now folder.now)) }
+{
+    for name in conventions.index_names() {
+        if let Some(file) = first_with_ending(alloc, tree, folder, name, conventions.endings())? {
+            return Ok(Some(file));
+        }
+    }
+    Ok(None)
+}
+
+// A text behind a folder; an absolute one stands alone.
+pub(crate) fn joined(alloc: Global, folder: &CleanPath, text: &str) -> Result<String, AllocError>
+    ensures { IfOk result (λ s. string_bytes s ≡ join (text_of folder.now) text.now) }
+{
+    if text.starts_with('/') {
+        return String::from_str(alloc, text);
+    }
+    let mut joined = String::from_str(alloc, folder.as_str())?;
+    if !folder.is_root() {
+        joined.push_str("/")?;
+    }
+    joined.push_str(text)?;
+    Ok(joined)
 }

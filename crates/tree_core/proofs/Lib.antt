@@ -8,3 +8,4 @@ pub mod Keys
 pub mod Above
 pub mod Conflicts
 pub mod MemoryReplies
+pub mod RowOrders

@@ -4,6 +4,8 @@ pub mod Plan
 pub mod Asks
 pub mod Resolving
 pub mod First
+pub mod Rows
+pub mod Results
 pub mod Recorder
 pub mod RecorderView
 pub mod Builtins

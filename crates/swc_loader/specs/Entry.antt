@@ -1,0 +1,90 @@
+-- The entry that a package.json names, as bundlers read its fields `module`, `main` and `browser`.
+use Rattle.std.specs.Prelude.{ℕ, Bool, true, false, not, ◌&&◌, if◌then◌else◌, List, [], ◌∷◌, codes, Option, Some, None, option_and_then}
+use Rattle.std.specs.List.{list_all}
+use Rattle.serde_json.specs.Data.{Data, null, boolean, number, string, array, object, Members, no_members, member}
+use Rattle.serde_json.specs.Find.{get, as_str}
+use Rattle.serde_json.specs.Written.{has_float}
+use Rattle.json_reading.specs.Bytes.{json_of}
+use Rattle.swc_loader.specs.declared.target.TargetEnv.{TargetEnv}
+use Rattle.swc_loader.specs.declared.target.TargetEnv.TheVariants.{Browser, Node}
+use Rattle.swc_loader.specs.declared.entry.PackageEntry.{PackageEntry}
+use Rattle.swc_loader.specs.declared.entry.PackageEntry.TheVariants.{Malformed, Missing, At}
+use Rattle.swc_loader.specs.Conventions.{Conventions}
+
+abbrev pub is_object : Data → Bool
+is_object null = false
+is_object (boolean b) = false
+is_object (number n) = false
+is_object (string s) = false
+is_object (array ds) = false
+is_object (object ms) = true
+
+-- a member that is missing, null or a text
+abbrev pub is_text_or_nothing : Option Data → Bool
+is_text_or_nothing None = true
+is_text_or_nothing (Some null) = true
+is_text_or_nothing (Some (boolean b)) = false
+is_text_or_nothing (Some (number n)) = false
+is_text_or_nothing (Some (string s)) = true
+is_text_or_nothing (Some (array ds)) = false
+is_text_or_nothing (Some (object ms)) = false
+
+-- a value of a browser map: a text or a truth value
+abbrev pub is_rule_value : Data → Bool
+is_rule_value null = false
+is_rule_value (boolean b) = true
+is_rule_value (number n) = false
+is_rule_value (string s) = true
+is_rule_value (array ds) = false
+is_rule_value (object ms) = false
+
+abbrev pub are_rule_values : Members → Bool
+are_rule_values no_members = true
+are_rule_values (member k d ms) = is_rule_value d && are_rule_values ms
+
+-- `browser` is missing, null, a text, or an object of texts and truth values
+abbrev pub is_browser_field : Option Data → Bool
+is_browser_field None = true
+is_browser_field (Some null) = true
+is_browser_field (Some (boolean b)) = false
+is_browser_field (Some (number n)) = false
+is_browser_field (Some (string s)) = true
+is_browser_field (Some (array ds)) = false
+is_browser_field (Some (object ms)) = are_rule_values ms
+
+-- A package.json that the order can read is an object without floats, and the fields that it reads are of their kinds. Every other one is malformed.
+abbrev pub is_readable : Conventions → Data → Bool
+is_readable c d =
+    is_object d && not (has_float d) &&
+    list_all (λ field. is_text_or_nothing (get field d)) c.main_fields &&
+    is_browser_field (get (codes "browser") d)
+
+-- the text of a field, where it has one
+abbrev pub text_at : List ℕ → Data → Option (List ℕ)
+text_at field d = option_and_then as_str (get field d)
+
+abbrev pub or_text : Option (List ℕ) → Option (List ℕ) → Option (List ℕ)
+or_text (Some t) other = Some t
+or_text None other = other
+
+-- the first of these fields that is a text
+abbrev pub first_text : List (List ℕ) → Data → Option (List ℕ)
+first_text [] d = None
+first_text (field ∷ fields) d = or_text (text_at field d) (first_text fields d)
+
+-- the entry text: for a browser a textual `browser` goes before the main fields
+abbrev pub entry_text : Conventions → TargetEnv → Data → Option (List ℕ)
+entry_text c Browser d = first_text (codes "browser" ∷ c.main_fields) d
+entry_text c Node d = first_text c.main_fields d
+
+abbrev pub named_by : Option (List ℕ) → PackageEntry
+named_by None = Missing
+named_by (Some text) = At text
+
+abbrev pub entry_in : Conventions → TargetEnv → Option Data → PackageEntry
+entry_in c env None = Malformed
+entry_in c env (Some d) = if is_readable c d then named_by (entry_text c env d) else Malformed
+
+-- the entry that the bytes of a package.json name; bytes that are no JSON are malformed, as is a file that can't be read
+abbrev pub entry : Conventions → TargetEnv → Option (List ℕ) → PackageEntry
+entry c env content = entry_in c env (option_and_then json_of content)

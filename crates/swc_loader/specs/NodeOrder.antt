@@ -1,0 +1,22 @@
+-- The order of search for Node's modules, as one text over its rows.
+use Rattle.std.specs.Prelude.{ℕ, List, Result}
+use Rattle.tree_core.specs.Plan.{Plan}
+use Rattle.tree_core.specs.Rows.{Row, order, decided, refuses_by}
+use Rattle.tree_core.specs.Resolving.{◌>>=◌}
+use Rattle.swc_loader.specs.declared.resolution.FileName.{FileName}
+use Rattle.swc_loader.specs.declared.resolution.Resolution.{Resolution}
+use Rattle.swc_loader.specs.declared.refusal.NodeRefusal.{NodeRefusal}
+use Rattle.swc_loader.specs.Settings.{NodeSettings}
+use Rattle.swc_loader.specs.NodeRows.{unless_probed, path_text, target_before_search, search}
+
+-- A line for each step: row 1, row 2, rows 3 to 5, and rows 6 to 10.
+abbrev pub node_rows : NodeSettings → FileName → List ℕ → Row Resolution Resolution NodeRefusal
+node_rows s base specifier = do
+  unanswered ← unless_probed s specifier
+  importer ← decided (path_text base)
+  target ← target_before_search s unanswered
+  refuses_by (search s importer target)
+
+-- what a specifier comes to, asked from a base
+abbrev pub node : NodeSettings → FileName → List ℕ → Plan (Result Resolution NodeRefusal)
+node s base specifier = order (node_rows s base specifier)

@@ -1,0 +1,146 @@
+// The entry that a package.json names.
+ghost use Rattle.std.specs.Prelude.{◌≡◌, IfOk, Some, map, option_map};
+ghost use Rattle.std.specs.List.{list_all};
+ghost use Rattle.std.specs.Option.{option_copied};
+ghost use Rattle.serde_json.specs.View.{view, members_view};
+ghost use Rattle.serde_json.specs.Find.{get};
+ghost use Rattle.swc_loader.specs.Entry.{entry, is_readable, is_text_or_nothing, is_browser_field, text_at, first_text, entry_text};
+ghost use Rattle.swc_loader.specs.Entry as of;
+
+use crate::{Conventions, TargetEnv};
+use json_reading::{FromJsonError, holds_float, read_json};
+use serde_json::{Map, Value};
+use std::alloc::{AllocError, Global};
+use sugar_path::{Bytes, Text};
+
+/// The entry that a package.json names.
+#[derive(Debug, Drop, PartialEq, Eq)]
+pub enum PackageEntry {
+    /// The file is no package.json that the order can read.
+    Malformed,
+    /// It names none.
+    Missing,
+    /// The text that it names, which is read from the package's folder.
+    At(Text),
+}
+
+// The entry that the content of a package.json names.
+pub(crate) fn entry_of(
+    alloc: Global,
+    conventions: &Conventions,
+    target: TargetEnv,
+    content: &Option<Bytes>,
+) -> Result<PackageEntry, AllocError>
+    ensures { IfOk result (λ e. e ≡ entry conventions.now target content.now) }
+{
+    let Some(bytes) = content else {
+        return Ok(PackageEntry::Malformed);
+    };
+    match read_json(alloc, bytes.as_slice()) {
+        Ok(package_json) => entry_in(alloc, conventions, target, &package_json),
+        Err(FromJsonError::OtherKind) => Ok(PackageEntry::Malformed),
+        Err(FromJsonError::NoMemory) => Err(AllocError),
+    }
+}
+
+// The entry that a JSON value names.
+fn entry_in(
+    alloc: Global,
+    conventions: &Conventions,
+    target: TargetEnv,
+    package_json: &Value,
+) -> Result<PackageEntry, AllocError>
+    ensures { IfOk result (λ e. e ≡ of.entry_in conventions.now target (Some (view package_json.now))) }
+{
+    if !is_readable(conventions, package_json) {
+        return Ok(PackageEntry::Malformed);
+    }
+    match entry_text(conventions, target, package_json) {
+        Some(text) => Ok(PackageEntry::At(Text::of(alloc, text)?)),
+        None => Ok(PackageEntry::Missing),
+    }
+}
+
+// Whether the order can read a package.json.
+fn is_readable(conventions: &Conventions, package_json: &Value) -> bool
+    ensures { result ≡ is_readable conventions.now (view package_json.now) }
+{
+    package_json.is_object()
+        && !holds_float(package_json)
+        && are_texts_or_nothing(conventions.main_fields(), package_json)
+        && is_browser_field(package_json.get("browser"))
+}
+
+// Whether each of these fields is missing, null or a text.
+fn are_texts_or_nothing(fields: &[&str], package_json: &Value) -> bool
+    ensures { result ≡ list_all (λ field. is_text_or_nothing (get field (view package_json.now)))
+        (map (λ f. f.now) fields.now) }
+{
+    fields
+        .iter()
+        .all(|field| is_text_or_nothing(package_json.get(*field)))
+}
+
+// Whether a member is missing, null or a text.
+fn is_text_or_nothing(member: Option<&Value>) -> bool
+    ensures { result ≡ is_text_or_nothing (option_map (λ v. view v.now) member.entry) }
+{
+    matches!(member, None | Some(Value::Null) | Some(Value::String(_)))
+}
+
+// Whether the member `browser` is of a kind that it may have.
+fn is_browser_field(member: Option<&Value>) -> bool
+    ensures { result ≡ is_browser_field (option_map (λ v. view v.now) member.entry) }
+{
+    match member {
+        Some(Value::Object(rules)) => are_rule_values(rules),
+        _ => is_text_or_nothing(member),
+    }
+}
+
+// Whether each value of a browser map is a text or a truth value.
+fn are_rule_values(rules: &Map<String, Value>) -> bool
+    ensures { result ≡ of.are_rule_values (members_view rules.now.entries) }
+{
+    for (_key, value) in rules.iter() {
+        if !matches!(value, Value::String(_) | Value::Bool(_)) {
+            return false;
+        }
+    }
+    true
+}
+
+// The entry text of a package.json.
+fn entry_text<'a>(
+    conventions: &Conventions,
+    target: TargetEnv,
+    package_json: &'a Value,
+) -> Option<&'a str>
+    ensures { option_copied result ≡ entry_text conventions.now target (view package_json.now) }
+{
+    if target == TargetEnv::Browser {
+        if let Some(text) = text_at("browser", package_json) {
+            return Some(text);
+        }
+    }
+    first_text(conventions.main_fields(), package_json)
+}
+
+// The text of the first field that has one.
+fn first_text<'a>(fields: &[&str], package_json: &'a Value) -> Option<&'a str>
+    ensures { option_copied result ≡ first_text (map (λ f. f.now) fields.now) (view package_json.now) }
+{
+    for field in fields {
+        if let Some(text) = text_at(field, package_json) {
+            return Some(text);
+        }
+    }
+    None
+}
+
+// The text of a field, where it has one.
+fn text_at<'a>(field: &str, package_json: &'a Value) -> Option<&'a str>
+    ensures { option_copied result ≡ text_at field.now (view package_json.now) }
+{
+    package_json.get(field)?.as_str()
+}

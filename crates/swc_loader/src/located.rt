@@ -1,0 +1,120 @@
+// The search at the location of a package.
+ghost use Rattle.std.specs.Prelude.{◌≡◌, IfOk, string_bytes};
+ghost use Rattle.std.specs.Option.{option_copied};
+ghost use Rattle.tree_core.specs.Resolving.{Resolves, IsDecided};
+ghost use Rattle.swc_loader.specs.Located.{behind, searched, whole, inside, resolve_at, if_same};
+
+use crate::search::{folder, place};
+use crate::{NodeModulesResolver, NodeRefusal, Searched};
+use std::alloc::{AllocError, Global};
+use sugar_path::{CleanPath, Text};
+use tree_core::{Asker, ResolveError};
+
+/// What is found at a location.
+#[derive(Drop)]
+pub enum Placed {
+    /// A file. A rule for browsers may have led to it.
+    File { path: CleanPath, rewritten: bool },
+    /// A file that a rule for browsers ignores, by its clean path.
+    Ignored(Text),
+}
+
+// What is found at a location: without a subpath in the folder, else at the place behind it.
+pub(crate) fn search_at<R: Asker>(
+    alloc: Global,
+    tree: &mut R,
+    resolver: &NodeModulesResolver,
+    location: &CleanPath,
+    subpath: Option<&str>,
+) -> Result<Placed, ResolveError<NodeRefusal>>
+    ensures { Resolves (R.asking tree.old) (R.asking tree.new) result
+        (resolve_at resolver.now location.now (option_copied subpath.entry)) }
+{
+    match subpath {
+        None => search_whole(alloc, tree, resolver, location),
+        Some(subpath) => {
+            let text = text_behind(alloc, location, subpath)?;
+            search_behind(alloc, tree, resolver, location, text.as_str())
+        }
+    }
+}
+
+// The search of the location itself.
+fn search_whole<R: Asker>(
+    alloc: Global,
+    tree: &mut R,
+    resolver: &NodeModulesResolver,
+    location: &CleanPath,
+) -> Result<Placed, ResolveError<NodeRefusal>>
+    ensures { Resolves (R.asking tree.old) (R.asking tree.new) result
+        (whole resolver.now location.now) }
+{
+    let found = folder(
+        alloc,
+        tree,
+        resolver.conventions(),
+        resolver.target(),
+        location,
+    )?;
+    placed_file(alloc, location.as_str(), found)
+}
+
+// The search by the text behind a location, which may mean the location itself.
+fn search_behind<R: Asker>(
+    alloc: Global,
+    tree: &mut R,
+    resolver: &NodeModulesResolver,
+    location: &CleanPath,
+    text: &str,
+) -> Result<Placed, ResolveError<NodeRefusal>>
+    ensures { Resolves (R.asking tree.old) (R.asking tree.new) result
+        (if_same resolver.now location.now text.now) }
+{
+    let at = CleanPath::read(alloc, &CleanPath::root(alloc), text)?;
+    if at == *location {
+        return search_whole(alloc, tree, resolver, location);
+    }
+    let found = place(
+        alloc,
+        tree,
+        resolver.conventions(),
+        resolver.target(),
+        text,
+        &at,
+    )?;
+    placed_file(alloc, text, found)
+}
+
+// What a search by a text comes to.
+fn placed_file(
+    alloc: Global,
+    text: &str,
+    found: Searched,
+) -> Result<Placed, ResolveError<NodeRefusal>>
+    ensures { IsDecided result (searched text.now found) }
+{
+    match found {
+        Searched::File(path) => Ok(Placed::File {
+            path,
+            rewritten: false,
+        }),
+        Searched::Nothing => {
+            let text = Text::of(alloc, text)?;
+            Err(ResolveError::Refused(NodeRefusal::NotFound { text }))
+        }
+        Searched::Malformed(package) => {
+            let path = package.into_text()?;
+            Err(ResolveError::Refused(NodeRefusal::MalformedPackage { path }))
+        }
+    }
+}
+
+// The text behind a location, taken by the letter.
+fn text_behind(alloc: Global, location: &CleanPath, subpath: &str) -> Result<String, AllocError>
+    ensures { IfOk result (λ s. string_bytes s ≡ behind location.now subpath.now) }
+{
+    let mut text = String::from_str(alloc, location.as_str())?;
+    text.push_str("/")?;
+    text.push_str(subpath)?;
+    Ok(text)
+}
