@@ -1,8 +1,6 @@
 pub mod Settings
 pub mod Request
-pub mod Specifier
 pub mod Location
-pub mod BoundSearch
 pub mod Rows
 pub mod Order
 pub mod OrderParts

@@ -1,98 +1,134 @@
 -- What the order comes to on a tree, and which questions it puts, as plain functions of the tree: the laws by which a reader checks the plans.
-use Rattle.std.specs.Prelude.{◌≡◌, if◌then◌else◌, ℕ, List, [], ◌∷◌, ◌++◌, Option, Some, None, Result, Ok, Err, option_map}
-use Rattle.std.specs.FinMap.{get}
-use Rattle.sugar_path.specs.Path.{Path, clean, text_of, path_eq}
+use Rattle.std.specs.Prelude.{◌≡◌, if◌then◌else◌, ℕ, Bool, List, [], ◌∷◌, ◌++◌, Option, Some, None, Result, Ok, Err}
+use Rattle.sugar_path.specs.Path.{Path}
 use Rattle.tree_core.specs.declared.question.Question.{Question}
-use Rattle.tree_core.specs.declared.question.Question.TheVariants.{Canon}
 use Rattle.tree_core.specs.Tree.{Files}
 use Rattle.tree_core.specs.Plan.{answer, asked}
+use Rattle.tree_core.specs.Asks.{widened}
+use Rattle.tree_core.specs.Rows.{Going, end_of, or_refused}
+use Rattle.tree_core.specs.Results.{◌>>=◌, asks_after}
+use Rattle.pnp_core.specs.declared.manifest.PackageLocator.{PackageLocator}
 use Rattle.pnp_core.specs.Manifest.{Contents}
+use Rattle.pnp_core.specs.Owner.{owner}
 use Rattle.pnp_core.specs.OnTree.{nearest_on, nearest_asks, loaded_on, loaded_asks}
 use Rattle.swc_loader.specs.declared.resolution.Resolution.{Resolution}
-use Rattle.swc_loader.specs.SearchOnTree.{folder_on, place_on, folder_asks, place_asks}
+use Rattle.swc_loader.specs.declared.resolution.Via.{Via}
+use Rattle.swc_loader.specs.declared.located.Placed.{Placed}
+use Rattle.swc_loader.specs.declared.located.Placed.TheVariants.{File, Ignored}
+use Rattle.swc_loader.specs.Specifier.{is_bare}
+use Rattle.swc_loader.specs.Spelling.{custom}
+use Rattle.swc_loader.specs.Located.{located_on, located_asks}
+use Rattle.swc_loader.specs.NodeRows.{before_search}
+use Rattle.swc_loader.specs.NodeOnTree.{node_on, node_asks, search_on, search_asks, target_or_answer, answer_on, answer_asks}
 use Rattle.resolve_stack.specs.declared.verdict.JoinRefusal.{JoinRefusal}
-use Rattle.resolve_stack.specs.declared.verdict.JoinRefusal.TheVariants.{NotBuilt}
-use Rattle.resolve_stack.specs.Settings.{ProjectSettings}
+use Rattle.resolve_stack.specs.Settings.{ProjectSettings, path_of}
 use Rattle.resolve_stack.specs.Request.{Request}
-use Rattle.resolve_stack.specs.Rows.{importer_of, readable, owner_of, target_of, identifier_of, bound_of, row_of, folder_of, via_of, spelled, answer_through}
-use Rattle.resolve_stack.specs.BoundSearch.{behind, searched, contained, bound}
+use Rattle.resolve_stack.specs.Rows.{of_node, bare_base, readable, identifier_of, bound_of, row_of, unlocked, folder_of, contained, via_of, is_told_relative}
 use Rattle.resolve_stack.specs.Order.{join}
 use Rattle.resolve_stack.specs.Verdict.{verdict_of, verdict}
 
--- one result, and then the one that its value gives
-infixl 10 ◌>>=◌
-abbrev pub ◌>>=◌ : {A B X : Type 0} → Result A X → (A → Result B X) → Result B X
-Ok a >>= next = next a
-Err x >>= next = Err x
+-- the node rows of the whole request, as the end of the order
+abbrev pub by_node_rows_on : {A : Type 0} → Files → ProjectSettings → Request → Going A Resolution JoinRefusal
+by_node_rows_on t project request =
+    Err (widened of_node (node_on t project.node request.importer request.specifier))
 
--- the questions that a value gives
-abbrev pub asks_after : {A X : Type 0} → Result A X → (A → List Question) → List Question
-asks_after (Ok a) questions = questions a
-asks_after (Err x) questions = []
+abbrev pub node_rows_asks : Files → ProjectSettings → Request → List Question
+node_rows_asks t project request = node_asks t project.node request.importer request.specifier
+
+abbrev pub or_node_rows_on : {A : Type 0} → Files → ProjectSettings → Request → Option A → Going A Resolution JoinRefusal
+or_node_rows_on t project request None = by_node_rows_on t project request
+or_node_rows_on t project request (Some a) = Ok a
+
+abbrev pub or_node_rows_asks : {A : Type 0} → Files → ProjectSettings → Request → Option A → List Question
+or_node_rows_asks t project request None = node_rows_asks t project request
+or_node_rows_asks t project request (Some a) = []
 
 -- the manifest in the nearest manifest file
-abbrev pub manifest_in_file : Files → Option Path → Result Contents JoinRefusal
-manifest_in_file t None = Err NotBuilt
-manifest_in_file t (Some file) = readable file (loaded_on t file)
+abbrev pub manifest_in_file : Files → ProjectSettings → Request → Option Path → Going Contents Resolution JoinRefusal
+manifest_in_file t project request None = by_node_rows_on t project request
+manifest_in_file t project request (Some file) = or_refused (readable file (loaded_on t file))
 
-abbrev pub manifest_on : Files → Path → Result Contents JoinRefusal
-manifest_on t importer = manifest_in_file t (nearest_on t importer)
+abbrev pub manifest_on : Files → ProjectSettings → Request → List ℕ → Going Contents Resolution JoinRefusal
+manifest_on t project request base =
+    manifest_in_file t project request (nearest_on t (path_of project base))
 
-abbrev pub reading_asks : Option Path → List Question
-reading_asks None = []
-reading_asks (Some file) = loaded_asks file
+abbrev pub reading_asks : Files → ProjectSettings → Request → Option Path → List Question
+reading_asks t project request None = node_rows_asks t project request
+reading_asks t project request (Some file) = loaded_asks file
 
 -- which of the places for a manifest is there, and then the bytes of the first that is
-abbrev pub manifest_asks : Files → Path → List Question
-manifest_asks t importer = nearest_asks t importer ++ reading_asks (nearest_on t importer)
+abbrev pub manifest_asks : Files → ProjectSettings → Request → List ℕ → List Question
+manifest_asks t project request base =
+    nearest_asks t (path_of project base) ++
+    reading_asks t project request (nearest_on t (path_of project base))
 
--- the search at a bound location
-abbrev pub bound_on : Files → Path → Option (List ℕ) → Result Path JoinRefusal
-bound_on t l None = searched (text_of l) (folder_on t l)
-bound_on t l (Some subpath) =
-    if path_eq (clean [] (behind l subpath)) l
-    then searched (text_of l) (folder_on t l)
-    else searched (behind l subpath) (place_on t [] (behind l subpath))
+-- the owner of the importer
+abbrev pub asking_package : ProjectSettings → Contents → List ℕ → Option PackageLocator
+asking_package project manifest base = owner manifest (path_of project base)
 
-abbrev pub bound_asks : Files → Path → Option (List ℕ) → List Question
-bound_asks t l None = folder_asks t l
-bound_asks t l (Some subpath) =
-    if path_eq (clean [] (behind l subpath)) l
-    then folder_asks t l
-    else place_asks t [] (behind l subpath)
+-- a bare target goes on, and any other is searched as the node rows do
+abbrev pub bare_target_on : Files → ProjectSettings → List ℕ → List ℕ → Going (List ℕ) Resolution JoinRefusal
+bare_target_on t project base target =
+    if is_bare target
+    then Ok target
+    else Err (widened of_node (search_on t project.node base target))
 
--- the name that a file is answered by
-abbrev pub name_on : Files → Path → List ℕ
-name_on t f = spelled f (option_map (λ file. file.canonical) (get t (text_of f)))
+abbrev pub bare_target_asks : Files → ProjectSettings → List ℕ → List ℕ → List Question
+bare_target_asks t project base target =
+    if is_bare target then [] else search_asks t project.node base target
+
+-- what is found at a location
+abbrev pub placed_on : Files → ProjectSettings → Path → Option (List ℕ) → Result Placed JoinRefusal
+placed_on t project folder subpath = widened of_node (located_on t project.node folder subpath)
+
+abbrev pub found_or_name : Placed → Going (Path × Bool) Resolution JoinRefusal
+found_or_name (File f rewritten) = Ok (f, rewritten)
+found_or_name (Ignored name) = Err (Ok (custom name))
+
+-- the answer of a file that was found through a row
+abbrev pub through_on : Files → ProjectSettings → Via → Path → Bool → Resolution
+through_on t project via f rewritten =
+    answer_on t project.node (Some via) f (is_told_relative project f rewritten)
 
 -- the order's answer or refusal
 abbrev pub join_on : Files → ProjectSettings → Request → Result Resolution JoinRefusal
-join_on t project request = do
-  importer ← importer_of project request.importer request.specifier
-  manifest ← manifest_on t importer
-  owner ← owner_of manifest importer
-  target ← target_of request.specifier
-  identifier ← identifier_of target
-  locator ← bound_of manifest owner importer target identifier.0
-  location ← row_of manifest locator
-  folder ← folder_of location
-  found ← bound_on t folder identifier.1
-  file ← contained folder found
-  Ok (answer_through (via_of locator folder) file (name_on t file))
+join_on t project request = end_of (do
+  base ← or_node_rows_on t project request (bare_base request)
+  manifest ← manifest_on t project request base
+  owner ← or_node_rows_on t project request (asking_package project manifest base)
+  target ← target_or_answer (before_search project.node request.specifier)
+  named ← bare_target_on t project base target
+  identifier ← or_refused (identifier_of named)
+  locator ← or_refused (bound_of manifest owner (path_of project base) named identifier.0)
+  location ← or_refused (row_of manifest locator)
+  bound ← or_refused (unlocked locator)
+  folder ← or_refused (folder_of location)
+  placed ← or_refused (placed_on t project folder identifier.1)
+  found ← found_or_name placed
+  file ← or_refused (contained folder found.0)
+  Ok (through_on t project (via_of bound folder) file found.1))
 
--- the order's questions: those for the manifest, those of the search at the bound location, and the canonical name of an answered file
+-- the order's questions
 abbrev pub join_asks : Files → ProjectSettings → Request → List Question
 join_asks t project request =
-    asks_after (importer_of project request.importer request.specifier) (λ importer.
-    manifest_asks t importer ++ asks_after (manifest_on t importer) (λ manifest.
-    asks_after (owner_of manifest importer) (λ owner.
-    asks_after (target_of request.specifier) (λ target.
-    asks_after (identifier_of target) (λ identifier.
-    asks_after (bound_of manifest owner importer target identifier.0) (λ locator.
+    or_node_rows_asks t project request (bare_base request) ++
+    asks_after (or_node_rows_on t project request (bare_base request)) (λ base.
+    manifest_asks t project request base ++
+    asks_after (manifest_on t project request base) (λ manifest.
+    or_node_rows_asks t project request (asking_package project manifest base) ++
+    asks_after (or_node_rows_on t project request (asking_package project manifest base)) (λ owner.
+    asks_after (target_or_answer (before_search project.node request.specifier)) (λ target.
+    bare_target_asks t project base target ++
+    asks_after (bare_target_on t project base target) (λ named.
+    asks_after (identifier_of named) (λ identifier.
+    asks_after (bound_of manifest owner (path_of project base) named identifier.0) (λ locator.
     asks_after (row_of manifest locator) (λ location.
     asks_after (folder_of location) (λ folder.
-    bound_asks t folder identifier.1 ++ asks_after (bound_on t folder identifier.1) (λ found.
-    asks_after (contained folder found) (λ file. Canon (text_of file) ∷ []))))))))))
+    located_asks t project.node folder identifier.1 ++
+    asks_after (placed_on t project folder identifier.1) (λ placed.
+    asks_after (found_or_name placed) (λ found.
+    asks_after (contained folder found.0) (λ file.
+    answer_asks project.node file))))))))))))
 
 -- the order, on each tree
 pub record JoinOnTree : Type 0 where
@@ -107,10 +143,3 @@ pub record VerdictOnTree : Type 0 where
       answer t (verdict project request) ≡ verdict_of (join_on t project request)
   pub asks : (t : Files) (project : ProjectSettings) (request : Request) →
       asked t (verdict project request) ≡ join_asks t project request
-
--- the search at a bound location, on each tree
-pub record BoundOnTree : Type 0 where
-  pub answers : (t : Files) (l : Path) (subpath : Option (List ℕ)) →
-      answer t (bound l subpath) ≡ bound_on t l subpath
-  pub asks : (t : Files) (l : Path) (subpath : Option (List ℕ)) →
-      asked t (bound l subpath) ≡ bound_asks t l subpath

@@ -1,25 +1,32 @@
--- The order of search: how a request ends on a tree, as a plan of questions. `join` is one text, a line for each of the join rows of docs/ORDER.md that has something to do; each stands by itself in Rows.antt and BoundSearch.antt.
+-- The order of search: how a request ends on a tree, as a plan of questions. `join_rows` is one text, a line for each of the join rows of docs/ORDER.md; each row stands by itself in Rows.antt.
 use Rattle.std.specs.Prelude.{Result}
-use Rattle.tree_core.specs.Plan.{Plan, Done}
+use Rattle.tree_core.specs.Plan.{Plan}
+use Rattle.tree_core.specs.Rows.{Row, order, decided, refuses_by}
 use Rattle.tree_core.specs.Resolving.{◌>>=◌}
 use Rattle.swc_loader.specs.declared.resolution.Resolution.{Resolution}
+use Rattle.swc_loader.specs.NodeRows.{target_before_search}
 use Rattle.resolve_stack.specs.declared.verdict.JoinRefusal.{JoinRefusal}
-use Rattle.resolve_stack.specs.Settings.{ProjectSettings}
+use Rattle.resolve_stack.specs.Settings.{ProjectSettings, path_of}
 use Rattle.resolve_stack.specs.Request.{Request}
-use Rattle.resolve_stack.specs.Rows.{importer_of, manifest_of, owner_of, target_of, identifier_of, bound_of, row_of, folder_of, via_of, answered}
-use Rattle.resolve_stack.specs.BoundSearch.{bound, contained}
+use Rattle.resolve_stack.specs.Rows.{or_node_rows, bare_base, nearest_manifest, owner_of, bare_target, identifier_of, bound_of, row_of, unlocked, folder_of, found_at, unless_ignored, contained, via_of, answered_through}
 
--- Three rows have nothing to do yet: without aliases a bare specifier's target is bare, no lock is accepted, and there are no browser rules.
+abbrev pub join_rows : ProjectSettings → Request → Row Resolution Resolution JoinRefusal
+join_rows project request = do
+  base ← or_node_rows project request (bare_base request)
+  manifest ← nearest_manifest project request base
+  owner ← owner_of project request manifest base
+  target ← target_before_search project.node request.specifier
+  named ← bare_target project base target
+  identifier ← decided (identifier_of named)
+  locator ← decided (bound_of manifest owner (path_of project base) named identifier.0)
+  location ← decided (row_of manifest locator)
+  bound ← decided (unlocked locator)
+  folder ← decided (folder_of location)
+  placed ← refuses_by (found_at project folder identifier.1)
+  found ← unless_ignored placed
+  file ← decided (contained folder found.0)
+  refuses_by (answered_through project (via_of bound folder) file found.1)
+
+-- the order of search for a request of a project
 unfoldable pub join : ProjectSettings → Request → Plan (Result Resolution JoinRefusal)
-join project request = do
-  importer ← Done (importer_of project request.importer request.specifier)
-  manifest ← manifest_of importer
-  owner ← Done (owner_of manifest importer)
-  target ← Done (target_of request.specifier)
-  identifier ← Done (identifier_of target)
-  locator ← Done (bound_of manifest owner importer target identifier.0)
-  location ← Done (row_of manifest locator)
-  folder ← Done (folder_of location)
-  found ← bound folder identifier.1
-  file ← Done (contained folder found)
-  answered (via_of locator folder) file
+join project request = order (join_rows project request)

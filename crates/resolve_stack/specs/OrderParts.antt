@@ -1,34 +1,58 @@
 -- The rows of the order behind one of them, for the parts of the code that begin there. No public clause names them; each is the rest of `join` by its unfolding.
-use Rattle.std.specs.Prelude.{ℕ, List, Option, Result}
+use Rattle.std.specs.Prelude.{ℕ, List, Option, Result, Ok, Err}
 use Rattle.sugar_path.specs.Path.{Path}
-use Rattle.tree_core.specs.Plan.{Plan, Done}
+use Rattle.tree_core.specs.declared.tree.ReadError.{ReadError}
+use Rattle.tree_core.specs.Asks.{widened}
+use Rattle.tree_core.specs.Plan.{Plan}
+use Rattle.tree_core.specs.Rows.{Row, order, decided, refuses_by}
 use Rattle.tree_core.specs.Resolving.{◌>>=◌}
 use Rattle.pnp_core.specs.declared.manifest.PackageLocator.{PackageLocator}
 use Rattle.pnp_core.specs.Manifest.{Contents}
 use Rattle.swc_loader.specs.declared.resolution.Resolution.{Resolution}
+use Rattle.swc_loader.specs.declared.refusal.NodeRefusal.{NodeRefusal}
+use Rattle.swc_loader.specs.NodeRows.{target_before_search}
 use Rattle.resolve_stack.specs.declared.verdict.JoinRefusal.{JoinRefusal}
-use Rattle.resolve_stack.specs.Rows.{owner_of, target_of, identifier_of, bound_of, row_of, folder_of, via_of, answered}
-use Rattle.resolve_stack.specs.BoundSearch.{bound, contained}
+use Rattle.resolve_stack.specs.Settings.{ProjectSettings, path_of}
+use Rattle.resolve_stack.specs.Request.{Request}
+use Rattle.resolve_stack.specs.Rows.{of_node, owner_of, bare_target, identifier_of, bound_of, row_of, unlocked, folder_of, found_at, unless_ignored, contained, via_of, answered_through}
 
--- behind the folder of the row: the search in a folder, its containment and the answer
-abbrev pub from_folder : PackageLocator → Path → Option (List ℕ) → Plan (Result Resolution JoinRefusal)
-from_folder locator folder subpath = do
-  found ← bound folder subpath
-  file ← Done (contained folder found)
-  answered (via_of locator folder) file
+-- behind the folder of the row: the search there, its containment and the answer
+abbrev pub folder_rows : ProjectSettings → PackageLocator → Path → Option (List ℕ) → Row Resolution Resolution JoinRefusal
+folder_rows project bound folder subpath = do
+  placed ← refuses_by (found_at project folder subpath)
+  found ← unless_ignored placed
+  file ← decided (contained folder found.0)
+  refuses_by (answered_through project (via_of bound folder) file found.1)
 
 -- behind the binding: the row of the bound package, and the search there
-abbrev pub from_package : Contents → PackageLocator → Option (List ℕ) → Plan (Result Resolution JoinRefusal)
-from_package manifest locator subpath = do
-  location ← Done (row_of manifest locator)
-  folder ← Done (folder_of location)
-  from_folder locator folder subpath
+abbrev pub package_rows : ProjectSettings → Contents → PackageLocator → Option (List ℕ) → Row Resolution Resolution JoinRefusal
+package_rows project manifest locator subpath = do
+  location ← decided (row_of manifest locator)
+  bound ← decided (unlocked locator)
+  folder ← decided (folder_of location)
+  folder_rows project bound folder subpath
 
--- behind the manifest: the owner, the name that is asked for, what it is bound to, and the search there
-abbrev pub from_manifest : Contents → Path → List ℕ → Plan (Result Resolution JoinRefusal)
-from_manifest manifest importer specifier = do
-  owner ← Done (owner_of manifest importer)
-  target ← Done (target_of specifier)
-  identifier ← Done (identifier_of target)
-  locator ← Done (bound_of manifest owner importer target identifier.0)
-  from_package manifest locator identifier.1
+-- behind a bare target: its binding by the owner's row
+abbrev pub bare_rows : ProjectSettings → Contents → PackageLocator → Path → List ℕ → Row Resolution Resolution JoinRefusal
+bare_rows project manifest owner importer target = do
+  identifier ← decided (identifier_of target)
+  locator ← decided (bound_of manifest owner importer target identifier.0)
+  package_rows project manifest locator identifier.1
+
+-- behind the owner: what is known before a search, and then the target
+abbrev pub owned_rows : ProjectSettings → Request → List ℕ → Contents → PackageLocator → Row Resolution Resolution JoinRefusal
+owned_rows project request base manifest owner = do
+  target ← target_before_search project.node request.specifier
+  named ← bare_target project base target
+  bare_rows project manifest owner (path_of project base) named
+
+-- behind the reading of the manifest
+abbrev pub manifest_rows : ProjectSettings → Request → List ℕ → Contents → Row Resolution Resolution JoinRefusal
+manifest_rows project request base manifest = do
+  owner ← owner_of project request manifest base
+  owned_rows project request base manifest owner
+
+-- what a search for Node's modules comes to, with the order's refusals
+abbrev pub raised_result : {A : Type 0} → Result (Result A NodeRefusal) ReadError → Result (Result A JoinRefusal) ReadError
+raised_result (Ok result) = Ok (widened of_node result)
+raised_result (Err e) = Err e

@@ -1,7 +1,9 @@
--- The rows of the order of search, each by itself, as docs/ORDER.md lists the join rows. A row gives what the next one goes on with, or the refusal that ends the order.
-use Rattle.std.specs.Prelude.{ℕ, if◌then◌else◌, List, [], Option, Some, None, Result, Ok, Err, is_some}
-use Rattle.sugar_path.specs.Path.{Path, text_of, clean}
-use Rattle.tree_core.specs.Plan.{Plan, Done, ◌>>=◌, canon}
+-- The rows of the order of search, each by itself, as docs/ORDER.md lists the join rows. A row gives what the next one goes on with, or ends the order.
+use Rattle.std.specs.Prelude.{ℕ, Bool, false, ◌&&◌, if◌then◌else◌, List, [], Option, Some, None, Result, Ok, Err, is_some}
+use Rattle.sugar_path.specs.Path.{Path, text_of, clean, below}
+use Rattle.tree_core.specs.Asks.{raised}
+use Rattle.tree_core.specs.Plan.{Plan, Done, ◌>>=◌}
+use Rattle.tree_core.specs.Rows.{Row, ends_by, refuses_by, never_refuses}
 use Rattle.pnp_core.specs.declared.manifest.PackageLocator.{PackageLocator}
 use Rattle.pnp_core.specs.declared.manifest.Binding.{Binding}
 use Rattle.pnp_core.specs.declared.manifest.Binding.TheVariants.{Bound, MissingPeer, Undeclared}
@@ -18,23 +20,49 @@ use Rattle.swc_loader.specs.declared.resolution.FileName.{FileName}
 use Rattle.swc_loader.specs.declared.resolution.FileName.TheVariants.{Real, Custom, Anon}
 use Rattle.swc_loader.specs.declared.resolution.Resolution.{Resolution}
 use Rattle.swc_loader.specs.declared.resolution.Via.{Via}
+use Rattle.swc_loader.specs.declared.refusal.NodeRefusal.{NodeRefusal}
+use Rattle.swc_loader.specs.declared.refusal.NodeRefusal.TheVariants as node_refusal
+use Rattle.swc_loader.specs.declared.located.Placed.{Placed}
+use Rattle.swc_loader.specs.declared.located.Placed.TheVariants.{File, Ignored}
+use Rattle.swc_loader.specs.Specifier.{is_bare}
+use Rattle.swc_loader.specs.Spelling.{custom, answered}
+use Rattle.swc_loader.specs.NodeRows.{search}
+use Rattle.swc_loader.specs.NodeOrder.{node}
+use Rattle.swc_loader.specs.Located.{resolve_at}
 use Rattle.resolve_stack.specs.declared.verdict.JoinRefusal.{JoinRefusal}
-use Rattle.resolve_stack.specs.declared.verdict.JoinRefusal.TheVariants.{FailedManifestHydration, UndeclaredDependency, NotBuilt}
-use Rattle.resolve_stack.specs.Settings.{ProjectSettings}
-use Rattle.resolve_stack.specs.Specifier.{is_bare, is_node_module}
+use Rattle.resolve_stack.specs.declared.verdict.JoinRefusal.TheVariants.{FailedManifestHydration, UndeclaredDependency, Outside, NotFound, BaseNotAFile, MalformedPackage, NotBuilt}
+use Rattle.resolve_stack.specs.Settings.{ProjectSettings, path_of}
+use Rattle.resolve_stack.specs.Request.{Request}
 use Rattle.resolve_stack.specs.Location.{is_plain}
+
+-- a refusal of the search for Node's modules, as the order's
+abbrev pub of_node : NodeRefusal → JoinRefusal
+of_node (node_refusal.NotFound text) = NotFound text
+of_node node_refusal.BaseNotAFile = BaseNotAFile
+of_node (node_refusal.MalformedPackage path) = MalformedPackage path
 
 -- a step that isn't built yet, where there is nothing to go on with
 abbrev pub or_not_built : {A : Type 0} → Option A → Result A JoinRefusal
 or_not_built None = Err NotBuilt
 or_not_built (Some a) = Ok a
 
--- A bare specifier from a path is asked from that path, read from the working folder. Others go by the node rows, which aren't built.
-abbrev pub importer_of : ProjectSettings → FileName → List ℕ → Result Path JoinRefusal
-importer_of project (Real text) specifier =
-    if is_bare specifier then Ok (clean project.cwd text) else Err NotBuilt
-importer_of project (Custom name) specifier = Err NotBuilt
-importer_of project Anon specifier = Err NotBuilt
+-- the node rows of the whole request
+abbrev pub node_rows_of : ProjectSettings → Request → Plan (Result Resolution JoinRefusal)
+node_rows_of project request = raised of_node (node project.node request.importer request.specifier)
+
+-- Where there is nothing to go on with, the node rows end the order.
+abbrev pub or_node_rows : {A : Type 0} → ProjectSettings → Request → Option A → Row A Resolution JoinRefusal
+or_node_rows project request None = ends_by (node_rows_of project request)
+or_node_rows project request (Some a) = Done (Ok a)
+
+-- Row 0: the path that a bare specifier is asked from, as it was written
+abbrev pub bare_from : FileName → List ℕ → Option (List ℕ)
+bare_from (Real base) specifier = if is_bare specifier then Some base else None
+bare_from (Custom name) specifier = None
+bare_from Anon specifier = None
+
+abbrev pub bare_base : Request → Option (List ℕ)
+bare_base request = bare_from request.importer request.specifier
 
 -- A manifest with an ignore pattern isn't searched yet.
 abbrev pub without_pattern : Contents → Result Contents JoinRefusal
@@ -45,28 +73,35 @@ abbrev pub readable : Path → Result Contents HydrationCause → Result Content
 readable file (Ok manifest) = without_pattern manifest
 readable file (Err cause) = Err (FailedManifestHydration cause (text_of file))
 
--- Without a manifest the node rows hold, which aren't built.
-abbrev pub manifest_in : Option Path → Plan (Result Contents JoinRefusal)
-manifest_in None = Done (Err NotBuilt)
-manifest_in (Some file) = do
+unfoldable pub read_manifest : Path → Plan (Result Contents JoinRefusal)
+read_manifest file = do
   read ← loading file
   Done (readable file read)
 
--- The manifest that is nearest to the importer
-unfoldable pub manifest_of : Path → Plan (Result Contents JoinRefusal)
-manifest_of importer = do
-  found ← nearest importer
-  manifest_in found
+-- the manifest in the nearest manifest file; without one the node rows hold
+abbrev pub manifest_in : ProjectSettings → Request → Option Path → Row Contents Resolution JoinRefusal
+manifest_in project request None = ends_by (node_rows_of project request)
+manifest_in project request (Some file) = refuses_by (read_manifest file)
 
--- The owner of the importer. Without one the node rows hold, which aren't built.
-abbrev pub owner_of : Contents → Path → Result PackageLocator JoinRefusal
-owner_of manifest importer = or_not_built (owner manifest importer)
+-- Row 1: the manifest that is nearest to the importer
+unfoldable pub nearest_manifest : ProjectSettings → Request → List ℕ → Row Contents Resolution JoinRefusal
+nearest_manifest project request base = do
+  found ← nearest (path_of project base)
+  manifest_in project request found
 
--- A module of Node's own isn't answered yet. There are no aliases yet, so the target is the specifier.
-abbrev pub target_of : List ℕ → Result (List ℕ) JoinRefusal
-target_of specifier = if is_node_module specifier then Err NotBuilt else Ok specifier
+-- Row 2: the owner of the importer; without one the node rows hold
+abbrev pub owner_of : ProjectSettings → Request → Contents → List ℕ → Row PackageLocator Resolution JoinRefusal
+owner_of project request manifest base =
+    or_node_rows project request (owner manifest (path_of project base))
 
--- The package name and the subpath. A scope alone names no package; its refusal isn't built.
+-- Row 4: a target that isn't bare is searched as the node rows do
+abbrev pub bare_target : ProjectSettings → List ℕ → List ℕ → Row (List ℕ) Resolution JoinRefusal
+bare_target project base target =
+    if is_bare target
+    then Done (Ok target)
+    else ends_by (raised of_node (search project.node base target))
+
+-- Row 5: the package name and the subpath. A scope alone names no package; its refusal isn't built.
 abbrev pub identifier_of : List ℕ → Result (List ℕ × Option (List ℕ)) JoinRefusal
 identifier_of target = or_not_built (split_bare target)
 
@@ -76,35 +111,47 @@ bound_or_refused told (Bound locator) = Ok locator
 bound_or_refused told MissingPeer = Err NotBuilt
 bound_or_refused told Undeclared = Err (UndeclaredDependency told)
 
--- The binding of the name in the owner's row. A name that only a fallback could serve isn't searched yet.
+-- Row 6: the binding of the name in the owner's row. A name that only a fallback could serve isn't searched yet.
 abbrev pub bound_of : Contents → PackageLocator → Path → List ℕ → List ℕ → Result PackageLocator JoinRefusal
 bound_of manifest asking importer target name =
     if is_settled manifest asking name
     then bound_or_refused (undeclared manifest asking target name (text_of importer)) (bind manifest asking name)
     else Err NotBuilt
 
--- The row of the bound package. Without one the refusal isn't built.
+-- Row 7: the row of the bound package. Without one the refusal isn't built.
 abbrev pub row_of : Contents → PackageLocator → Result (List ℕ) JoinRefusal
 row_of manifest bound = or_not_built (location_of manifest bound)
 
--- The location of that row as a plain folder. One of a virtual package or inside an archive isn't searched yet.
+-- Row 8: no project has a lock yet, so each binding passes.
+abbrev pub unlocked : PackageLocator → Result PackageLocator JoinRefusal
+unlocked bound = Ok bound
+
+-- Row 9: the location of the row as a plain folder. One of a virtual package or inside an archive isn't searched yet.
 abbrev pub folder_of : List ℕ → Result Path JoinRefusal
 folder_of location = if is_plain location then Ok (clean [] location) else Err NotBuilt
 
--- the canonical name of a file, or its path where the tree gives none
-abbrev pub spelled : Path → Option (List ℕ) → List ℕ
-spelled f None = text_of f
-spelled f (Some name) = name
+-- Row 11: a file, and whether a rule for browsers led to it. One that a rule ignores ends the order by its name.
+abbrev pub unless_ignored : Placed → Row (Path × Bool) Resolution JoinRefusal
+unless_ignored (File f rewritten) = Done (Ok (f, rewritten))
+unless_ignored (Ignored name) = Done (Err (Ok (custom name)))
+
+-- Row 10: what is found at the location
+abbrev pub found_at : ProjectSettings → Path → Option (List ℕ) → Plan (Result Placed JoinRefusal)
+found_at project folder subpath = raised of_node (resolve_at project.node folder subpath)
+
+-- Row 12: a file that isn't below the location is refused.
+abbrev pub contained : Path → Path → Result Path JoinRefusal
+contained folder f = if below f folder then Ok f else Err (Outside (text_of f) (text_of folder))
 
 -- the row through which a file is found
 abbrev pub via_of : PackageLocator → Path → Via
 via_of bound location = record { name = bound.name; reference = bound.reference; location = text_of location }
 
-abbrev pub answer_through : Via → Path → List ℕ → Resolution
-answer_through via f name = record { filename = Real name; slug = None; found = Some (record { file = text_of f; via = Some via }) }
+-- where links are preserved, a file that a rule led to is told from the working folder, if it lies below it
+abbrev pub is_told_relative : ProjectSettings → Path → Bool → Bool
+is_told_relative project f rewritten = rewritten && below f project.node.cwd
 
--- The answer is the file by its canonical name, with the row through which it was found.
-unfoldable pub answered : Via → Path → Plan (Result Resolution JoinRefusal)
-answered via f = do
-  name ← canon f
-  Done (Ok (answer_through via f (spelled f name)))
+-- Row 13: the answer is the file, with the row through which it was found.
+abbrev pub answered_through : ProjectSettings → Via → Path → Bool → Plan (Result Resolution JoinRefusal)
+answered_through project via f rewritten =
+    never_refuses (answered project.node (Some via) f (is_told_relative project f rewritten))

@@ -9,6 +9,7 @@ use Rattle.pnp_core.specs.Manifest.{Contents, locator, location_of}
 use Rattle.pnp_core.specs.Owner.{owner}
 use Rattle.pnp_core.specs.Binding.{bind}
 use Rattle.pnp_core.specs.OnTree.{nearest_on, loaded_on}
+use Rattle.swc_loader.specs.Settings.{alias_of}
 use Rattle.swc_loader.specs.declared.resolution.FileName.TheVariants.{Real}
 use Rattle.swc_loader.specs.declared.resolution.Via.{Via}
 use Rattle.swc_loader.specs.declared.resolution.Found.{Found}
@@ -25,7 +26,7 @@ pub record LiesBelow (file location : List ℕ) : Type 0 where
   pub location_is : location ≡ text_of folder
   pub within : below path folder ≡ true
 
--- The importer is a path. The manifest nearest to it, which ignores no path by a pattern, says who owns it, and the owner's row, or an allowed fallback, binds the name asked for to the package whose row has this location. The file lies below it.
+-- The importer is a path. The manifest nearest to it, which ignores no path by a pattern, says who owns it, and the owner's row, or an allowed fallback, binds the name asked for (that of the specifier's alias, where it has one) to the package whose row has this location. The file lies below it.
 pub record ThroughRow (t : Files) (project : ProjectSettings) (request : Request) (file : List ℕ) (v : Via) : Type 0 where
   pub importer : List ℕ
   pub manifest : Path
@@ -35,11 +36,11 @@ pub record ThroughRow (t : Files) (project : ProjectSettings) (request : Request
   pub subpath : Option (List ℕ)
   pub location : List ℕ
   pub from : request.importer ≡ Real importer
-  pub nearest : nearest_on t (clean project.cwd importer) ≡ Some manifest
+  pub nearest : nearest_on t (clean project.node.cwd importer) ≡ Some manifest
   pub reads : loaded_on t manifest ≡ Ok contents
   pub no_pattern : contents.ignore_pattern_data ≡ None
-  pub owns : owner contents (clean project.cwd importer) ≡ Some asking
-  pub names : split_bare request.specifier ≡ Some (name, subpath)
+  pub owns : owner contents (clean project.node.cwd importer) ≡ Some asking
+  pub names : split_bare (alias_of project.node request.specifier) ≡ Some (name, subpath)
   pub binds : bind contents asking name ≡ Bound (locator v.name v.reference)
   pub row : location_of contents (locator v.name v.reference) ≡ Some location
   pub place : v.location ≡ text_of (clean [] location)

@@ -1,26 +1,25 @@
-// The join: a bare specifier from a file, bound by the row of the package that owns the file.
-ghost use Rattle.std.specs.Prelude.{◌≡◌, IsNone, IfOk, Err};
-ghost use Rattle.tree_core.specs.Resolving.{Resolves, IsDecided, IsDecidedTo};
-ghost use Rattle.pnp_core.specs.Manifest.{Contents};
+// The join: a bare specifier from a file, bound by the row of the package that owns the file. Where a row has nothing to go on
+// with, the node rows answer.
+ghost use Rattle.std.specs.Prelude.{◌≡◌, IsNone};
+ghost use Rattle.tree_core.specs.Resolving.{Resolves};
+ghost use Rattle.tree_core.specs.Rows.{order};
 ghost use Rattle.pnp_core.specs.Owner.{IsReady};
+ghost use Rattle.resolve_stack.specs.Settings.{path_of};
+ghost use Rattle.resolve_stack.specs.Request.{request_of};
 ghost use Rattle.resolve_stack.specs.Order.{join as join_order};
-ghost use Rattle.resolve_stack.specs.Request.{asked_for};
-ghost use Rattle.resolve_stack.specs.OrderParts.{from_manifest, from_package, from_folder};
-ghost use Rattle.resolve_stack.specs.Rows.{answered};
-ghost use Rattle.resolve_stack.specs.Rows as rows;
+ghost use Rattle.resolve_stack.specs.OrderParts.{manifest_rows, owned_rows, bare_rows, package_rows, folder_rows};
+ghost use Rattle.resolve_stack.specs.Rows.{node_rows_of};
 
-use crate::bound_search::{contained, search_bound};
-use crate::location::is_plain;
-use crate::request::Request;
-use crate::specifier::{is_bare, is_node_module};
-use crate::{JoinRefusal, Project};
-use pnp_core::{
-    Binding, HydrationCause, Manifest, PackageLocator, binding_of, closest_manifest, find_locator,
-    get_package, has_package, is_settled, loaded_manifest, split_bare_identifier, undeclared_of,
+use crate::join_rows::{
+    bare_base, bound_of, contained, folder_of, found_at, identifier_of, raised, read_manifest,
+    row_of,
 };
+use crate::request::Request;
+use crate::{JoinRefusal, Project};
+use pnp_core::{Manifest, PackageLocator, closest_manifest, find_locator};
 use std::alloc::Global;
 use sugar_path::{CleanPath, Text};
-use swc_loader::{FileName, Found, Resolution, Via};
+use swc_loader::{Before, FileName, Placed, Resolution, Via, is_bare};
 use tree_core::{Asker, ResolveError};
 
 // What a request comes to: the join rows, one after the other.
@@ -31,62 +30,147 @@ pub(crate) fn join<R: Asker>(
     request: &Request<'_>,
 ) -> Result<Resolution, ResolveError<JoinRefusal>>
     ensures { Resolves (R.asking tree.old) (R.asking tree.new) result
-        (join_order project.now (asked_for request.now.importer.now request.now.specifier.now)) }
+        (join_order project.now (request_of request.now)) }
 {
-    let importer = importer_of(alloc, project, request)?;
-    let manifest = manifest_of(alloc, tree, &importer)?;
-    join_by_manifest(alloc, tree, &manifest, &importer, request.specifier)
+    let Some(base) = bare_base(request) else {
+        return by_node_rows(alloc, tree, project, request);
+    };
+    let importer = CleanPath::read(alloc, project.cwd(), base)?;
+    let Some(file) = closest_manifest(alloc, tree, &importer)? else {
+        return by_node_rows(alloc, tree, project, request);
+    };
+    let manifest = read_manifest(alloc, tree, file)?;
+    join_by_manifest(alloc, tree, project, request, base, &manifest, &importer)
+}
+
+
+// The node rows of the whole request.
+fn by_node_rows<R: Asker>(
+    alloc: Global,
+    tree: &mut R,
+    project: &Project,
+    request: &Request<'_>,
+) -> Result<Resolution, ResolveError<JoinRefusal>>
+    ensures { Resolves (R.asking tree.old) (R.asking tree.new) result
+        (node_rows_of project.now (request_of request.now)) }
+{
+    let found = project
+        .node()
+        .node_order(alloc, tree, request.importer, request.specifier);
+    raised(found)
 }
 
 // The rows behind the reading of the manifest.
 fn join_by_manifest<R: Asker>(
     alloc: Global,
     tree: &mut R,
+    project: &Project,
+    request: &Request<'_>,
+    base: &str,
     manifest: &Manifest,
     importer: &CleanPath,
-    specifier: &str,
 ) -> Result<Resolution, ResolveError<JoinRefusal>>
+    requires importer { importer.now ≡ path_of project.now base.now }
     requires ready { IsReady manifest.now }
     requires no_pattern { IsNone manifest.now.ignore_pattern_data }
     ensures { Resolves (R.asking tree.old) (R.asking tree.new) result
-        (from_manifest manifest.now importer.now specifier.now) }
+        (order (manifest_rows project.now (request_of request.now) base.now manifest.now)) }
 {
-    let owner = owner_of(alloc, manifest, importer)?;
-    let target = target_of(specifier)?;
+    match find_locator(alloc, manifest, importer.as_str())? {
+        Some(owner) => join_owned(
+            alloc, tree, project, request, base, manifest, owner, importer,
+        ),
+        None => by_node_rows(alloc, tree, project, request),
+    }
+}
+
+// The rows behind the owner of the importer.
+fn join_owned<R: Asker>(
+    alloc: Global,
+    tree: &mut R,
+    project: &Project,
+    request: &Request<'_>,
+    base: &str,
+    manifest: &Manifest,
+    owner: &PackageLocator,
+    importer: &CleanPath,
+) -> Result<Resolution, ResolveError<JoinRefusal>>
+    requires { importer.now ≡ path_of project.now base.now }
+    ensures { Resolves (R.asking tree.old) (R.asking tree.new) result
+        (order (owned_rows project.now (request_of request.now) base.now manifest.now owner.now)) }
+{
+    let before = project
+        .node()
+        .before_search(alloc, tree, importer, request.specifier)?;
+    let target = match before {
+        Before::Decided(resolution) => return Ok(resolution),
+        Before::Target(target) => target,
+    };
+    if !is_bare(target.as_str()) {
+        let found = project.node().search(alloc, tree, base, target.as_str());
+        return raised(found);
+    }
+    join_bare(alloc, tree, project, manifest, owner, importer, target.as_str())
+}
+
+// The rows behind a bare target.
+fn join_bare<R: Asker>(
+    alloc: Global,
+    tree: &mut R,
+    project: &Project,
+    manifest: &Manifest,
+    owner: &PackageLocator,
+    importer: &CleanPath,
+    target: &str,
+) -> Result<Resolution, ResolveError<JoinRefusal>>
+    ensures { Resolves (R.asking tree.old) (R.asking tree.new) result
+        (order (bare_rows project.now manifest.now owner.now importer.now target.now)) }
+{
     let (name, subpath) = identifier_of(alloc, target)?;
     let locator = bound_of(alloc, manifest, owner, importer, target, &name)?;
-    join_in_package(alloc, tree, manifest, locator, &subpath)
+    join_in_package(alloc, tree, project, manifest, locator, &subpath)
 }
 
 // The rows behind the binding of the name.
 fn join_in_package<R: Asker>(
     alloc: Global,
     tree: &mut R,
+    project: &Project,
     manifest: &Manifest,
     locator: PackageLocator,
     subpath: &Option<Text>,
 ) -> Result<Resolution, ResolveError<JoinRefusal>>
     ensures { Resolves (R.asking tree.old) (R.asking tree.new) result
-        (from_package manifest.now locator subpath.now) }
+        (order (package_rows project.now manifest.now locator subpath.now)) }
 {
     let location = row_of(manifest, &locator)?;
     let folder = folder_of(alloc, location)?;
-    join_in_folder(alloc, tree, locator, &folder, subpath)
+    join_in_folder(alloc, tree, project, locator, &folder, subpath)
 }
 
 // The rows behind the location of the package.
 fn join_in_folder<R: Asker>(
     alloc: Global,
     tree: &mut R,
+    project: &Project,
     locator: PackageLocator,
     folder: &CleanPath,
     subpath: &Option<Text>,
 ) -> Result<Resolution, ResolveError<JoinRefusal>>
     ensures { Resolves (R.asking tree.old) (R.asking tree.new) result
-        (from_folder locator folder.now subpath.now) }
+        (order (folder_rows project.now locator folder.now subpath.now)) }
 {
-    let found = search_bound(alloc, tree, folder, subpath)?;
-    let file = contained(alloc, folder, found)?;
+    let (file, rewritten) = match found_at(alloc, tree, project, folder, subpath)? {
+        Placed::File { path, rewritten } => (path, rewritten),
+        Placed::Ignored(name) => {
+            return Ok(Resolution {
+                filename: FileName::Custom(name),
+                slug: None,
+                found: None,
+            });
+        }
+    };
+    let file = contained(alloc, folder, file)?;
     let location = folder.to_text(alloc)?;
     let PackageLocator { name, reference } = locator;
     let via = Via {
@@ -94,186 +178,6 @@ fn join_in_folder<R: Asker>(
         reference,
         location,
     };
-    answer_file(alloc, tree, via, file)
-}
-
-// The path that a bare specifier is asked from.
-fn importer_of(
-    alloc: Global,
-    project: &Project,
-    request: &Request<'_>,
-) -> Result<CleanPath, ResolveError<JoinRefusal>>
-    ensures { IsDecided result
-        (rows.importer_of project.now request.now.importer.now request.now.specifier.now) }
-{
-    match request.importer {
-        FileName::Real(text) => {
-            if !is_bare(request.specifier) {
-                return Err(ResolveError::Refused(JoinRefusal::NotBuilt));
-            }
-            Ok(CleanPath::read(alloc, project.cwd(), text.as_str())?)
-        }
-        FileName::Custom(_) => Err(ResolveError::Refused(JoinRefusal::NotBuilt)),
-        FileName::Anon => Err(ResolveError::Refused(JoinRefusal::NotBuilt)),
-    }
-}
-
-// The manifest that is nearest to the importer.
-fn manifest_of<R: Asker>(
-    alloc: Global,
-    tree: &mut R,
-    importer: &CleanPath,
-) -> Result<Manifest, ResolveError<JoinRefusal>>
-    ensures asks { Resolves (R.asking tree.old) (R.asking tree.new) result
-        (rows.manifest_of importer.now) }
-    ensures ready { IfOk result IsReady }
-    ensures no_pattern { IfOk result (λ m. IsNone m.ignore_pattern_data) }
-{
-    let Some(file) = closest_manifest(alloc, tree, importer)? else {
-        return Err(ResolveError::Refused(JoinRefusal::NotBuilt));
-    };
-    match loaded_manifest(alloc, tree, &file) {
-        Ok(manifest) => without_pattern(manifest),
-        Err(ResolveError::Refused(cause)) => Err(failed_hydration(file, cause)),
-        Err(ResolveError::TreeFault) => Err(ResolveError::TreeFault),
-        Err(ResolveError::NoMemory) => Err(ResolveError::NoMemory),
-    }
-}
-
-// A manifest without an ignore pattern.
-fn without_pattern(manifest: Manifest) -> Result<Manifest, ResolveError<JoinRefusal>>
-    requires { IsReady manifest }
-    ensures decided { IsDecided result (rows.without_pattern manifest) }
-    ensures ready { IfOk result IsReady }
-    ensures no_pattern { IfOk result (λ m. IsNone m.ignore_pattern_data) }
-{
-    if manifest.ignore_pattern_data.is_some() {
-        return Err(ResolveError::Refused(JoinRefusal::NotBuilt));
-    }
-    Ok(manifest)
-}
-
-// The refusal of a file that is no manifest.
-fn failed_hydration(file: CleanPath, cause: HydrationCause) -> ResolveError<JoinRefusal>
-    ensures { IsDecided {A = Contents} (Err result) (rows.readable file (Err cause)) }
-{
-    match file.into_text() {
-        Ok(manifest) => {
-            ResolveError::Refused(JoinRefusal::FailedManifestHydration { cause, manifest })
-        }
-        Err(_) => ResolveError::NoMemory,
-    }
-}
-
-// The package that owns the importer.
-fn owner_of<'a>(
-    alloc: Global,
-    manifest: &'a Manifest,
-    importer: &CleanPath,
-) -> Result<&'a PackageLocator, ResolveError<JoinRefusal>>
-    requires ready { IsReady manifest.now }
-    requires no_pattern { IsNone manifest.now.ignore_pattern_data }
-    ensures { IsDecidedTo result (rows.owner_of manifest.now importer.now) }
-{
-    match find_locator(alloc, manifest, importer.as_str())? {
-        Some(owner) => Ok(owner),
-        None => Err(ResolveError::Refused(JoinRefusal::NotBuilt)),
-    }
-}
-
-// What a specifier asks for.
-fn target_of(specifier: &str) -> Result<&str, ResolveError<JoinRefusal>>
-    ensures { IsDecidedTo result (rows.target_of specifier.now) }
-{
-    if is_node_module(specifier) {
-        return Err(ResolveError::Refused(JoinRefusal::NotBuilt));
-    }
-    Ok(specifier)
-}
-
-// The package name that a target begins with, and its subpath.
-fn identifier_of(
-    alloc: Global,
-    target: &str,
-) -> Result<(Text, Option<Text>), ResolveError<JoinRefusal>>
-    ensures { IsDecided result (rows.identifier_of target.now) }
-{
-    match split_bare_identifier(alloc, target)? {
-        Some(identifier) => Ok(identifier),
-        None => Err(ResolveError::Refused(JoinRefusal::NotBuilt)),
-    }
-}
-
-// The package that the owner's row binds a name to.
-fn bound_of(
-    alloc: Global,
-    manifest: &Manifest,
-    owner: &PackageLocator,
-    importer: &CleanPath,
-    target: &str,
-    name: &Text,
-) -> Result<PackageLocator, ResolveError<JoinRefusal>>
-    ensures { IsDecided result
-        (rows.bound_of manifest.now owner.now importer.now target.now name.now) }
-{
-    if !is_settled(manifest, owner, name) {
-        return Err(ResolveError::Refused(JoinRefusal::NotBuilt));
-    }
-    match binding_of(alloc, manifest, owner, name.as_str())? {
-        Binding::Bound(locator) => Ok(locator),
-        Binding::MissingPeer => Err(ResolveError::Refused(JoinRefusal::NotBuilt)),
-        Binding::Undeclared => {
-            let issuer = importer.as_str();
-            let told = undeclared_of(alloc, manifest, owner, target, name.as_str(), issuer)?;
-            Err(ResolveError::Refused(JoinRefusal::UndeclaredDependency(told)))
-        }
-    }
-}
-
-// The location of a package's row.
-fn row_of<'a>(
-    manifest: &'a Manifest,
-    locator: &PackageLocator,
-) -> Result<&'a str, ResolveError<JoinRefusal>>
-    ensures { IsDecidedTo result (rows.row_of manifest.now locator.now) }
-{
-    if !has_package(manifest, locator) {
-        return Err(ResolveError::Refused(JoinRefusal::NotBuilt));
-    }
-    Ok(get_package(manifest, locator).package_location.as_str())
-}
-
-// The folder that a location is.
-fn folder_of(alloc: Global, location: &str) -> Result<CleanPath, ResolveError<JoinRefusal>>
-    ensures { IsDecided result (rows.folder_of location.now) }
-{
-    if !is_plain(location) {
-        return Err(ResolveError::Refused(JoinRefusal::NotBuilt));
-    }
-    Ok(CleanPath::read(alloc, &CleanPath::root(alloc), location)?)
-}
-
-// A file that was found through a row, by its canonical name.
-fn answer_file<R: Asker>(
-    alloc: Global,
-    tree: &mut R,
-    via: Via,
-    file: CleanPath,
-) -> Result<Resolution, ResolveError<JoinRefusal>>
-    ensures { Resolves (R.asking tree.old) (R.asking tree.new) result (answered via file) }
-{
-    let canonical = tree.canonical(&file)?;
-    let path = file.into_text()?;
-    let name = match canonical {
-        Some(name) => name,
-        None => path.try_clone(alloc)?,
-    };
-    Ok(Resolution {
-        filename: FileName::Real(name),
-        slug: None,
-        found: Some(Found {
-            file: path,
-            via: Some(via),
-        }),
-    })
+    let relative = rewritten && file.is_below(project.cwd());
+    Ok(project.node().answer(alloc, tree, Some(via), file, relative)?)
 }

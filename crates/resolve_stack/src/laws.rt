@@ -1,5 +1,5 @@
 // What the order comes to on each tree, and which questions it puts. `resolve_import` has it by its contract.
-ghost use Rattle.resolve_stack.specs.OnTree.{VerdictOnTree, JoinOnTree, BoundOnTree};
+ghost use Rattle.resolve_stack.specs.OnTree.{VerdictOnTree, JoinOnTree};
 
 /// The verdict of a request, said as a function of the tree, with its questions.
 pub fn verdict_on_tree()
@@ -9,9 +9,4 @@ pub fn verdict_on_tree()
 /// The join, said as a function of the tree, with its questions.
 pub fn join_on_tree()
     ensures { JoinOnTree }
-{}
-
-/// The search at a bound location, said as a function of the tree, with its questions.
-pub fn bound_on_tree()
-    ensures { BoundOnTree }
 {}

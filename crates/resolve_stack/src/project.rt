@@ -1,18 +1,28 @@
 // A project: the settings that stay the same for all its requests.
 ghost use Rattle.std.specs.Prelude.{◌≡◌, IfOk, OnOk, IfErr};
-ghost use Rattle.resolve_stack.specs.Settings.{IsFaultOf};
 ghost use Rattle.sugar_path.specs.Path.{IsCleanPath, path_in};
+ghost use Rattle.swc_loader.specs.declared.target.TargetEnv.TheVariants.{Node};
+ghost use Rattle.swc_loader.specs.Settings.{settings_of};
+ghost use Rattle.resolve_stack.specs.Settings.{IsFaultOf};
 
+use indexmap::IndexMap;
 use std::alloc::{AllocError, Global};
 use std::marker::Model;
 use sugar_path::{CleanPath, Text, is_clean};
+use swc_loader::{NodeModulesResolver, TargetEnv};
 use thiserror::Error;
 
-/// The settings of a project.
+/// The settings of a project. Modules are resolved for the target Node.
 #[derive(Drop)]
 pub struct Settings {
-    /// The working folder, a clean absolute path: relative importers are read from it.
+    /// The working folder, a clean absolute path: relative texts are read from it.
     pub cwd: Text,
+    /// Files are answered by their own paths, and not by their canonical names.
+    pub preserve_symlinks: bool,
+    /// Packages are looked for in `node_modules`.
+    pub node_modules: bool,
+    /// From whole specifiers to the targets that stand for them.
+    pub alias: IndexMap<Text, Text>,
 }
 
 /// Why settings make no project.
@@ -29,7 +39,7 @@ pub enum ProjectError {
 /// A project that can answer requests.
 #[derive(Drop)]
 pub struct Project {
-    cwd: CleanPath,
+    node: NodeModulesResolver,
 }
 
 impl Model for Project {
@@ -37,31 +47,48 @@ impl Model for Project {
 
     ghost Value = { ProjectSettings };
 
-    ghost view = { λ p. record { cwd = p.cwd } };
+    ghost view = { λ p. record { node = p.node } };
 }
 
 impl Project {
     /// A project of these settings.
     pub fn new(alloc: Global, settings: Settings) -> Result<Project, ProjectError>
-        ensures ok { IfOk result (λ p. p.cwd ≡ path_in settings.cwd) }
+        ensures ok { IfOk result (λ p. p.node ≡ settings_of (path_in settings.cwd) Node
+            settings.alias.entries settings.preserve_symlinks settings.node_modules) }
         ensures clean { OnOk result (IsCleanPath settings.cwd) }
         ensures fault { IfErr result (IsFaultOf settings.cwd) }
     {
-        if !is_clean(settings.cwd.as_str()) {
+        let Settings {
+            cwd,
+            preserve_symlinks,
+            node_modules,
+            alias,
+        } = settings;
+        if !is_clean(cwd.as_str()) {
             return Err(ProjectError::SettingsFault {
                 field: Text::of(alloc, "cwd")?,
             });
         }
-        Ok(Project {
-            cwd: CleanPath::of(alloc, settings.cwd.as_str())?,
-        })
+        let node = if node_modules {
+            NodeModulesResolver::new(cwd, TargetEnv::Node, alias, preserve_symlinks)
+        } else {
+            NodeModulesResolver::without_node_modules(cwd, TargetEnv::Node, alias, preserve_symlinks)
+        };
+        Ok(Project { node })
     }
 
     /// The working folder.
     pub fn cwd(&self) -> &CleanPath
-        ensures { result.now ≡ self.now.cwd }
+        ensures { result.now ≡ self.now.node.cwd }
     {
-        &self.cwd
+        self.node.cwd()
+    }
+
+    // The search for Node's modules with these settings.
+    pub(crate) fn node(&self) -> &NodeModulesResolver
+        ensures { result.now ≡ self.now.node }
+    {
+        &self.node
     }
 }
 

@@ -29,8 +29,17 @@ pub enum JoinRefusal {
     /// The search found no file.
     #[error("nothing is found at {text}")]
     NotFound {
-        /// The text that was searched.
+        /// The text that was searched: the target, or the text behind a package's location.
         text: Text,
+    },
+    /// What asks is no path, and the specifier needs one.
+    #[error("the base is no file")]
+    BaseNotAFile,
+    /// A package.json that the search reads isn't one.
+    #[error("{path} is malformed")]
+    MalformedPackage {
+        /// The clean path of the package.json.
+        path: Text,
     },
     /// The order reaches a step that isn't built yet.
     #[error("the order reaches a step that isn't built")]

@@ -61,7 +61,7 @@ answer_asks_if s None = []
 answer_asks_if s (Some f) = answer_asks s f
 
 -- what was decided before a search, or its target
-abbrev pub target_or_answer : Before → Going (List ℕ) Resolution NodeRefusal
+abbrev pub target_or_answer : {X : Type 0} → Before → Going (List ℕ) Resolution X
 target_or_answer (Decided resolution) = Err (Ok resolution)
 target_or_answer (Target target) = Ok target
 

@@ -62,11 +62,11 @@ abbrev pub before_search : NodeSettings → List ℕ → Before
 before_search s specifier = decided_or_target s specifier (core_module specifier)
 
 -- what was decided ends the order, and a target goes on
-abbrev pub target_or_end : Before → Row (List ℕ) Resolution NodeRefusal
+abbrev pub target_or_end : {X : Type 0} → Before → Row (List ℕ) Resolution X
 target_or_end (Decided resolution) = Done (Err (Ok resolution))
 target_or_end (Target target) = Done (Ok target)
 
-abbrev pub target_before_search : NodeSettings → List ℕ → Row (List ℕ) Resolution NodeRefusal
+abbrev pub target_before_search : {X : Type 0} → NodeSettings → List ℕ → Row (List ℕ) Resolution X
 target_before_search s specifier = target_or_end (before_search s specifier)
 
 -- the folder that an importer stands in, or the importer itself where it is no file

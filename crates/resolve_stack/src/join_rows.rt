@@ -1,0 +1,205 @@
+// The join rows, each by itself.
+ghost use Rattle.std.specs.Prelude.{◌≡◌, IsNone, IfOk, Err};
+ghost use Rattle.std.specs.Option.{option_copied};
+ghost use Rattle.tree_core.specs.Asks.{seen};
+ghost use Rattle.tree_core.specs.Resolving.{Resolves, IsDecided, IsDecidedTo, resolving};
+ghost use Rattle.pnp_core.specs.Manifest.{Contents};
+ghost use Rattle.pnp_core.specs.Owner.{IsReady};
+ghost use Rattle.resolve_stack.specs.Request.{request_of};
+ghost use Rattle.resolve_stack.specs.OrderParts.{raised_result};
+ghost use Rattle.resolve_stack.specs.Rows as rows;
+
+use crate::location::is_plain;
+use crate::request::Request;
+use crate::{JoinRefusal, Project};
+use pnp_core::{
+    Binding, HydrationCause, Manifest, PackageLocator, binding_of, get_package, has_package,
+    is_settled, loaded_manifest, split_bare_identifier, undeclared_of,
+};
+use std::alloc::Global;
+use sugar_path::{CleanPath, Text};
+use swc_loader::{FileName, NodeRefusal, Placed, is_bare};
+use tree_core::{Asker, ResolveError};
+
+// The path that a bare specifier is asked from, as it was written.
+pub(crate) fn bare_base<'a>(request: &Request<'a>) -> Option<&'a str>
+    ensures { option_copied result ≡ rows.bare_base (request_of request.now) }
+{
+    match request.importer {
+        FileName::Real(base) => {
+            if is_bare(request.specifier) {
+                Some(base.as_str())
+            } else {
+                None
+            }
+        }
+        FileName::Custom(_) => None,
+        FileName::Anon => None,
+    }
+}
+
+// A result of the search for Node's modules, with the order's refusals.
+pub(crate) fn raised<A>(
+    found: Result<A, ResolveError<NodeRefusal>>,
+) -> Result<A, ResolveError<JoinRefusal>>
+    ensures { seen resolving result ≡ raised_result (seen resolving found) }
+{
+    match found {
+        Ok(answer) => Ok(answer),
+        Err(ResolveError::Refused(refusal)) => Err(ResolveError::Refused(of_node(refusal))),
+        Err(ResolveError::TreeFault) => Err(ResolveError::TreeFault),
+        Err(ResolveError::NoMemory) => Err(ResolveError::NoMemory),
+    }
+}
+
+// A refusal of the search for Node's modules, as the order's.
+fn of_node(refusal: NodeRefusal) -> JoinRefusal
+    ensures { result ≡ rows.of_node refusal }
+{
+    match refusal {
+        NodeRefusal::NotFound { text } => JoinRefusal::NotFound { text },
+        NodeRefusal::BaseNotAFile => JoinRefusal::BaseNotAFile,
+        NodeRefusal::MalformedPackage { path } => JoinRefusal::MalformedPackage { path },
+    }
+}
+
+// The manifest that a file is.
+pub(crate) fn read_manifest<R: Asker>(
+    alloc: Global,
+    tree: &mut R,
+    file: CleanPath,
+) -> Result<Manifest, ResolveError<JoinRefusal>>
+    ensures asks { Resolves (R.asking tree.old) (R.asking tree.new) result
+        (rows.read_manifest file) }
+    ensures ready { IfOk result IsReady }
+    ensures no_pattern { IfOk result (λ m. IsNone m.ignore_pattern_data) }
+{
+    match loaded_manifest(alloc, tree, &file) {
+        Ok(manifest) => without_pattern(manifest),
+        Err(ResolveError::Refused(cause)) => Err(failed_hydration(file, cause)),
+        Err(ResolveError::TreeFault) => Err(ResolveError::TreeFault),
+        Err(ResolveError::NoMemory) => Err(ResolveError::NoMemory),
+    }
+}
+// A manifest without an ignore pattern.
+fn without_pattern(manifest: Manifest) -> Result<Manifest, ResolveError<JoinRefusal>>
+    requires { IsReady manifest }
+    ensures decided { IsDecided result (rows.without_pattern manifest) }
+    ensures ready { IfOk result IsReady }
+    ensures no_pattern { IfOk result (λ m. IsNone m.ignore_pattern_data) }
+{
+    if manifest.ignore_pattern_data.is_some() {
+        return Err(ResolveError::Refused(JoinRefusal::NotBuilt));
+    }
+    Ok(manifest)
+}
+
+// The refusal of a file that is no manifest.
+fn failed_hydration(file: CleanPath, cause: HydrationCause) -> ResolveError<JoinRefusal>
+    ensures { IsDecided {A = Contents} (Err result) (rows.readable file (Err cause)) }
+{
+    match file.into_text() {
+        Ok(manifest) => {
+            ResolveError::Refused(JoinRefusal::FailedManifestHydration { cause, manifest })
+        }
+        Err(_) => ResolveError::NoMemory,
+    }
+}
+
+// The package name that a target begins with, and its subpath.
+pub(crate) fn identifier_of(
+    alloc: Global,
+    target: &str,
+) -> Result<(Text, Option<Text>), ResolveError<JoinRefusal>>
+    ensures { IsDecided result (rows.identifier_of target.now) }
+{
+    match split_bare_identifier(alloc, target)? {
+        Some(identifier) => Ok(identifier),
+        None => Err(ResolveError::Refused(JoinRefusal::NotBuilt)),
+    }
+}
+
+// The package that the owner's row binds a name to.
+pub(crate) fn bound_of(
+    alloc: Global,
+    manifest: &Manifest,
+    owner: &PackageLocator,
+    importer: &CleanPath,
+    target: &str,
+    name: &Text,
+) -> Result<PackageLocator, ResolveError<JoinRefusal>>
+    ensures { IsDecided result
+        (rows.bound_of manifest.now owner.now importer.now target.now name.now) }
+{
+    if !is_settled(manifest, owner, name) {
+        return Err(ResolveError::Refused(JoinRefusal::NotBuilt));
+    }
+    match binding_of(alloc, manifest, owner, name.as_str())? {
+        Binding::Bound(locator) => Ok(locator),
+        Binding::MissingPeer => Err(ResolveError::Refused(JoinRefusal::NotBuilt)),
+        Binding::Undeclared => {
+            let issuer = importer.as_str();
+            let told = undeclared_of(alloc, manifest, owner, target, name.as_str(), issuer)?;
+            Err(ResolveError::Refused(JoinRefusal::UndeclaredDependency(told)))
+        }
+    }
+}
+
+// The location of a package's row.
+pub(crate) fn row_of<'a>(
+    manifest: &'a Manifest,
+    locator: &PackageLocator,
+) -> Result<&'a str, ResolveError<JoinRefusal>>
+    ensures { IsDecidedTo result (rows.row_of manifest.now locator.now) }
+{
+    if !has_package(manifest, locator) {
+        return Err(ResolveError::Refused(JoinRefusal::NotBuilt));
+    }
+    Ok(get_package(manifest, locator).package_location.as_str())
+}
+
+// The folder that a location is.
+pub(crate) fn folder_of(alloc: Global, location: &str) -> Result<CleanPath, ResolveError<JoinRefusal>>
+    ensures { IsDecided result (rows.folder_of location.now) }
+{
+    if !is_plain(location) {
+        return Err(ResolveError::Refused(JoinRefusal::NotBuilt));
+    }
+    Ok(CleanPath::read(alloc, &CleanPath::root(alloc), location)?)
+}
+
+// What is found at the location of a package.
+pub(crate) fn found_at<R: Asker>(
+    alloc: Global,
+    tree: &mut R,
+    project: &Project,
+    folder: &CleanPath,
+    subpath: &Option<Text>,
+) -> Result<Placed, ResolveError<JoinRefusal>>
+    ensures { Resolves (R.asking tree.old) (R.asking tree.new) result
+        (rows.found_at project.now folder.now subpath.now) }
+{
+    let subpath = match subpath {
+        Some(subpath) => Some(subpath.as_str()),
+        None => None,
+    };
+    let found = project.node().resolve_at(alloc, tree, folder, subpath);
+    raised(found)
+}
+
+// A file that lies below a location; any other is refused.
+pub(crate) fn contained(
+    alloc: Global,
+    folder: &CleanPath,
+    file: CleanPath,
+) -> Result<CleanPath, ResolveError<JoinRefusal>>
+    ensures { IsDecided result (rows.contained folder.now file) }
+{
+    if !file.is_below(folder) {
+        return Err(ResolveError::Refused(JoinRefusal::Outside {
+            file: file.into_text()?,
+            location: folder.to_text(alloc)?,
+        }));
+    }
+    Ok(file)
+}
