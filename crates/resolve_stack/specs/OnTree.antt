@@ -117,7 +117,7 @@ join_asks t project request =
     asks_after (manifest_on t project request base) (λ manifest.
     or_node_rows_asks t project request (asking_package project manifest base) ++
     asks_after (or_node_rows_on t project request (asking_package project manifest base)) (λ owner.
-    asks_after (target_or_answer (before_search project.node request.specifier)) (λ target.
+    asks_after (target_or_answer {X = JoinRefusal} (before_search project.node request.specifier)) (λ target.
     bare_target_asks t project base target ++
     asks_after (bare_target_on t project base target) (λ named.
     asks_after (identifier_of named) (λ identifier.

@@ -137,7 +137,7 @@ node_asks t s base specifier =
     probe_asks t s specifier ++ (answer_asks_if s (probe_on t s specifier) ++
     asks_after (unless_probed_on t s specifier (probe_on t s specifier)) (λ unanswered.
     asks_after (path_text base) (λ importer.
-    asks_after (target_or_answer (before_search s unanswered)) (λ target.
+    asks_after (target_or_answer {X = NodeRefusal} (before_search s unanswered)) (λ target.
     search_asks t s importer target))))
 
 -- the search by a target, on each tree
