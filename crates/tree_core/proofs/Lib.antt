@@ -9,3 +9,5 @@ pub mod Above
 pub mod Conflicts
 pub mod MemoryReplies
 pub mod RowOrders
+pub mod RowLaws
+pub mod RowCalls
