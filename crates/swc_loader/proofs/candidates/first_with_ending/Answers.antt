@@ -1,10 +1,11 @@
 use Rattle.std.proofs.Common.{◌≡◌, [], ap, Some, refl}
 use Rattle.tree_core.proofs.Asking.{asks_as, asks_done, asks_fails, asks_starved, leads_self, leads_as, leads_item, leads_end}
-use Rattle.swc_loader.proofs.Firsts.{with_each, same_at, ending_at}
+use Rattle.swc_loader.specs.Endings.{is_ending}
+use Rattle.swc_loader.proofs.Firsts.{with_each, same_at, passes_at}
 use Rattle.swc_loader.proofs.candidates.first_with_ending.Goals as goal
 
 pub with_ending-requires-clause-ending : goal.with_ending-requires-clause-ending
-with_ending-requires-clause-ending g c = ending_at _ _ _ c.loop-ending-test.true c.requires.endings
+with_ending-requires-clause-ending g c = passes_at is_ending _ _ _ c.loop-ending-test.true c.requires.endings
 
 pub loop-ending-init : goal.loop-ending-init
 loop-ending-init g c = leads_self
