@@ -140,3 +140,9 @@ with_slash-text (n ∷ p) h =
     let P : List ℕ → Type 0 = λ t. with_slash t ≡ t ++ 47 ∷ [] in
     subst P (append_assoc (steps p) (47 ∷ []) n) (with_slash-name (steps p ++ 47 ∷ []) n h.0)
 
+-- behind a base stands the dot of its ending
+pub dot-behind : (n e : List ℕ) → is_ending e ≡ true → get_or (n ++ e) (length n) 0 ≡ 46
+dot-behind [] [] h = cc
+dot-behind [] (a ∷ []) h = cc
+dot-behind [] (a ∷ b ∷ cs) h = eqb-true a 46 (and_left (a == 46) _ (and_left ((a == 46) && not (b == 46)) (has_no_slash (b ∷ cs)) h))
+dot-behind (c ∷ cs) e h = dot-behind cs e h
