@@ -11,6 +11,6 @@ pub returns-in-Some : goal.returns-in-Some
 unfolding place_at
 returns-in-Some g c = asks_as _ c.in_ok-file.ensures c.in-Some.is (asks_done refl)
 
-pub returns : goal.returns
+pub returns-in-None : goal.returns-in-None
 unfolding place_at
-returns g c = asks_as _ c.in_ok-file.ensures c.in_default.is c.folder.ensures
+returns-in-None g c = asks_as _ c.in_ok-file.ensures c.in-None.is c.folder.ensures
