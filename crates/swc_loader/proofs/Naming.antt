@@ -1,12 +1,17 @@
 -- Names with endings are names, and what the last dot of a name cuts.
-use Rattle.std.proofs.Common.{◌≡◌, ◌≢◌, ◌==◌, ◌&&◌, ◌<◌, ◌≤◌, ◌+◌, ◌-◌, ◌⊎◌, inl, inr, ℕ, zero, suc, Bool, true, false, not, cond, IsTrue, List, [], ◌∷◌, ◌++◌, length, get_or, take, drop, bytes_eq, refl, sym, ap, ◌∙◌, subst, arith, eqb-true}
-use Rattle.std.specs.List.{list_any, slice_range, suffix_len, before_last, after_last}
+use Rattle.std.proofs.Common.{◌≡◌, ◌≢◌, ◌==◌, ◌&&◌, ◌<◌, ◌≤◌, ◌+◌, ◌-◌, ◌⊎◌, inl, inr, Option, Some, ℕ, zero, suc, Bool, true, false, not, cond, IsTrue, List, [], ◌∷◌, ◌++◌, length, get_or, take, drop, map, Bor, bytes_eq, refl, sym, ap, ◌∙◌, subst, arith, eqb-true, append_assoc}
+use Rattle.std.specs.List.{list_any, list_all, slice_range, suffix_len, before_last, after_last}
+use Rattle.std.specs.Map.{lookup}
 use Rattle.std.proofs.lemmas.Bool.Decides.{eqb_tells}
+use Rattle.std.proofs.lemmas.List.{at_drop_more}
 use Rattle.std.proofs.lemmas.List.Folds.{list_any_at}
 use Rattle.std.proofs.lemmas.List.Sums.{suffix_len_is}
-use Rattle.sugar_path.specs.Path.{has_no_slash, is_name, IsName}
+use Rattle.sugar_path.specs.Path.{Path, has_no_slash, is_name, IsName, IsPath, is_root, steps, text_of, with_slash}
+use Rattle.sugar_path.proofs.RouteTexts.{with_slash-name}
 use Rattle.sugar_path.proofs.Bools.{and_left, and_right}
-use Rattle.swc_loader.specs.Endings.{is_ending}
+use Rattle.swc_loader.specs.Endings.{is_ending, are_endings, all_are_endings, AreEndings}
+use Rattle.swc_loader.specs.Conventions.{make_names}
+use Rattle.swc_loader.specs.Conventions as conventions
 use Rattle.swc_loader.specs.Candidates.{is_dot, has_extension, extension, stem}
 
 -- text without a slash, in two parts
@@ -104,3 +109,40 @@ has_extension-none (c ∷ cs) h = none_any cs (λ i lt. h (suc i) (omega arith) 
 
 pub no_slash-stem : (n : List ℕ) → IsName n → has_no_slash (stem n) ≡ true
 no_slash-stem n h = no_slash-take (length n - suffix_len (λ c. not (is_dot c)) n - 1) n (no_slash-of_name n h)
+
+-- the sources of each extension, as contracts see them
+abbrev pub sources_behind : List (Bor (List ℕ) × Bor (List (Bor (List ℕ)))) → List (List ℕ × List (List ℕ))
+sources_behind table = map (λ s. (s.0.now, map (λ e. e.now) s.1.now)) table
+
+-- the extension at a place of the table is the one that is looked for, or isn't
+pub sources-hit : (e : List ℕ) (table : List (Bor (List ℕ) × Bor (List (Bor (List ℕ))))) (i : ℕ) (d : Bor (List ℕ) × Bor (List (Bor (List ℕ)))) → i < length table → bytes_eq e (get_or table i d).0.now ≡ true → lookup (bytes_eq e) (sources_behind (drop i table)) ≡ Some (map (λ s. s.now) (get_or table i d).1.now)
+sources-hit e table i d lt is = at_drop_more (λ left. lookup (bytes_eq e) (sources_behind left)) table i d lt ∙ rw is refl
+
+pub sources-miss : (e : List ℕ) (table : List (Bor (List ℕ) × Bor (List (Bor (List ℕ))))) (i : ℕ) (d : Bor (List ℕ) × Bor (List (Bor (List ℕ)))) → i < length table → bytes_eq e (get_or table i d).0.now ≡ false → lookup (bytes_eq e) (sources_behind (drop i table)) ≡ lookup (bytes_eq e) (sources_behind (drop (i + 1) table))
+sources-miss e table i d lt is = at_drop_more (λ left. lookup (bytes_eq e) (sources_behind left)) table i d lt ∙ rw is refl
+
+-- all are endings: those at a place of the table, and those behind it
+pub endings-next : (table : List (Bor (List ℕ) × Bor (List (Bor (List ℕ))))) (i : ℕ) (d : Bor (List ℕ) × Bor (List (Bor (List ℕ)))) → i < length table → all_are_endings (sources_behind (drop i table)) ≡ true → AreEndings (map (λ s. s.now) (get_or table i d).1.now) × (all_are_endings (sources_behind (drop (i + 1) table)) ≡ true)
+endings-next table i d lt all =
+    let both = sym (at_drop_more (λ left. all_are_endings (sources_behind left)) table i d lt) ∙ all in
+    (and_left (are_endings (map (λ s. s.now) (get_or table i d).1.now)) (all_are_endings (sources_behind (drop (i + 1) table))) both, and_right (are_endings (map (λ s. s.now) (get_or table i d).1.now)) (all_are_endings (sources_behind (drop (i + 1) table))) both)
+
+-- the sources' endings are among those of conventions
+pub sources_are_endings : (c : conventions.Conventions) → IsTrue (make_names c) → all_are_endings c.source_endings ≡ true
+sources_are_endings c h =
+    and_right (are_endings c.endings && are_endings c.first_endings) (all_are_endings c.source_endings)
+    (and_left (are_endings c.endings && are_endings c.first_endings && all_are_endings c.source_endings) (list_all has_no_slash c.index_names) h)
+
+-- the text of a path with a `/` behind it, which that of `/` has already
+pub with_slash-text : (p : Path) → IsPath p → with_slash (text_of p) ≡ cond (is_root p) (text_of p) (text_of p ++ 47 ∷ [])
+with_slash-text [] h = refl
+with_slash-text (n ∷ p) h =
+    let P : List ℕ → Type 0 = λ t. with_slash t ≡ t ++ 47 ∷ [] in
+    subst P (append_assoc (steps p) (47 ∷ []) n) (with_slash-name (steps p ++ 47 ∷ []) n h.0)
+
+-- behind a base stands the dot of its ending
+pub dot-behind : (n e : List ℕ) → is_ending e ≡ true → get_or (n ++ e) (length n) 0 ≡ 46
+dot-behind [] [] h = cc
+dot-behind [] (a ∷ []) h = cc
+dot-behind [] (a ∷ b ∷ cs) h = eqb-true a 46 (and_left (a == 46) _ (and_left ((a == 46) && not (b == 46)) (has_no_slash (b ∷ cs)) h))
+dot-behind (c ∷ cs) e h = dot-behind cs e h

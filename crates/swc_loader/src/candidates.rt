@@ -123,29 +123,18 @@ pub(crate) fn first_with_ending<R: Asker>(
     ensures { Asks (R.asking tree.old) (R.asking tree.new) result (first_file
         (in_folder folder.now (with_endings base.now (map (λ e. e.now) endings.now)))) }
 {
+    let mut candidate = folder.try_clone(alloc)?;
+    let mut name = String::from_str(alloc, base)?;
     for ending in endings {
-        let candidate = with_ending(alloc, folder, base, ending)?;
+        name.push_str(ending)?;
+        candidate.go_down(name.as_str())?;
         if tree.is_file(&candidate)? {
             return Ok(Some(candidate));
         }
+        let _below = candidate.go_up();
+        name.truncate(base.len());
     }
     Ok(None)
-}
-
-// A base with an ending, in a folder.
-fn with_ending(
-    alloc: Global,
-    folder: &CleanPath,
-    base: &str,
-    ending: &str,
-) -> Result<CleanPath, AllocError>
-    requires base { IsTrue (has_no_slash base.now) }
-    requires ending { IsTrue (is_ending ending.now) }
-    ensures { IfOk result (λ p. p ≡ (base.now ++ ending.now) ∷ folder.now) }
-{
-    let mut name = String::from_str(alloc, base)?;
-    name.push_str(ending)?;
-    folder.child(alloc, name.as_str())
 }
 
 // The stem and the extension of a name that has one.

@@ -51,7 +51,7 @@ impl Conventions {
 }
 
 impl Conventions {
-    ghost use Rattle.std.specs.Prelude.{map, IsTrue};
+    ghost use Rattle.std.specs.Prelude.{◌≡◌, map, IsTrue};
     ghost use Rattle.std.specs.List.{list_all};
     ghost use Rattle.sugar_path.specs.Path.{has_no_slash};
     ghost use Rattle.swc_loader.specs.Endings.{AreEndings};
@@ -79,7 +79,7 @@ impl Conventions {
         ensures endings { AreEndings (map (λ e. e.now) result.now) }
     {
         for (written, sources) in self.source_endings {
-            if *written == extension {
+            if extension == *written {
                 return sources;
             }
         }

@@ -28,3 +28,6 @@ pub use search::Searched;
 pub use specifier::is_bare;
 pub use target::TargetEnv;
 pub use tree_core::{NODE_BUILTINS, ResolveError};
+
+#[cfg(test)]
+mod tests;

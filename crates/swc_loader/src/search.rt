@@ -36,10 +36,10 @@ pub(crate) fn place<R: Asker>(
     ensures { Asks (R.asking tree.old) (R.asking tree.new) result
         (place_at conventions.now target at.now text.now) }
 {
-    if let Some(file) = file_of(alloc, tree, conventions, text, at)? {
-        return Ok(Searched::File(file));
+    match file_of(alloc, tree, conventions, text, at)? {
+        Some(file) => Ok(Searched::File(file)),
+        None => folder(alloc, tree, conventions, target, at),
     }
-    folder(alloc, tree, conventions, target, at)
 }
 
 // The same without entry: the index files follow at once.

@@ -10,10 +10,10 @@ pub returns-in-Some : goal.returns-in-Some
 returns-in-Some g c = rw first_file-three (asks_as _ c.in_ok-file.ensures c.in-Some.is (asks_done refl))
 
 pub returns-in_err-file-2 : goal.returns-in_err-file-2
-returns-in_err-file-2 g c = rw first_file-three (asks_as _ c.in_ok-file.ensures c.in_default.is (asks_fails _ _ c.from_residual-in_err-file-2.ensures.1 (rw c.endings_of_files.ensures.list at c.in_err-file-2.ensures)))
+returns-in_err-file-2 g c = rw first_file-three (asks_as _ c.in_ok-file.ensures c.in_default.is (asks_fails _ _ c.from_residual-in_err-file-2.ensures.1 (rw c.endings.ensures.list at c.in_err-file-2.ensures)))
 
 pub returns-in-Some-2 : goal.returns-in-Some-2
-returns-in-Some-2 g c = rw first_file-three (asks_as _ c.in_ok-file.ensures c.in_default.is (asks_as _ (rw c.endings_of_files.ensures.list at c.in_ok-file-2.ensures) c.in-Some-2.is (asks_done refl)))
+returns-in-Some-2 g c = rw first_file-three (asks_as _ c.in_ok-file.ensures c.in_default.is (asks_as _ (rw c.endings.ensures.list at c.in_ok-file-2.ensures) c.in-Some-2.is (asks_done refl)))
 
 pub returns : goal.returns
-returns g c = rw first_file-three (asks_as _ c.in_ok-file.ensures c.in_default.is (asks_as _ (rw c.endings_of_files.ensures.list at c.in_ok-file-2.ensures) c.in_default-2.is (rw c.endings_of_sources.ensures.sources at c.first_with_ending-2.ensures)))
+returns g c = rw first_file-three (asks_as _ c.in_ok-file.ensures c.in_default.is (asks_as _ (rw c.endings.ensures.list at c.in_ok-file-2.ensures) c.in_default-2.is (rw c.sources_of.ensures.list at c.first_with_ending-2.ensures)))

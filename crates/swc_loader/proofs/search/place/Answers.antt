@@ -1,16 +1,16 @@
 use Rattle.std.proofs.Common.{refl}
 use Rattle.tree_core.proofs.Asking.{asks_as, asks_done, asks_fails}
-use Rattle.swc_loader.specs.Search.{place}
+use Rattle.swc_loader.specs.Search.{place_at}
 use Rattle.swc_loader.proofs.search.place.Goals as goal
 
 pub returns-in_err-file : goal.returns-in_err-file
-unfolding place
+unfolding place_at
 returns-in_err-file g c = asks_fails _ _ c.from_residual.ensures.1 c.in_err-file.ensures
 
 pub returns-in-Some : goal.returns-in-Some
-unfolding place
+unfolding place_at
 returns-in-Some g c = asks_as _ c.in_ok-file.ensures c.in-Some.is (asks_done refl)
 
-pub returns : goal.returns
-unfolding place
-returns g c = asks_as _ c.in_ok-file.ensures c.in_default.is (rw c.requires at c.folder.ensures)
+pub returns-in-None : goal.returns-in-None
+unfolding place_at
+returns-in-None g c = asks_as _ c.in_ok-file.ensures c.in-None.is c.folder.ensures
