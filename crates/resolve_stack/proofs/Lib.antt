@@ -1,5 +1,5 @@
 pub mod Faults
-pub mod Answered
-pub mod Locations
+pub mod Raising
+pub mod Plain
 pub mod OnTrees
 pub mod ThroughRows

@@ -1,136 +1,162 @@
 -- The plans of the order come to what the tree has, and put the questions that the laws say.
 use Rattle.std.proofs.Common.{◌≡◌, ℕ, Bool, true, false, cond, List, [], ◌∷◌, ◌++◌, Option, Some, None, Result, Ok, Err, refl, ap, ◌∙◌}
-use Rattle.sugar_path.specs.Path.{Path, clean, path_eq, text_of}
+use Rattle.sugar_path.specs.Path.{Path}
 use Rattle.tree_core.specs.declared.question.Question.{Question}
-use Rattle.tree_core.specs.declared.question.Question.TheVariants.{Canon}
 use Rattle.tree_core.specs.Tree.{Files}
-use Rattle.tree_core.specs.Plan.{Plan, Done, answer, asked, ◌>>=?◌, on_ok, canon, ◌>>=◌}
+use Rattle.tree_core.specs.Plan.{Plan, Done, answer, asked, ◌>>=◌}
+use Rattle.tree_core.specs.Asks.{raised, widened}
+use Rattle.tree_core.specs.Rows.{Going, end_of, order, or_refused, refuses_by, ends_by}
+use Rattle.tree_core.specs.Results.{asks_after}
 use Rattle.tree_core.proofs.Asking.{answer-then, asked-then, answer-done, asked-done}
+use Rattle.pnp_core.specs.Manifest.{Contents}
 use Rattle.pnp_core.specs.Nearest.{nearest}
 use Rattle.pnp_core.specs.Loading.{loading}
-use Rattle.pnp_core.specs.OnTree.{nearest_on, nearest_asks}
+use Rattle.pnp_core.specs.OnTree.{nearest_on, nearest_asks, loaded_on, loaded_asks}
 use Rattle.pnp_core.proofs.OnTrees.{answer-nearest, asked-nearest, answer-loading, asked-loading}
+use Rattle.swc_loader.specs.declared.resolution.Resolution.{Resolution}
 use Rattle.swc_loader.specs.declared.resolution.Via.{Via}
-use Rattle.swc_loader.specs.Search.{folder, place}
-use Rattle.swc_loader.specs.SearchOnTree.{folder_on, place_on, folder_asks, place_asks}
-use Rattle.swc_loader.proofs.Searches.{folder_on_tree, place_on_tree}
-use Rattle.resolve_stack.specs.Settings.{ProjectSettings}
+use Rattle.swc_loader.specs.declared.located.Placed.{Placed}
+use Rattle.swc_loader.specs.declared.located.Placed.TheVariants.{File, Ignored}
+use Rattle.swc_loader.specs.Specifier.{is_bare}
+use Rattle.swc_loader.specs.Located.{resolve_at, located_asks}
+use Rattle.swc_loader.specs.Spelling.{answered}
+use Rattle.swc_loader.specs.NodeRows.{search}
+use Rattle.swc_loader.specs.NodeOrder.{node}
+use Rattle.swc_loader.specs.NodeOnTree.{answer_on, answer_asks, search_on, search_asks, node_on, node_asks}
+use Rattle.swc_loader.proofs.NodeOrders.{node_on_tree, search_on_tree, answer-answered, asked-answered, answer-target, asked-target}
+use Rattle.swc_loader.proofs.Locations.{located_on_tree}
+use Rattle.resolve_stack.specs.declared.verdict.JoinRefusal.{JoinRefusal}
+use Rattle.resolve_stack.specs.Settings.{ProjectSettings, path_of}
 use Rattle.resolve_stack.specs.Request.{Request}
-use Rattle.resolve_stack.specs.Rows.{readable, manifest_in, manifest_of, answer_through, answered}
-use Rattle.resolve_stack.specs.BoundSearch.{behind, searched, whole, inside, bound}
-use Rattle.resolve_stack.specs.Order.{join}
+use Rattle.resolve_stack.specs.Rows.{bare_base, of_node, node_rows_of, or_node_rows, readable, read_manifest, manifest_in, nearest_manifest, bare_target, found_at, unless_ignored, answered_through, is_told_relative}
+use Rattle.resolve_stack.specs.Order.{join_rows, join}
 use Rattle.resolve_stack.specs.Verdict.{verdict_of, verdict}
-use Rattle.resolve_stack.specs.OnTree.{asks_after, manifest_in_file, manifest_on, reading_asks, manifest_asks, bound_on, bound_asks, name_on, join_on, join_asks, JoinOnTree, VerdictOnTree, BoundOnTree}
-use Rattle.resolve_stack.specs.OnTree as on
+use Rattle.resolve_stack.specs.OnTree.{by_node_rows_on, node_rows_asks, or_node_rows_on, or_node_rows_asks, manifest_in_file, manifest_on, reading_asks, manifest_asks, bare_target_on, bare_target_asks, placed_on, found_or_name, through_on, join_on, join_asks, JoinOnTree, VerdictOnTree}
+use Rattle.tree_core.proofs.RowLaws.{answer-made, asked-made, answer-order, asked-order, answer-refuses_by, asked-refuses_by, answer-ends_by, asked-ends_by, answer-never_refuses, asked-never_refuses, answer-raised, asked-raised, step, step_asks, row, decided_asks, refusing_asks}
 
-append_nothing : {A : Type 0} (xs : List A) → xs ++ [] ≡ xs
-append_nothing [] = refl
-append_nothing (x ∷ xs) = ap (λ ys. x ∷ ys) (append_nothing xs)
+answer-node_rows : (t : Files) (project : ProjectSettings) (request : Request) → answer t (node_rows_of project request) ≡ widened of_node (node_on t project.node request.importer request.specifier)
+answer-node_rows t project request = answer-raised t of_node (node project.node request.importer request.specifier) ∙ ap (widened of_node) (node_on_tree.answers t project.node request.importer request.specifier)
 
--- a step of the order, and then the rest
-step : {A B X : Type 0} {r : Result A X} {f : A → Result B X} (t : Files) (p : Plan (Result A X)) (k : A → Plan (Result B X)) → answer t p ≡ r → ((a : A) → answer t (k a) ≡ f a) → answer t (p >>=? k) ≡ on.◌>>=◌ r f
-step {A = A} {B = B} {X = X} {r = r} {f = f} t p k is rest = answer-then t p (on_ok k) ∙ ap (λ a. answer t (on_ok k a)) is ∙ by_result r
+asked-node_rows : (t : Files) (project : ProjectSettings) (request : Request) → asked t (node_rows_of project request) ≡ node_rows_asks t project request
+asked-node_rows t project request = asked-raised t of_node (node project.node request.importer request.specifier) ∙ node_on_tree.asks t project.node request.importer request.specifier
+
+answer-ends : {A : Type 0} (t : Files) (project : ProjectSettings) (request : Request) → answer t (ends_by {A = A} (node_rows_of project request)) ≡ by_node_rows_on t project request
+answer-ends t project request = answer-ends_by t (node_rows_of project request) ∙ ap (λ r. Err r) (answer-node_rows t project request)
+
+asked-ends : {A : Type 0} (t : Files) (project : ProjectSettings) (request : Request) → asked t (ends_by {A = A} (node_rows_of project request)) ≡ node_rows_asks t project request
+asked-ends t project request = asked-ends_by _ t (node_rows_of project request) ∙ asked-node_rows t project request
+
+answer-or_node_rows : {A : Type 0} (t : Files) (project : ProjectSettings) (request : Request) (o : Option A) → answer t (or_node_rows project request o) ≡ or_node_rows_on t project request o
+answer-or_node_rows t project request None = answer-ends t project request
+answer-or_node_rows t project request (Some a) = answer-done t _
+
+asked-or_node_rows : {A : Type 0} (t : Files) (project : ProjectSettings) (request : Request) (o : Option A) → asked t (or_node_rows project request o) ≡ or_node_rows_asks t project request o
+asked-or_node_rows t project request None = asked-ends t project request
+asked-or_node_rows t project request (Some a) = asked-done t _
+
+answer-read : (t : Files) (file : Path) → answer t (read_manifest file) ≡ readable file (loaded_on t file)
+unfolding read_manifest
+answer-read t file = answer-made t (loading file) (readable file) ∙ ap (readable file) (answer-loading t file)
+
+asked-read : (t : Files) (file : Path) → asked t (read_manifest file) ≡ loaded_asks file
+unfolding read_manifest
+asked-read t file = asked-made t (loading file) (readable file) ∙ asked-loading t file
+
+answer-manifest_in : (t : Files) (project : ProjectSettings) (request : Request) (file : Option Path) → answer t (manifest_in project request file) ≡ manifest_in_file t project request file
+answer-manifest_in t project request None = answer-ends t project request
+answer-manifest_in t project request (Some file) = answer-refuses_by t (read_manifest file) ∙ ap (λ r. or_refused r) (answer-read t file)
+
+asked-manifest_in : (t : Files) (project : ProjectSettings) (request : Request) (file : Option Path) → asked t (manifest_in project request file) ≡ reading_asks t project request file
+asked-manifest_in t project request None = asked-ends t project request
+asked-manifest_in t project request (Some file) = asked-refuses_by _ t (read_manifest file) ∙ asked-read t file
+
+answer-manifest : (t : Files) (project : ProjectSettings) (request : Request) (base : List ℕ) → answer t (nearest_manifest project request base) ≡ manifest_on t project request base
+unfolding nearest_manifest
+answer-manifest t project request base = answer-then t (nearest (path_of project base)) (manifest_in project request) ∙ ap (λ file. answer t (manifest_in project request file)) (answer-nearest t (path_of project base)) ∙ answer-manifest_in t project request (nearest_on t (path_of project base))
+
+asked-manifest : (t : Files) (project : ProjectSettings) (request : Request) (base : List ℕ) → asked t (nearest_manifest project request base) ≡ manifest_asks t project request base
+unfolding nearest_manifest
+asked-manifest t project request base = asked-then t (nearest (path_of project base)) (manifest_in project request) ∙ ap (λ qs. qs ++ asked t (manifest_in project request (answer t (nearest (path_of project base))))) (asked-nearest t (path_of project base)) ∙ ap (λ qs. nearest_asks t (path_of project base) ++ qs) (ap (λ file. asked t (manifest_in project request file)) (answer-nearest t (path_of project base)) ∙ asked-manifest_in t project request (nearest_on t (path_of project base)))
+
+answer-bare : (t : Files) (project : ProjectSettings) (base target : List ℕ) → answer t (bare_target project base target) ≡ bare_target_on t project base target
+answer-bare t project base target = by_test (is_bare target)
   where
-    by_result : (r : Result A X) → answer t (on_ok k r) ≡ on.◌>>=◌ r f
-    by_result (Ok a) = rest a
-    by_result (Err x) = answer-done t (Err x)
+    by_test : (b : Bool) → answer t (cond b (Done (Ok target)) (ends_by {A = List ℕ} (raised of_node (search project.node base target)))) ≡ cond b (Ok target) (Err (widened of_node (search_on t project.node base target)))
+    by_test true = answer-done t _
+    by_test false = answer-ends_by t (raised of_node (search project.node base target)) ∙ ap (λ r. Err r) (answer-raised t of_node (search project.node base target) ∙ ap (widened of_node) (search_on_tree.answers t project.node base target))
 
-step_asks : {A B X : Type 0} {r : Result A X} {questions : List Question} {f : A → List Question} (t : Files) (p : Plan (Result A X)) (k : A → Plan (Result B X)) → answer t p ≡ r → asked t p ≡ questions → ((a : A) → asked t (k a) ≡ f a) → asked t (p >>=? k) ≡ questions ++ asks_after r f
-step_asks {A = A} {B = B} {X = X} {r = r} {questions = questions} {f = f} t p k is asks rest = asked-then t p (on_ok k) ∙ ap (λ qs. qs ++ asked t (on_ok k (answer t p))) asks ∙ ap (λ a. questions ++ asked t (on_ok k a)) is ∙ ap (λ qs. questions ++ qs) (by_result r)
+asked-bare : (t : Files) (project : ProjectSettings) (base target : List ℕ) → asked t (bare_target project base target) ≡ bare_target_asks t project base target
+asked-bare t project base target = by_test (is_bare target)
   where
-    by_result : (r : Result A X) → asked t (on_ok k r) ≡ asks_after r f
-    by_result (Ok a) = rest a
-    by_result (Err x) = asked-done {A = Result B X} t (Err x)
+    by_test : (b : Bool) → asked t (cond b (Done (Ok target)) (ends_by {A = List ℕ} (raised of_node (search project.node base target)))) ≡ cond b [] (search_asks t project.node base target)
+    by_test true = asked-done t _
+    by_test false = asked-ends_by _ t (raised of_node (search project.node base target)) ∙ asked-raised t of_node (search project.node base target) ∙ search_on_tree.asks t project.node base target
 
--- a row without a question
-row : {A B X : Type 0} {f : A → Result B X} (t : Files) (r : Result A X) (k : A → Plan (Result B X)) → ((a : A) → answer t (k a) ≡ f a) → answer t (Done r >>=? k) ≡ on.◌>>=◌ r f
-row t r k rest = step t (Done r) k (answer-done t r) rest
+answer-found_at : (t : Files) (project : ProjectSettings) (folder : Path) (subpath : Option (List ℕ)) → answer t (found_at project folder subpath) ≡ placed_on t project folder subpath
+answer-found_at t project folder subpath = answer-raised t of_node (resolve_at project.node folder subpath) ∙ ap (widened of_node) (located_on_tree.answers t project.node folder subpath)
 
-row_asks : {A B X : Type 0} {f : A → List Question} (t : Files) (r : Result A X) (k : A → Plan (Result B X)) → ((a : A) → asked t (k a) ≡ f a) → asked t (Done r >>=? k) ≡ asks_after r f
-row_asks t r k rest = step_asks t (Done r) k (answer-done t r) (asked-done t r) rest
+asked-found_at : (t : Files) (project : ProjectSettings) (folder : Path) (subpath : Option (List ℕ)) → asked t (found_at project folder subpath) ≡ located_asks t project.node folder subpath
+asked-found_at t project folder subpath = asked-raised t of_node (resolve_at project.node folder subpath) ∙ located_on_tree.asks t project.node folder subpath
 
-answer-manifest_in : (t : Files) (file : Option Path) → answer t (manifest_in file) ≡ manifest_in_file t file
-answer-manifest_in t None = answer-done t _
-answer-manifest_in t (Some file) = answer-then t (loading file) (λ read. Done (readable file read)) ∙ answer-done t _ ∙ ap (readable file) (answer-loading t file)
+answer-unless_ignored : (t : Files) (placed : Placed) → answer t (unless_ignored placed) ≡ found_or_name placed
+answer-unless_ignored t (File f rewritten) = answer-done t _
+answer-unless_ignored t (Ignored name) = answer-done t _
 
-asked-manifest_in : (t : Files) (file : Option Path) → asked t (manifest_in file) ≡ reading_asks file
-asked-manifest_in t None = asked-done t _
-asked-manifest_in t (Some file) = asked-then t (loading file) (λ read. Done (readable file read)) ∙ ap (λ qs. asked t (loading file) ++ qs) (asked-done t _) ∙ append_nothing _ ∙ asked-loading t file
+asked-unless_ignored : (t : Files) (placed : Placed) → asked t (unless_ignored placed) ≡ []
+asked-unless_ignored t (File f rewritten) = asked-done t _
+asked-unless_ignored t (Ignored name) = asked-done t _
 
-answer-manifest_of : (t : Files) (importer : Path) → answer t (manifest_of importer) ≡ manifest_on t importer
-unfolding manifest_of
-answer-manifest_of t importer = answer-then t (nearest importer) manifest_in ∙ ap (λ file. answer t (manifest_in file)) (answer-nearest t importer) ∙ answer-manifest_in t (nearest_on t importer)
+answer-through : (t : Files) (project : ProjectSettings) (via : Via) (f : Path) (rewritten : Bool) → answer t (answered_through project via f rewritten) ≡ Ok (through_on t project via f rewritten)
+answer-through t project via f rewritten = answer-never_refuses t (answered project.node (Some via) f (is_told_relative project f rewritten)) ∙ ap (λ r. Ok r) (answer-answered t project.node (Some via) f (is_told_relative project f rewritten))
 
-asked-manifest_of : (t : Files) (importer : Path) → asked t (manifest_of importer) ≡ manifest_asks t importer
-unfolding manifest_of
-asked-manifest_of t importer = asked-then t (nearest importer) manifest_in ∙ ap (λ qs. qs ++ asked t (manifest_in (answer t (nearest importer)))) (asked-nearest t importer) ∙ ap (λ qs. nearest_asks t importer ++ qs) (ap (λ file. asked t (manifest_in file)) (answer-nearest t importer) ∙ asked-manifest_in t (nearest_on t importer))
+asked-through : (t : Files) (project : ProjectSettings) (via : Via) (f : Path) (rewritten : Bool) → asked t (answered_through project via f rewritten) ≡ answer_asks project.node f
+asked-through t project via f rewritten = asked-never_refuses _ t (answered project.node (Some via) f (is_told_relative project f rewritten)) ∙ asked-answered t project.node (Some via) f (is_told_relative project f rewritten)
 
-answer-whole : (t : Files) (l : Path) → answer t (whole l) ≡ searched (text_of l) (folder_on t l)
-unfolding whole
-answer-whole t l = answer-then t (folder l) (λ found. Done (searched (text_of l) found)) ∙ answer-done t _ ∙ ap (searched (text_of l)) (folder_on_tree.answers t l)
+answer-rows : (t : Files) (project : ProjectSettings) (request : Request) → end_of (answer t (join_rows project request)) ≡ join_on t project request
+answer-rows t project request = ap end_of (
+    step t _ _ (answer-or_node_rows t project request (bare_base request)) (λ base.
+    step t _ _ (answer-manifest t project request base) (λ manifest.
+    step t _ _ (answer-or_node_rows t project request _) (λ owner.
+    step t _ _ (answer-target t _) (λ target.
+    step t _ _ (answer-bare t project base target) (λ named.
+    row t _ _ (λ identifier. row t _ _ (λ locator. row t _ _ (λ location. row t _ _ (λ bound. row t _ _ (λ folder.
+    step t _ _ (answer-refuses_by t (found_at project folder identifier.1) ∙ ap (λ r. or_refused r) (answer-found_at t project folder identifier.1)) (λ placed.
+    step t _ _ (answer-unless_ignored t placed) (λ found.
+    row t _ _ (λ file.
+    answer-refuses_by t (answered_through project _ file found.1) ∙ ap (λ r. or_refused r) (answer-through t project _ file found.1)))))))))))))))
 
-asked-whole : (t : Files) (l : Path) → asked t (whole l) ≡ folder_asks t l
-unfolding whole
-asked-whole t l = asked-then t (folder l) (λ found. Done (searched (text_of l) found)) ∙ ap (λ qs. asked t (folder l) ++ qs) (asked-done t _) ∙ append_nothing _ ∙ folder_on_tree.asks t l
-
-answer-inside : (t : Files) (text : List ℕ) → answer t (inside text) ≡ searched text (place_on t [] text)
-unfolding inside
-answer-inside t text = answer-then t (place [] text) (λ found. Done (searched text found)) ∙ answer-done t _ ∙ ap (searched text) (place_on_tree.answers t [] text)
-
-asked-inside : (t : Files) (text : List ℕ) → asked t (inside text) ≡ place_asks t [] text
-unfolding inside
-asked-inside t text = asked-then t (place [] text) (λ found. Done (searched text found)) ∙ ap (λ qs. asked t (place [] text) ++ qs) (asked-done t _) ∙ append_nothing _ ∙ place_on_tree.asks t [] text
-
-answer-bound : (t : Files) (l : Path) (subpath : Option (List ℕ)) → answer t (bound l subpath) ≡ bound_on t l subpath
-answer-bound t l None = answer-whole t l
-answer-bound t l (Some subpath) = by_test (path_eq (clean [] (behind l subpath)) l)
-  where
-    by_test : (b : Bool) → answer t (cond b (whole l) (inside (behind l subpath))) ≡ cond b (searched (text_of l) (folder_on t l)) (searched (behind l subpath) (place_on t [] (behind l subpath)))
-    by_test true = answer-whole t l
-    by_test false = answer-inside t (behind l subpath)
-
-asked-bound : (t : Files) (l : Path) (subpath : Option (List ℕ)) → asked t (bound l subpath) ≡ bound_asks t l subpath
-asked-bound t l None = asked-whole t l
-asked-bound t l (Some subpath) = by_test (path_eq (clean [] (behind l subpath)) l)
-  where
-    by_test : (b : Bool) → asked t (cond b (whole l) (inside (behind l subpath))) ≡ cond b (folder_asks t l) (place_asks t [] (behind l subpath))
-    by_test true = asked-whole t l
-    by_test false = asked-inside t (behind l subpath)
-
-answer-answered : (t : Files) (via : Via) (f : Path) → answer t (answered via f) ≡ Ok (answer_through via f (name_on t f))
-unfolding answered answer canon ◌>>=◌
-answer-answered t via f = refl
-
-asked-answered : (t : Files) (via : Via) (f : Path) → asked t (answered via f) ≡ Canon (text_of f) ∷ []
-unfolding answered asked canon ◌>>=◌
-asked-answered t via f = refl
+asked-rows : (t : Files) (project : ProjectSettings) (request : Request) → asked t (join_rows project request) ≡ join_asks t project request
+asked-rows t project request =
+    step_asks t _ _ (answer-or_node_rows t project request (bare_base request)) (asked-or_node_rows t project request (bare_base request)) (λ base.
+    step_asks t _ _ (answer-manifest t project request base) (asked-manifest t project request base) (λ manifest.
+    step_asks t _ _ (answer-or_node_rows t project request _) (asked-or_node_rows t project request _) (λ owner.
+    step_asks t _ _ (answer-target t _) (asked-target _ t _) (λ target.
+    step_asks t _ _ (answer-bare t project base target) (asked-bare t project base target) (λ named.
+    decided_asks t _ _ (λ identifier. decided_asks t _ _ (λ locator. decided_asks t _ _ (λ location. decided_asks t _ _ (λ bound. decided_asks t _ _ (λ folder.
+    refusing_asks t _ _ (answer-found_at t project folder identifier.1) (asked-found_at t project folder identifier.1) (λ placed.
+    step_asks t _ _ (answer-unless_ignored t placed) (asked-unless_ignored t placed) (λ found.
+    decided_asks t _ _ (λ file.
+    asked-refuses_by _ t (answered_through project _ file found.1) ∙ asked-through t project _ file found.1)))))))))))))
 
 -- the order comes to what the tree has
 pub answer-join : (t : Files) (project : ProjectSettings) (request : Request) → answer t (join project request) ≡ join_on t project request
 unfolding join
-answer-join t project request =
-    row t _ _ (λ importer. step t _ _ (answer-manifest_of t importer) (λ manifest. row t _ _ (λ owner. row t _ _ (λ target. row t _ _ (λ identifier. row t _ _ (λ locator. row t _ _ (λ location. row t _ _ (λ folder.
-    step t _ _ (answer-bound t folder identifier.1) (λ found. row t _ _ (λ file. answer-answered t _ file))))))))))
+answer-join t project request = answer-order t (join_rows project request) ∙ answer-rows t project request
 
 asked-join : (t : Files) (project : ProjectSettings) (request : Request) → asked t (join project request) ≡ join_asks t project request
 unfolding join
-asked-join t project request =
-    row_asks t _ _ (λ importer. step_asks t _ _ (answer-manifest_of t importer) (asked-manifest_of t importer) (λ manifest. row_asks t _ _ (λ owner. row_asks t _ _ (λ target. row_asks t _ _ (λ identifier. row_asks t _ _ (λ locator. row_asks t _ _ (λ location. row_asks t _ _ (λ folder.
-    step_asks t _ _ (answer-bound t folder identifier.1) (asked-bound t folder identifier.1) (λ found. row_asks t _ _ (λ file. asked-answered t _ file))))))))))
+asked-join t project request = asked-order t (join_rows project request) ∙ asked-rows t project request
 
 pub answer-verdict : (t : Files) (project : ProjectSettings) (request : Request) → answer t (verdict project request) ≡ verdict_of (join_on t project request)
 unfolding verdict
-answer-verdict t project request = answer-then t (join project request) (λ result. Done (verdict_of result)) ∙ answer-done t _ ∙ ap verdict_of (answer-join t project request)
+answer-verdict t project request = answer-made t (join project request) verdict_of ∙ ap verdict_of (answer-join t project request)
 
 asked-verdict : (t : Files) (project : ProjectSettings) (request : Request) → asked t (verdict project request) ≡ join_asks t project request
 unfolding verdict
-asked-verdict t project request = asked-then t (join project request) (λ result. Done (verdict_of result)) ∙ ap (λ qs. asked t (join project request) ++ qs) (asked-done t _) ∙ append_nothing _ ∙ asked-join t project request
+asked-verdict t project request = asked-made t (join project request) verdict_of ∙ asked-join t project request
 
 pub join_on_tree : JoinOnTree
 join_on_tree = record { answers = answer-join; asks = asked-join }
 
 pub verdict_on_tree : VerdictOnTree
 verdict_on_tree = record { answers = answer-verdict; asks = asked-verdict }
-
-pub bound_on_tree : BoundOnTree
-bound_on_tree = record { answers = answer-bound; asks = asked-bound }

@@ -1,8 +1,13 @@
 -- An answer of the order was found through the row that binds the name asked for.
-use Rattle.std.proofs.Common.{◌≡◌, ℕ, Bool, true, false, cond, List, [], Option, Some, None, is_some, Result, Ok, Err, refl, sym, ap, ◌∙◌, subst}
+use Rattle.std.proofs.Common.{◌≡◌, ℕ, Bool, true, false, cond, List, [], Option, Some, None, is_some, Result, Ok, Err, refl, sym, ap, ◌∙◌, subst, ◌++◌}
+use Rattle.std.specs.Prelude.{codes}
 use Rattle.sugar_path.specs.Path.{Path, clean, below, text_of}
 use Rattle.tree_core.specs.Tree.{Files}
 use Rattle.tree_core.specs.Plan.{answer}
+use Rattle.tree_core.specs.Asks.{widened}
+use Rattle.tree_core.specs.Builtins.{is_builtin}
+use Rattle.tree_core.specs.Rows.{Going, end_of, or_refused}
+use Rattle.tree_core.specs.Results.{◌>>=◌}
 use Rattle.pnp_core.specs.declared.error.HydrationCause.{HydrationCause}
 use Rattle.pnp_core.specs.declared.error.UndeclaredDependency.{UndeclaredDependency}
 use Rattle.pnp_core.specs.declared.manifest.PackageLocator.{PackageLocator}
@@ -16,25 +21,85 @@ use Rattle.pnp_core.specs.Wording.{undeclared}
 use Rattle.pnp_core.specs.OnTree.{nearest_on, loaded_on}
 use Rattle.swc_loader.specs.declared.resolution.FileName.{FileName}
 use Rattle.swc_loader.specs.declared.resolution.FileName.TheVariants.{Real, Custom, Anon}
+use Rattle.swc_loader.specs.declared.resolution.Found.{Found}
 use Rattle.swc_loader.specs.declared.resolution.Resolution.{Resolution}
+use Rattle.swc_loader.specs.declared.located.Placed.{Placed}
+use Rattle.swc_loader.specs.declared.located.Placed.TheVariants.{File, Ignored}
+use Rattle.swc_loader.specs.declared.refusal.NodeRefusal.{NodeRefusal}
+use Rattle.swc_loader.specs.declared.before.Before.{Before}
+use Rattle.swc_loader.specs.declared.before.Before.TheVariants.{Decided, Target}
+use Rattle.swc_loader.specs.Specifier.{is_bare, has_node_scheme}
+use Rattle.swc_loader.specs.Settings.{NodeSettings, alias_of}
+use Rattle.swc_loader.specs.Spelling.{custom}
+use Rattle.swc_loader.specs.NodeRows.{decided_or_target, before_search}
+use Rattle.swc_loader.specs.NodeOnTree.{target_or_answer, search_on, node_on}
 use Rattle.resolve_stack.specs.declared.verdict.JoinRefusal.{JoinRefusal}
 use Rattle.resolve_stack.specs.declared.verdict.JoinRefusal.TheVariants.{NotBuilt, Outside}
 use Rattle.resolve_stack.specs.declared.verdict.Verdict.{Verdict}
-use Rattle.resolve_stack.specs.Settings.{ProjectSettings}
+use Rattle.resolve_stack.specs.Settings.{ProjectSettings, path_of}
 use Rattle.resolve_stack.specs.Request.{Request}
-use Rattle.resolve_stack.specs.Specifier.{is_bare, is_node_module}
 use Rattle.resolve_stack.specs.Location.{is_plain}
-use Rattle.resolve_stack.specs.Rows.{or_not_built, importer_of, readable, bound_or_refused, bound_of, via_of, answer_through}
-use Rattle.resolve_stack.specs.BoundSearch.{contained}
-use Rattle.resolve_stack.specs.OnTree.{manifest_in_file, manifest_on, bound_on, name_on, join_on, ◌>>=◌}
+use Rattle.resolve_stack.specs.Rows.{of_node, or_not_built, bare_from, bare_base, readable, identifier_of, bound_or_refused, bound_of, row_of, unlocked, folder_of, contained, via_of}
+use Rattle.resolve_stack.specs.OnTree.{by_node_rows_on, or_node_rows_on, manifest_in_file, manifest_on, asking_package, bare_target_on, placed_on, found_or_name, through_on, join_on}
 use Rattle.resolve_stack.specs.Verdict.{verdict_of, verdict}
-use Rattle.resolve_stack.specs.Through.{ThroughRow, IsFoundFrom, IsFound}
+use Rattle.resolve_stack.specs.Through.{ThroughRow, IsFoundVia, IsFoundFrom, IsFound}
 use Rattle.resolve_stack.proofs.OnTrees.{answer-verdict}
+use Rattle.resolve_stack.proofs.Plain.{IsPlain, IsPlainResult, IsPlainBefore, node-plain, search-plain, before-plain}
 
--- a value that came of one result and then another: the first had a value too
-first_value : {A B X : Type 0} (r : Result A X) (f : A → Result B X) (b : B) → r >>= f ≡ Ok b → (a : A) × (r ≡ Ok a) × (f a ≡ Ok b)
-first_value (Ok a) f b h = (a, refl, h)
-first_value (Err x) f b h = cc
+-- how an order ended is found as it says
+abbrev IsFoundEnd : Files → ProjectSettings → Request → Result Resolution JoinRefusal → Type 0
+IsFoundEnd t project request (Ok resolution) = IsFoundFrom t project request resolution.found
+IsFoundEnd t project request (Err refusal) = Unit {0}
+
+-- a row that goes on, or ends the order as it should
+goes : {A : Type 0} (t : Files) (project : ProjectSettings) (request : Request) (g : Going A Resolution JoinRefusal) (f : A → Going Resolution Resolution JoinRefusal) → ((e : Result Resolution JoinRefusal) → g ≡ Err e → IsFoundEnd t project request e) → ((a : A) → g ≡ Ok a → IsFoundEnd t project request (end_of (f a))) → IsFoundEnd t project request (end_of (g >>= f))
+goes t project request (Ok a) f ends next = next a refl
+goes t project request (Err e) f ends next = ends e refl
+
+abbrev ends_as : {A : Type 0} → Going A Resolution JoinRefusal → Result Resolution JoinRefusal → Type 0
+ends_as g e = g ≡ Err e
+
+plain_found : (t : Files) (project : ProjectSettings) (request : Request) (o : Option Found) → IsPlain o → IsFoundFrom t project request o
+plain_found t project request None plain = tt
+plain_found t project request (Some found) plain = rw plain tt
+
+-- the node rows end the order without a row of a manifest
+node_end : (t : Files) (project : ProjectSettings) (request : Request) (r : Result Resolution NodeRefusal) → IsPlainResult r → (e : Result Resolution JoinRefusal) → widened of_node r ≡ e → IsFoundEnd t project request e
+node_end t project request r plain e is = let P : Result Resolution JoinRefusal → Type 0 = IsFoundEnd t project request in subst P is (by_result r plain)
+  where
+    by_result : (r : Result Resolution NodeRefusal) → IsPlainResult r → IsFoundEnd t project request (widened of_node r)
+    by_result (Ok resolution) plain = plain_found t project request resolution.found plain
+    by_result (Err refusal) plain = tt
+
+-- a step that refuses ends the order so
+refused_end : {A : Type 0} (t : Files) (project : ProjectSettings) (request : Request) (d : Result A JoinRefusal) (e : Result Resolution JoinRefusal) → or_refused d ≡ Err e → IsFoundEnd t project request e
+refused_end t project request (Ok a) e is = cc
+refused_end t project request (Err x) (Ok resolution) is = cc
+refused_end t project request (Err x) (Err y) is = tt
+
+unrefused : {A : Type 0} (d : Result A JoinRefusal) (a : A) → or_refused {R = Resolution} d ≡ Ok a → d ≡ Ok a
+unrefused (Ok b) a is = let same : b ≡ a = cc in ap Ok same
+unrefused (Err x) a is = cc
+
+or_node_end : {A : Type 0} (t : Files) (project : ProjectSettings) (request : Request) (o : Option A) (e : Result Resolution JoinRefusal) → or_node_rows_on t project request o ≡ Err e → IsFoundEnd t project request e
+or_node_end t project request (Some a) e is = cc
+or_node_end t project request None e is =
+    let same : widened of_node (node_on t project.node request.importer request.specifier) ≡ e = cc in
+    node_end t project request (node_on t project.node request.importer request.specifier) (node-plain t project.node request.importer request.specifier) e same
+
+or_node_value : {A : Type 0} (t : Files) (project : ProjectSettings) (request : Request) (o : Option A) (a : A) → or_node_rows_on t project request o ≡ Ok a → o ≡ Some a
+or_node_value t project request (Some b) a is = let same : b ≡ a = cc in ap Some same
+or_node_value t project request None a is = cc
+
+-- what asks is the path of a bare specifier's base
+from_base : (from : FileName) (specifier base : List ℕ) → bare_from from specifier ≡ Some base → from ≡ Real base
+from_base (Real text) specifier base is = by_test (is_bare specifier) is
+  where
+    by_test : (b : Bool) → cond {A = Option (List ℕ)} b (Some text) None ≡ Some base → Real text ≡ Real base
+    by_test true is = let same : text ≡ base = cc in ap Real same
+    by_test false is = cc
+from_base (Custom name) specifier base is = cc
+from_base Anon specifier base is = cc
 
 there : {A : Type 0} (o : Option A) (a : A) → or_not_built o ≡ Ok a → o ≡ Some a
 there (Some x) a h = let same : x ≡ a = cc in ap Some same
@@ -44,16 +109,6 @@ there None a h = cc
 passed : {A X : Type 0} (b : Bool) (a a' : A) (x : X) → cond b (Ok a) (Err x) ≡ Ok a' → (b ≡ true) × (a ≡ a')
 passed true a a' x h = (refl, cc)
 passed false a a' x h = cc
-
-record Asked (project : ProjectSettings) (from : FileName) (p : Path) : Type 0 where
-  text : List ℕ
-  importer : from ≡ Real text
-  path : clean project.cwd text ≡ p
-
-asked_from : (project : ProjectSettings) (from : FileName) (s : List ℕ) (p : Path) → importer_of project from s ≡ Ok p → Asked project from p
-asked_from project (Real text) s p h = record { text = text; importer = refl; path = (passed (is_bare s) (clean project.cwd text) p NotBuilt h).1 }
-asked_from project (Custom name) s p h = cc
-asked_from project Anon s p h = cc
 
 abbrev same_result : Contents → Contents → Type 0
 same_result a b = let read : Result Contents HydrationCause = Ok a in read ≡ Ok b
@@ -80,12 +135,70 @@ record Read (t : Files) (p : Path) (m : Contents) : Type 0 where
   reads : loaded_on t manifest ≡ Ok m
   no_pattern : m.ignore_pattern_data ≡ None
 
-read_from : (t : Files) (p : Path) (m : Contents) → manifest_on t p ≡ Ok m → Read t p m
-read_from t p m h = by_near (nearest_on t p) refl h
+read_from : (t : Files) (project : ProjectSettings) (request : Request) (base : List ℕ) (m : Contents) → manifest_on t project request base ≡ Ok m → Read t (path_of project base) m
+read_from t project request base m h = by_near (nearest_on t (path_of project base)) refl h
   where
-    by_near : (near : Option Path) → nearest_on t p ≡ near → manifest_in_file t near ≡ Ok m → Read t p m
+    by_near : (near : Option Path) → nearest_on t (path_of project base) ≡ near → manifest_in_file t project request near ≡ Ok m → Read t (path_of project base) m
     by_near None is h = cc
-    by_near (Some file) is h = record { manifest = file; nearest = is; reads = read_of file (loaded_on t file) m h; no_pattern = no_pattern_of file (loaded_on t file) m h }
+    by_near (Some file) is h =
+        let read = unrefused (readable file (loaded_on t file)) m h in
+        record { manifest = file; nearest = is; reads = read_of file (loaded_on t file) m read; no_pattern = no_pattern_of file (loaded_on t file) m read }
+
+manifest_end : (t : Files) (project : ProjectSettings) (request : Request) (base : List ℕ) (e : Result Resolution JoinRefusal) → manifest_on t project request base ≡ Err e → IsFoundEnd t project request e
+manifest_end t project request base e h = by_near (nearest_on t (path_of project base)) h
+  where
+    by_near : (near : Option Path) → manifest_in_file t project request near ≡ Err e → IsFoundEnd t project request e
+    by_near None h =
+        let same : widened of_node (node_on t project.node request.importer request.specifier) ≡ e = cc in
+        node_end t project request (node_on t project.node request.importer request.specifier) (node-plain t project.node request.importer request.specifier) e same
+    by_near (Some file) h = refused_end t project request (readable file (loaded_on t file)) e h
+
+-- a target that is searched is the specifier's alias
+aliased : (s : NodeSettings) (specifier target : List ℕ) → target_or_answer {X = JoinRefusal} (before_search s specifier) ≡ Ok target → alias_of s specifier ≡ target
+aliased s specifier target h = by_scheme (has_node_scheme specifier) h
+  where
+    by_builtin : (b : Bool) → target_or_answer {X = JoinRefusal} (decided_or_target s specifier (cond b (Some (custom (codes "node:" ++ specifier))) None)) ≡ Ok target → alias_of s specifier ≡ target
+    by_builtin true h = cc
+    by_builtin false h = cc
+
+    by_scheme : (b : Bool) → target_or_answer {X = JoinRefusal} (decided_or_target s specifier (cond b (Some (custom specifier)) (cond (is_builtin specifier) (Some (custom (codes "node:" ++ specifier))) None))) ≡ Ok target → alias_of s specifier ≡ target
+    by_scheme true h = cc
+    by_scheme false h = by_builtin (is_builtin specifier) h
+
+before_end : (t : Files) (project : ProjectSettings) (request : Request) (e : Result Resolution JoinRefusal) → target_or_answer (before_search project.node request.specifier) ≡ Err e → IsFoundEnd t project request e
+before_end t project request e h = by_before (before_search project.node request.specifier) (before-plain project.node request.specifier) h
+  where
+    by_before : (b : Before) → IsPlainBefore b → target_or_answer b ≡ Err e → IsFoundEnd t project request e
+    by_before (Target target) plain h = cc
+    by_before (Decided resolution) plain h =
+        let ended : Result Resolution JoinRefusal = Ok resolution in
+        let same : ended ≡ e = cc in
+        let P : Result Resolution JoinRefusal → Type 0 = IsFoundEnd t project request in
+        subst P same (plain_found t project request resolution.found plain)
+
+bare_end : (t : Files) (project : ProjectSettings) (request : Request) (base target : List ℕ) (e : Result Resolution JoinRefusal) → bare_target_on t project base target ≡ Err e → IsFoundEnd t project request e
+bare_end t project request base target e h = by_test (is_bare target) h
+  where
+    by_test : (b : Bool) → cond {A = Going (List ℕ) Resolution JoinRefusal} b (Ok target) (Err (widened of_node (search_on t project.node base target))) ≡ Err e → IsFoundEnd t project request e
+    by_test true h = cc
+    by_test false h =
+        let same : widened of_node (search_on t project.node base target) ≡ e = cc in
+        node_end t project request (search_on t project.node base target) (search-plain t project.node base target) e same
+
+bare_value : (t : Files) (project : ProjectSettings) (base target named : List ℕ) → bare_target_on t project base target ≡ Ok named → target ≡ named
+bare_value t project base target named h = by_test (is_bare target) h
+  where
+    by_test : (b : Bool) → cond {A = Going (List ℕ) Resolution JoinRefusal} b (Ok target) (Err (widened of_node (search_on t project.node base target))) ≡ Ok named → target ≡ named
+    by_test true h = cc
+    by_test false h = cc
+
+ignored_end : (t : Files) (project : ProjectSettings) (request : Request) (placed : Placed) (e : Result Resolution JoinRefusal) → found_or_name placed ≡ Err e → IsFoundEnd t project request e
+ignored_end t project request (File f rewritten) e h = cc
+ignored_end t project request (Ignored name) e h =
+    let ended : Result Resolution JoinRefusal = Ok (custom name) in
+    let same : ended ≡ e = cc in
+    let P : Result Resolution JoinRefusal → Type 0 = IsFoundEnd t project request in
+    subst P same tt
 
 bound_by : (m : Contents) (o : PackageLocator) (importer : Path) (target name : List ℕ) (b : PackageLocator) → bound_of m o importer target name ≡ Ok b → bind m o name ≡ Bound b
 bound_by m o importer target name b h = by_test (is_settled m o name) h
@@ -99,63 +212,86 @@ bound_by m o importer target name b h = by_test (is_settled m o name) h
     by_test true h = by_binding (undeclared m o target name (text_of importer)) (bind m o name) h
     by_test false h = cc
 
-abbrev answered_by : Resolution → Resolution → Type 0
-answered_by a r = let answer : Result Resolution JoinRefusal = Ok a in answer ≡ Ok r
+-- the rows behind the folder of the bound package, on a tree
+abbrev behind_folder : Files → ProjectSettings → PackageLocator → Path → Option (List ℕ) → Going Resolution Resolution JoinRefusal
+behind_folder t project bound folder subpath =
+    or_refused (placed_on t project folder subpath) >>= λ placed. found_or_name placed >>= λ found. or_refused (contained folder found.0) >>= λ file. Ok (through_on t project (via_of bound folder) file found.1)
+
+folder_end : (t : Files) (project : ProjectSettings) (request : Request) (bound : PackageLocator) (folder : Path) (subpath : Option (List ℕ)) → ((f : Path) → below f folder ≡ true → ThroughRow t project request (text_of f) (via_of bound folder)) → IsFoundEnd t project request (end_of (behind_folder t project bound folder subpath))
+folder_end t project request bound folder subpath through =
+    goes t project request (or_refused (placed_on t project folder subpath)) (λ placed. found_or_name placed >>= λ found. or_refused (contained folder found.0) >>= λ file. Ok (through_on t project (via_of bound folder) file found.1)) (refused_end t project request (placed_on t project folder subpath)) (λ placed is_placed.
+    goes t project request (found_or_name placed) (λ found. or_refused (contained folder found.0) >>= λ file. Ok (through_on t project (via_of bound folder) file found.1)) (ignored_end t project request placed) (λ found is_found.
+    goes t project request (or_refused (contained folder found.0)) (λ file. Ok (through_on t project (via_of bound folder) file found.1)) (refused_end t project request (contained folder found.0)) (λ file within.
+    let inside = passed (below found.0 folder) found.0 file (Outside (text_of found.0) (text_of folder)) (unrefused (contained folder found.0) file within) in
+    through file (ap (λ f. below f folder) (sym inside.1) ∙ inside.0))))
+
+-- the rows behind the binding, on a tree
+abbrev behind_binding : Files → ProjectSettings → Contents → PackageLocator → Option (List ℕ) → Going Resolution Resolution JoinRefusal
+behind_binding t project manifest locator subpath =
+    or_refused (row_of manifest locator) >>= λ location. or_refused (unlocked locator) >>= λ bound. or_refused (folder_of location) >>= λ folder. behind_folder t project bound folder subpath
+
+abbrev ThroughBound : Files → ProjectSettings → Request → Contents → PackageLocator → Type 0
+ThroughBound t project request manifest bound = (location : List ℕ) (folder f : Path) → location_of manifest bound ≡ Some location → clean [] location ≡ folder → below f folder ≡ true → ThroughRow t project request (text_of f) (via_of bound folder)
+
+binding_end : (t : Files) (project : ProjectSettings) (request : Request) (manifest : Contents) (locator : PackageLocator) (subpath : Option (List ℕ)) → ThroughBound t project request manifest locator → IsFoundEnd t project request (end_of (behind_binding t project manifest locator subpath))
+binding_end t project request manifest locator subpath through =
+    goes t project request (or_refused (row_of manifest locator)) (λ location. or_refused (unlocked locator) >>= λ bound. or_refused (folder_of location) >>= λ folder. behind_folder t project bound folder subpath) (refused_end t project request (row_of manifest locator)) (λ location row.
+    goes t project request (or_refused (folder_of location)) (λ folder. behind_folder t project locator folder subpath) (refused_end t project request (folder_of location)) (λ folder place.
+    let at = passed (is_plain location) (clean [] location) folder NotBuilt (unrefused (folder_of location) folder place) in
+    folder_end t project request locator folder subpath (λ f within. through location folder f (there (location_of manifest locator) location (unrefused (row_of manifest locator) location row)) at.1 within)))
+
+-- the rows behind a bare target, on a tree
+abbrev behind_target : Files → ProjectSettings → List ℕ → Contents → PackageLocator → List ℕ → Going Resolution Resolution JoinRefusal
+behind_target t project base manifest asking named =
+    or_refused (identifier_of named) >>= λ identifier. or_refused (bound_of manifest asking (path_of project base) named identifier.0) >>= λ locator. behind_binding t project manifest locator identifier.1
+
+target_end : (t : Files) (project : ProjectSettings) (request : Request) (base : List ℕ) (manifest : Contents) (asking : PackageLocator) (named : List ℕ) → ((identifier : List ℕ × Option (List ℕ)) (locator : PackageLocator) → split_bare named ≡ Some identifier → bind manifest asking identifier.0 ≡ Bound locator → ThroughBound t project request manifest locator) → IsFoundEnd t project request (end_of (behind_target t project base manifest asking named))
+target_end t project request base manifest asking named through =
+    goes t project request (or_refused (identifier_of named)) (λ identifier. or_refused (bound_of manifest asking (path_of project base) named identifier.0) >>= λ locator. behind_binding t project manifest locator identifier.1) (refused_end t project request (identifier_of named)) (λ identifier split.
+    goes t project request (or_refused (bound_of manifest asking (path_of project base) named identifier.0)) (λ locator. behind_binding t project manifest locator identifier.1) (refused_end t project request (bound_of manifest asking (path_of project base) named identifier.0)) (λ locator binds.
+    binding_end t project request manifest locator identifier.1
+    (through identifier locator (there (split_bare named) identifier (unrefused (identifier_of named) identifier split)) (bound_by manifest asking (path_of project base) named identifier.0 locator (unrefused (bound_of manifest asking (path_of project base) named identifier.0) locator binds)))))
+
+-- the rows behind the owner, on a tree
+abbrev behind_owner : Files → ProjectSettings → Request → List ℕ → Contents → PackageLocator → Going Resolution Resolution JoinRefusal
+behind_owner t project request base manifest asking =
+    target_or_answer (before_search project.node request.specifier) >>= λ target. bare_target_on t project base target >>= λ named. behind_target t project base manifest asking named
 
 -- what the rows gave, one after the other
-found_on : (t : Files) (project : ProjectSettings) (request : Request) (r : Resolution) → join_on t project request ≡ Ok r → IsFoundFrom t project request r.found
-found_on t project request r h =
-    let importer = first_value _ _ _ h in
-    let manifest = first_value _ _ _ importer.2 in
-    let asking = first_value _ _ _ manifest.2 in
-    let target = first_value _ _ _ asking.2 in
-    let identifier = first_value _ _ _ target.2 in
-    let locator = first_value _ _ _ identifier.2 in
-    let location = first_value _ _ _ locator.2 in
-    let folder = first_value _ _ _ location.2 in
-    let found = first_value (bound_on t folder.0 identifier.0.1) (λ found. contained folder.0 found >>= λ file. Ok (answer_through (via_of locator.0 folder.0) file (name_on t file))) r folder.2 in
-    let file = first_value (contained folder.0 found.0) (λ file. Ok (answer_through (via_of locator.0 folder.0) file (name_on t file))) r found.2 in
-    let asked = asked_from project request.importer request.specifier importer.0 importer.1 in
-    let read = read_from t importer.0 manifest.0 manifest.1 in
-    let same = no_test (is_node_module request.specifier) request.specifier target.0 target.1 in
-    let at = passed (is_plain location.0) (clean [] location.0) folder.0 NotBuilt folder.1 in
-    let within = passed (below found.0 folder.0) found.0 file.0 (Outside (text_of found.0) (text_of folder.0)) file.1 in
-    through r locator.0 folder.0 file.0 (name_on t file.0) file.2 (record {
-      importer = asked.text;
-      manifest = read.manifest;
-      contents = manifest.0;
-      asking = asking.0;
-      name = identifier.0.0;
-      subpath = identifier.0.1;
-      location = location.0;
-      from = asked.importer;
-      nearest = ap (nearest_on t) asked.path ∙ read.nearest;
-      reads = read.reads;
-      no_pattern = read.no_pattern;
-      owns = ap (owner manifest.0) asked.path ∙ there (owner manifest.0 importer.0) asking.0 asking.1;
-      names = ap split_bare same ∙ there (split_bare target.0) identifier.0 identifier.1;
-      binds = bound_by manifest.0 asking.0 importer.0 target.0 identifier.0.0 locator.0 locator.1;
-      row = there (location_of manifest.0 locator.0) location.0 location.1;
-      place = ap text_of (sym at.1);
-      lies = record { path = file.0; folder = folder.0; file_is = refl; location_is = refl; within = ap (λ f. below f folder.0) (sym within.1) ∙ within.0 };
-    })
-  where
-    no_test : (b : Bool) (s target : List ℕ) → cond {A = Result (List ℕ) JoinRefusal} b (Err NotBuilt) (Ok s) ≡ Ok target → s ≡ target
-    no_test true s target h = cc
-    no_test false s target h = cc
-
-    through : (r : Resolution) (locator : PackageLocator) (folder file : Path) (name : List ℕ) → answered_by (answer_through (via_of locator folder) file name) r → ThroughRow t project request (text_of file) (via_of locator folder) → IsFoundFrom t project request r.found
-    through r locator folder file name is row =
-        let same : answer_through (via_of locator folder) file name ≡ r = cc in
-        let P : Resolution → Type 0 = λ x. IsFoundFrom t project request x.found in
-        subst P same row
+pub found_end : (t : Files) (project : ProjectSettings) (request : Request) → IsFoundEnd t project request (join_on t project request)
+found_end t project request =
+    goes t project request (or_node_rows_on t project request (bare_base request)) (λ base. manifest_on t project request base >>= λ manifest. or_node_rows_on t project request (asking_package project manifest base) >>= λ asking. behind_owner t project request base manifest asking) (or_node_end t project request (bare_base request)) (λ base from.
+    goes t project request (manifest_on t project request base) (λ manifest. or_node_rows_on t project request (asking_package project manifest base) >>= λ asking. behind_owner t project request base manifest asking) (manifest_end t project request base) (λ manifest read.
+    goes t project request (or_node_rows_on t project request (asking_package project manifest base)) (λ asking. behind_owner t project request base manifest asking) (or_node_end t project request (asking_package project manifest base)) (λ asking owns.
+    goes t project request (target_or_answer (before_search project.node request.specifier)) (λ target. bare_target_on t project base target >>= λ named. behind_target t project base manifest asking named) (before_end t project request) (λ target alias.
+    goes t project request (bare_target_on t project base target) (λ named. behind_target t project base manifest asking named) (bare_end t project request base target) (λ named bare.
+    let reading = read_from t project request base manifest read in
+    target_end t project request base manifest asking named (λ identifier locator split binds location folder f row place within. record {
+      importer = base;
+      manifest = reading.manifest;
+      contents = manifest;
+      asking = asking;
+      name = identifier.0;
+      subpath = identifier.1;
+      location = location;
+      from = from_base request.importer request.specifier base (or_node_value t project request (bare_base request) base from);
+      nearest = reading.nearest;
+      reads = reading.reads;
+      no_pattern = reading.no_pattern;
+      owns = or_node_value t project request (asking_package project manifest base) asking owns;
+      names = ap split_bare (aliased project.node request.specifier target alias ∙ bare_value t project base target named bare) ∙ split;
+      binds = binds;
+      row = row;
+      place = ap text_of (sym place);
+      lies = record { path = f; folder = folder; file_is = refl; location_is = refl; within = within };
+    }))))))
 
 -- the verdict of the order was found as it says
 pub found : (t : Files) (project : ProjectSettings) (request : Request) → IsFound t project request (answer t (verdict project request))
 found t project request =
     let P : Verdict → Type 0 = IsFound t project request in
-    subst P (sym (answer-verdict t project request)) (by_result (join_on t project request) refl)
+    subst P (sym (answer-verdict t project request)) (by_result (join_on t project request) (found_end t project request))
   where
-    by_result : (r : Result Resolution JoinRefusal) → join_on t project request ≡ r → IsFound t project request (verdict_of r)
-    by_result (Ok resolution) is = found_on t project request resolution is
+    by_result : (r : Result Resolution JoinRefusal) → IsFoundEnd t project request r → IsFound t project request (verdict_of r)
+    by_result (Ok resolution) is = is
     by_result (Err refusal) is = tt

@@ -43,7 +43,6 @@ pub(crate) fn join<R: Asker>(
     join_by_manifest(alloc, tree, project, request, base, &manifest, &importer)
 }
 
-
 // The node rows of the whole request.
 fn by_node_rows<R: Asker>(
     alloc: Global,
@@ -110,7 +109,15 @@ fn join_owned<R: Asker>(
         let found = project.node().search(alloc, tree, base, target.as_str());
         return raised(found);
     }
-    join_bare(alloc, tree, project, manifest, owner, importer, target.as_str())
+    join_bare(
+        alloc,
+        tree,
+        project,
+        manifest,
+        owner,
+        importer,
+        target.as_str(),
+    )
 }
 
 // The rows behind a bare target.
@@ -179,5 +186,9 @@ fn join_in_folder<R: Asker>(
         location,
     };
     let relative = rewritten && file.is_below(project.cwd());
-    Ok(project.node().answer(alloc, tree, Some(via), file, relative)?)
+    Ok(
+        project
+            .node()
+            .answer(alloc, tree, Some(via), file, relative)?,
+    )
 }

@@ -159,7 +159,10 @@ pub(crate) fn row_of<'a>(
 }
 
 // The folder that a location is.
-pub(crate) fn folder_of(alloc: Global, location: &str) -> Result<CleanPath, ResolveError<JoinRefusal>>
+pub(crate) fn folder_of(
+    alloc: Global,
+    location: &str,
+) -> Result<CleanPath, ResolveError<JoinRefusal>>
     ensures { IsDecided result (rows.folder_of location.now) }
 {
     if !is_plain(location) {

@@ -72,7 +72,12 @@ impl Project {
         let node = if node_modules {
             NodeModulesResolver::new(cwd, TargetEnv::Node, alias, preserve_symlinks)
         } else {
-            NodeModulesResolver::without_node_modules(cwd, TargetEnv::Node, alias, preserve_symlinks)
+            NodeModulesResolver::without_node_modules(
+                cwd,
+                TargetEnv::Node,
+                alias,
+                preserve_symlinks,
+            )
         };
         Ok(Project { node })
     }

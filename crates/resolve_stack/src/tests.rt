@@ -1,5 +1,6 @@
 // What no clause says: that calls with ample memory answer.
 use crate::{FileName, Outcome, Project, ProjectError, Settings, Verdict, resolve_import};
+use indexmap::IndexMap;
 use std::alloc::Global;
 use std::test::Fail;
 use sugar_path::Text;
@@ -17,6 +18,9 @@ fn project(alloc: Global, cwd: &str) -> Result<Project, ProjectError> {
         alloc,
         Settings {
             cwd: Text::of(alloc, cwd)?,
+            preserve_symlinks: false,
+            node_modules: true,
+            alias: IndexMap::new(alloc),
         },
     )
 }

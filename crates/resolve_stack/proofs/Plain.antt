@@ -1,0 +1,89 @@
+-- What the node rows answer was found without a row of a manifest.
+use Rattle.std.proofs.Common.{◌≡◌, ℕ, Bool, true, false, cond, List, ◌++◌, Option, Some, None, Result, Ok, Err, refl, not}
+use Rattle.std.specs.Prelude.{codes}
+use Rattle.sugar_path.specs.Path.{Path, is_absolute}
+use Rattle.tree_core.specs.Tree.{Files}
+use Rattle.tree_core.specs.Asks.{widened}
+use Rattle.tree_core.specs.Builtins.{is_builtin}
+use Rattle.swc_loader.specs.declared.resolution.FileName.{FileName}
+use Rattle.swc_loader.specs.declared.resolution.FileName.TheVariants.{Real, Custom, Anon}
+use Rattle.swc_loader.specs.declared.resolution.Found.{Found}
+use Rattle.swc_loader.specs.declared.resolution.Resolution.{Resolution}
+use Rattle.swc_loader.specs.declared.refusal.NodeRefusal.{NodeRefusal}
+use Rattle.swc_loader.specs.declared.refusal.NodeRefusal.TheVariants.{NotFound}
+use Rattle.swc_loader.specs.declared.before.Before.{Before}
+use Rattle.swc_loader.specs.declared.before.Before.TheVariants.{Decided, Target}
+use Rattle.swc_loader.specs.declared.search.Searched.{Searched}
+use Rattle.swc_loader.specs.declared.search.Searched.TheVariants.{File, Nothing, Malformed}
+use Rattle.tree_core.specs.Rows.{end_of, or_refused}
+use Rattle.tree_core.specs.Results.{◌>>=◌}
+use Rattle.swc_loader.specs.Settings.{NodeSettings, alias_of}
+use Rattle.swc_loader.specs.Specifier.{is_relative, has_node_scheme}
+use Rattle.swc_loader.specs.Spelling.{custom}
+use Rattle.swc_loader.specs.NodeRows.{path_text, core_module, decided_or_target, before_search}
+use Rattle.swc_loader.specs.NodeOnTree.{probe_on, unless_probed_on, target_or_answer, told_on, at_root_on, relative_on, walked_on, search_on, node_on}
+
+-- a file that was found, without a row
+abbrev pub IsPlain : Option Found → Type 0
+IsPlain None = Unit {0}
+IsPlain (Some found) = found.via ≡ None
+
+abbrev pub IsPlainResult : {X : Type 0} → Result Resolution X → Type 0
+IsPlainResult (Ok resolution) = IsPlain resolution.found
+IsPlainResult (Err refusal) = Unit {0}
+
+told-plain : (t : Files) (s : NodeSettings) (target : List ℕ) (relative : Bool) (found : Searched) → IsPlainResult (told_on t s target relative found)
+told-plain t s target relative (File f) = refl
+told-plain t s target relative Nothing = tt
+told-plain t s target relative (Malformed p) = tt
+
+pub search-plain : (t : Files) (s : NodeSettings) (base target : List ℕ) → IsPlainResult (search_on t s base target)
+search-plain t s base target = by_absolute (is_absolute target)
+  where
+    by_modules : (b : Bool) → IsPlainResult (cond b (told_on t s target true (walked_on t s base target)) (Err (NotFound target)))
+    by_modules true = told-plain t s target true (walked_on t s base target)
+    by_modules false = tt
+
+    by_relative : (b : Bool) → IsPlainResult (cond b (told_on t s target (not (is_absolute base)) (relative_on t s base target)) (cond s.node_modules (told_on t s target true (walked_on t s base target)) (Err (NotFound target))))
+    by_relative true = told-plain t s target (not (is_absolute base)) (relative_on t s base target)
+    by_relative false = by_modules s.node_modules
+
+    by_absolute : (b : Bool) → IsPlainResult (cond b (told_on t s target false (at_root_on t s target)) (cond (is_relative target) (told_on t s target (not (is_absolute base)) (relative_on t s base target)) (cond s.node_modules (told_on t s target true (walked_on t s base target)) (Err (NotFound target)))))
+    by_absolute true = told-plain t s target false (at_root_on t s target)
+    by_absolute false = by_relative (is_relative target)
+
+-- what is decided before a search has no file
+abbrev pub IsPlainBefore : Before → Type 0
+IsPlainBefore (Decided resolution) = IsPlain resolution.found
+IsPlainBefore (Target target) = Unit {0}
+
+pub before-plain : (s : NodeSettings) (specifier : List ℕ) → IsPlainBefore (before_search s specifier)
+before-plain s specifier = by_scheme (has_node_scheme specifier)
+  where
+    by_builtin : (b : Bool) → IsPlainBefore (decided_or_target s specifier (cond b (Some (custom (codes "node:" ++ specifier))) None))
+    by_builtin true = tt
+    by_builtin false = tt
+
+    by_scheme : (b : Bool) → IsPlainBefore (decided_or_target s specifier (cond b (Some (custom specifier)) (cond (is_builtin specifier) (Some (custom (codes "node:" ++ specifier))) None)))
+    by_scheme true = tt
+    by_scheme false = by_builtin (is_builtin specifier)
+
+pub node-plain : (t : Files) (s : NodeSettings) (base : FileName) (specifier : List ℕ) → IsPlainResult (node_on t s base specifier)
+node-plain t s base specifier = by_probe (probe_on t s specifier)
+  where
+    by_before : (text : List ℕ) (b : Before) → IsPlainBefore b → IsPlainResult (end_of (target_or_answer b >>= λ target. or_refused (search_on t s text target)))
+    by_before text (Decided resolution) plain = plain
+    by_before text (Target target) plain = by_result (search_on t s text target) (search-plain t s text target)
+      where
+        by_result : (r : Result Resolution NodeRefusal) → IsPlainResult r → IsPlainResult (end_of (or_refused {R = Resolution} r))
+        by_result (Ok resolution) plain = plain
+        by_result (Err refusal) plain = tt
+
+    by_base : (base : FileName) → IsPlainResult (end_of (or_refused (path_text base) >>= λ importer. target_or_answer (before_search s specifier) >>= λ target. or_refused (search_on t s importer target)))
+    by_base (Real text) = by_before text (before_search s specifier) (before-plain s specifier)
+    by_base (Custom name) = tt
+    by_base Anon = tt
+
+    by_probe : (found : Option Path) → IsPlainResult (end_of (unless_probed_on t s specifier found >>= λ unanswered. or_refused (path_text base) >>= λ importer. target_or_answer (before_search s unanswered) >>= λ target. or_refused (search_on t s importer target)))
+    by_probe (Some f) = refl
+    by_probe None = by_base base

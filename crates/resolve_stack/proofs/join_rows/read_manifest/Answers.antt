@@ -1,0 +1,21 @@
+use Rattle.std.proofs.Common.{Err, refl}
+use Rattle.tree_core.proofs.Asking.{asks_then, asks_fails, asks_decided}
+use Rattle.resolve_stack.specs.Rows.{read_manifest}
+use Rattle.resolve_stack.proofs.join_rows.read_manifest.Goals as goal
+
+pub returns-in-Ok-clause-asks : goal.returns-in-Ok-clause-asks
+unfolding read_manifest
+returns-in-Ok-clause-asks g c = asks_then _ c.in-Ok.ensures.asks (asks_decided _ c.without_pattern.ensures.decided)
+
+pub returns-in-Err-Refused-clause-asks : goal.returns-in-Err-Refused-clause-asks
+unfolding read_manifest
+returns-in-Err-Refused-clause-asks g c =
+    asks_then _ (rw c.in-Err-Refused.field-0-is at c.in-Err-Refused.ensures.asks) (asks_decided (Err c.failed_hydration.result) c.failed_hydration.ensures)
+
+pub returns-in-Err-TreeFault-clause-asks : goal.returns-in-Err-TreeFault-clause-asks
+unfolding read_manifest
+returns-in-Err-TreeFault-clause-asks g c = asks_fails _ _ refl (rw c.in-Err-TreeFault.field-0-is at c.in-Err-TreeFault.ensures.asks)
+
+pub returns-in-Err-NoMemory-clause-asks : goal.returns-in-Err-NoMemory-clause-asks
+unfolding read_manifest
+returns-in-Err-NoMemory-clause-asks g c = asks_fails _ _ refl (rw c.in-Err-NoMemory.field-0-is at c.in-Err-NoMemory.ensures.asks)
