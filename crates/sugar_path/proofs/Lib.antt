@@ -17,3 +17,4 @@ pub mod LentWays
 pub mod Lanes
 pub mod PlaceParts
 pub mod SharedTexts
+pub mod Upwards

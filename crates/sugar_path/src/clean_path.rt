@@ -1,5 +1,5 @@
 // A clean absolute path, seen as the list of its names, the last one first.
-ghost use Rattle.std.specs.Prelude.{◌≡◌, [], ◌∷◌, IfOk, IsTrue, MatchOption, OnOk, OnErr, cond, not};
+ghost use Rattle.std.specs.Prelude.{◌≡◌, [], ◌∷◌, ◌++◌, IfOk, IsTrue, MatchOption, OnOk, OnErr, cond, not};
 ghost use Rattle.sugar_path.specs.Path.{IsName, IsPath, IsCleanPath, has_no_slash, steps, text_of, parent, is_root, is_absolute, by_part, by_parts, parts, path_in, path_eq, clean, below};
 ghost use Rattle.std.specs.Cmp.{partial_equiv_from_equiv};
 ghost use Rattle.std.specs.Hash as fed;
@@ -160,6 +160,17 @@ impl CleanPath {
         match steps.strip_prefix(location.steps.as_str().as_bytes()) {
             None => false,
             Some(rest) => rest.is_empty() || rest[0] == b'/',
+        }
+    }
+
+    // The names behind a folder that the path is or lies below, each behind a `/`.
+    pub(crate) fn steps_below(&self, folder: &CleanPath) -> &str
+        requires { IsTrue (below self.now folder.now) }
+        ensures { steps self.now ≡ steps folder.now ++ result.now }
+    {
+        match self.steps.as_str().strip_prefix(folder.steps.as_str()) {
+            None => "",
+            Some(behind) => behind,
         }
     }
 

@@ -3,6 +3,7 @@
 
 mod clean;
 mod clean_path;
+mod clean_relative;
 mod component;
 mod faults;
 mod joined;

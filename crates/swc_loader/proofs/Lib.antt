@@ -2,6 +2,8 @@ pub mod Naming
 pub mod Firsts
 pub mod Shapes
 pub mod Searches
+pub mod Places
+pub mod Walks
 pub mod WalkLaws
 pub mod Locations
 pub mod NodeOrders

@@ -44,6 +44,5 @@ fn canonical<R: Asker>(alloc: Global, tree: &mut R, file: &CleanPath) -> Result<
 fn relative_path(alloc: Global, cwd: &CleanPath, file: &CleanPath) -> Result<Text, AllocError>
     ensures { IfOk result (λ t. t ≡ from_working_folder cwd.now file.now) }
 {
-    let _both = (alloc, cwd, file);
-    unreachable!()
+    file.relative_to(alloc, cwd)
 }
