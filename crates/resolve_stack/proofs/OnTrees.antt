@@ -23,7 +23,7 @@ use Rattle.swc_loader.specs.Spelling.{answered}
 use Rattle.swc_loader.specs.NodeRows.{search}
 use Rattle.swc_loader.specs.NodeOrder.{node}
 use Rattle.swc_loader.specs.NodeOnTree.{answer_on, answer_asks, search_on, search_asks, node_on, node_asks}
-use Rattle.swc_loader.proofs.NodeOrders.{node_on_tree, search_on_tree, answer-answered, asked-answered, answer-target, asked-target}
+use Rattle.swc_loader.proofs.NodeLaws.{node_on_tree, search_on_tree, answer-answered, asked-answered, answer-target, asked-target}
 use Rattle.swc_loader.proofs.Locations.{located_on_tree}
 use Rattle.resolve_stack.specs.declared.verdict.JoinRefusal.{JoinRefusal}
 use Rattle.resolve_stack.specs.Settings.{ProjectSettings, path_of}

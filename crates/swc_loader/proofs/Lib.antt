@@ -7,3 +7,4 @@ pub mod Walks
 pub mod WalkLaws
 pub mod Locations
 pub mod NodeOrders
+pub mod NodeLaws

@@ -1,10 +1,14 @@
 -- The way up through folders, one at a time.
-use Rattle.std.proofs.Common.{◌≡◌, ◌<◌, Bool, true, false, not, List, [], ◌∷◌, Option, length, refl, arith}
+use Rattle.std.proofs.Common.{◌≡◌, ◌<◌, ℕ, Bool, true, false, not, List, [], ◌∷◌, Option, Result, length, refl, subst, arith}
 use Rattle.sugar_path.specs.Path.{Path, parent, is_root, up}
+use Rattle.tree_core.specs.declared.tree.ReadError.{ReadError}
+use Rattle.tree_core.specs.Asks.{Asking, Asks}
 use Rattle.tree_core.specs.Plan.{Plan}
+use Rattle.swc_loader.specs.declared.target.TargetEnv.{TargetEnv}
+use Rattle.swc_loader.specs.Conventions.{Conventions}
 use Rattle.swc_loader.specs.declared.search.Searched.{Searched}
 use Rattle.swc_loader.specs.declared.search.Searched.TheVariants.{File, Nothing, Malformed}
-use Rattle.swc_loader.specs.Walk.{or_higher}
+use Rattle.swc_loader.specs.Walk.{or_higher, walk}
 
 -- where there is a folder above, the way up goes on from it
 pub up-above : (d : Path) (went : Bool) → went ≡ not (is_root d) → went ≡ true → up d ≡ parent d ∷ up (parent d)
@@ -24,3 +28,10 @@ pub higher-other : (found : Searched) (next : Plan (Option Path)) → ((f : Path
 higher-other (File f) next other = absurd (other f refl)
 higher-other Nothing next other = refl
 higher-other (Malformed p) next other = refl
+
+-- a call by the walk, where the code has read the settings itself
+pub asks_walk : {old new : Asking} {result : Result (Option Path) ReadError} {c c' : Conventions} {env env' : TargetEnv} (target : List ℕ) (ds : List Path) → c' ≡ c → env' ≡ env → Asks old new result (walk c' env' target ds) → Asks old new result (walk c env target ds)
+asks_walk {old = old} {new = new} {result = result} {c = c} {env' = env'} target ds conventions env h =
+    let C : Conventions → Type 0 = λ x. Asks old new result (walk x env' target ds) in
+    let E : TargetEnv → Type 0 = λ x. Asks old new result (walk c x target ds) in
+    subst E env (subst C conventions h)

@@ -3,9 +3,7 @@ mod node_rows;
 
 use crate::located::search_at;
 use crate::spelling::spelled_name;
-use crate::{
-    Conventions, FileName, Found, NodeRefusal, Placed, Resolution, TargetEnv, Via,
-};
+use crate::{Conventions, FileName, Found, NodeRefusal, Placed, Resolution, TargetEnv, Via};
 use indexmap::IndexMap;
 use std::alloc::{AllocError, Global};
 use std::marker::Model;

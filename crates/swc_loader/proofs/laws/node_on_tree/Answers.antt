@@ -1,4 +1,4 @@
-use Rattle.swc_loader.proofs.NodeOrders.{node_on_tree as law}
+use Rattle.swc_loader.proofs.NodeLaws.{node_on_tree as law}
 use Rattle.swc_loader.proofs.laws.node_on_tree.Goals as goal
 
 pub returns : goal.returns

@@ -1,4 +1,4 @@
-use Rattle.swc_loader.proofs.NodeOrders.{search_on_tree as law}
+use Rattle.swc_loader.proofs.NodeLaws.{search_on_tree as law}
 use Rattle.swc_loader.proofs.laws.search_on_tree.Goals as goal
 
 pub returns : goal.returns

@@ -1,0 +1,31 @@
+use Rattle.std.proofs.Common.{◌≡◌, ◌∙◌, ap, lit<}
+use Rattle.sugar_path.specs.Path.{is_absolute}
+use Rattle.tree_core.specs.Resolving.{resolving}
+use Rattle.tree_core.proofs.Asking.{asks_then, asks_fails_in}
+use Rattle.swc_loader.specs.Settings.{NodeSettings}
+use Rattle.swc_loader.specs.NodeRows.{behind_base}
+use Rattle.swc_loader.proofs.Places.{asks_place}
+use Rattle.swc_loader.proofs.resolver.NodeModulesResolver.search_behind.Goals as goal
+
+pub returns-in_err-folder : goal.returns-in_err-folder
+unfolding behind_base
+returns-in_err-folder g c = asks_fails_in resolving _ _ c.from_residual.ensures.1 c.in_err-folder.ensures
+
+pub returns-in_err-found : goal.returns-in_err-found
+unfolding behind_base
+returns-in_err-found g c =
+    let conventions = ap (λ (s : NodeSettings). s.conventions) c.self.view_is in
+    let target = ap (λ (s : NodeSettings). s.target) c.self.view_is in
+    asks_then _ c.in_ok-folder.ensures
+    (asks_fails_in resolving _ _ c.from_residual-in_err-found.ensures.1
+    (asks_place conventions target (c.as_str-2.ensures.value ∙ c.in_ok-text.ensures) (c.as_str.ensures.value ∙ c.in_ok-text.ensures) c.root.ensures c.in_ok-at.ensures c.in_err-found.ensures))
+
+pub returns : goal.returns
+unfolding behind_base
+returns g c =
+    let conventions = ap (λ (s : NodeSettings). s.conventions) c.self.view_is in
+    let target = ap (λ (s : NodeSettings). s.target) c.self.view_is in
+    let absolute : c.starts_with.result ≡ is_absolute c.args.base.now = c.starts_with.ensures.byte (lit< tt) (lit< tt) (λ w o h. h) in
+    asks_then _ c.in_ok-folder.ensures
+    (asks_then _ (asks_place conventions target (c.as_str-2.ensures.value ∙ c.in_ok-text.ensures) (c.as_str.ensures.value ∙ c.in_ok-text.ensures) c.root.ensures c.in_ok-at.ensures c.in_ok-found.ensures)
+    (rw absolute at c.told.ensures))

@@ -1,0 +1,33 @@
+use Rattle.std.proofs.Common.{◌∷◌, true, ap}
+use Rattle.sugar_path.specs.Path.{up}
+use Rattle.tree_core.specs.Resolving.{resolving}
+use Rattle.tree_core.proofs.Asking.{asks_then, asks_as, asks_fails_in}
+use Rattle.swc_loader.specs.Settings.{NodeSettings}
+use Rattle.swc_loader.specs.Search.{found_or_nothing}
+use Rattle.swc_loader.specs.NodeRows.{told, walked}
+use Rattle.swc_loader.proofs.Walks.{asks_walk}
+use Rattle.swc_loader.proofs.resolver.NodeModulesResolver.search_modules.Goals as goal
+use Rattle.swc_loader.proofs.resolver.NodeModulesResolver.search_modules.Goals.{in-Some, in-None}
+
+pub returns-in_err-folder : goal.returns-in_err-folder
+unfolding walked
+returns-in_err-folder g c = asks_fails_in resolving _ _ c.from_residual.ensures.1 c.in_err-folder.ensures
+
+pub returns-in_err-file : goal.returns-in_err-file
+unfolding walked
+returns-in_err-file g c =
+    let conventions = ap (λ (s : NodeSettings). s.conventions) c.self.view_is in
+    let target = ap (λ (s : NodeSettings). s.target) c.self.view_is in
+    asks_then _ c.in_ok-folder.ensures
+    (asks_fails_in resolving (λ found. told c.args.self.now c.args.target.now true (found_or_nothing found)) _ c.from_residual-in_err-file.ensures.1 (asks_walk c.args.target.now (c.in_ok-folder.folder ∷ up c.in_ok-folder.folder) conventions target c.in_err-file.ensures))
+
+pub returns : goal.returns
+unfolding walked
+returns g c =
+    let conventions = ap (λ (s : NodeSettings). s.conventions) c.self.view_is in
+    let target = ap (λ (s : NodeSettings). s.target) c.self.view_is in
+    asks_then _ c.in_ok-folder.ensures
+    (elim c.match-branch-3.branch [
+      | in-Some w ↦ asks_as (λ found. told c.args.self.now c.args.target.now true (found_or_nothing found)) (asks_walk c.args.target.now (c.in_ok-folder.folder ∷ up c.in_ok-folder.folder) conventions target c.in_ok-file.ensures) w.in-Some.is (rw w.found-is at c.told.ensures)
+      | in-None w ↦ asks_as (λ found. told c.args.self.now c.args.target.now true (found_or_nothing found)) (asks_walk c.args.target.now (c.in_ok-folder.folder ∷ up c.in_ok-folder.folder) conventions target c.in_ok-file.ensures) w.in-None.is (rw w.found-is at c.told.ensures)
+    ])
