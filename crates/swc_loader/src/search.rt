@@ -70,7 +70,7 @@ fn file_of<R: Asker>(
     ensures { Asks (R.asking tree.old) (R.asking tree.new) result
         (first_file (files_at conventions.now at.now text.now)) }
 {
-    let shape = shape_of(alloc, text)?;
+    let shape = shape_of(text);
     if !shape.named {
         return Ok(None);
     }

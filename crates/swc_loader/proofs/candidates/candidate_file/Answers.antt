@@ -1,4 +1,3 @@
-use Rattle.std.proofs.Common.{◌≡◌, true, List, ℕ}
 use Rattle.swc_loader.proofs.Naming.{no_slash-stem}
 use Rattle.swc_loader.proofs.candidates.candidate_file.Goals as goal
 
