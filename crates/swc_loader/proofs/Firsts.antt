@@ -1,5 +1,5 @@
 -- The first file of lists of candidates, as one plan after the other.
-use Rattle.std.proofs.Common.{◌≡◌, ℕ, zero, suc, ◌+◌, ◌<◌, Bool, true, false, cond, List, [], ◌∷◌, ◌++◌, map, length, get_or, flat_map, IsTrue, drop, subst, Option, Some, None, refl, ◌∙◌, ap, Bor, arith}
+use Rattle.std.proofs.Common.{◌≡◌, ℕ, zero, suc, ◌+◌, ◌<◌, Bool, true, false, cond, List, [], ◌∷◌, ◌++◌, map, length, get_or, flat_map, IsTrue, drop, subst, Option, Some, None, refl, sym, ◌∙◌, ap, append_assoc, Bor, arith}
 use Rattle.std.specs.List.{list_all}
 use Rattle.std.proofs.lemmas.List.{get_or_default, map-append}
 use Rattle.sugar_path.specs.Path.{Path, text_of}
@@ -44,8 +44,8 @@ passes_at test (x ∷ xs) (suc i) d lt h = passes_at test xs i d (omega arith) (
 pub first_file-two : (d : Path) (a b : List (List ℕ)) → first_file (in_folder d (a ++ b)) ≡ first_file (in_folder d a) >>= or_plan (first_file (in_folder d b))
 first_file-two d a b = ap first_file (map-append (λ m. m ∷ d) a b) ∙ first_file-append (in_folder d a) (in_folder d b)
 
-pub first_file-three : (d : Path) (a b c : List (List ℕ)) → first_file (in_folder d (a ++ (b ++ c))) ≡ first_file (in_folder d a) >>= or_plan (first_file (in_folder d b) >>= or_plan (first_file (in_folder d c)))
-first_file-three d a b c = first_file-two d a (b ++ c) ∙ ap (λ next. first_file (in_folder d a) >>= or_plan next) (first_file-two d b c)
+pub first_file-three : (d : Path) (a b c : List (List ℕ)) → first_file (in_folder d (a ++ (b ++ c))) ≡ first_file (in_folder d (a ++ b)) >>= or_plan (first_file (in_folder d c))
+first_file-three d a b c = ap (λ names. first_file (in_folder d names)) (sym (append_assoc a b c)) ∙ first_file-two d (a ++ b) c
 
 -- each name with each ending, in a folder
 abbrev pub with_names : Path → List (List ℕ) → List (Bor (List ℕ)) → Plan (Option Path)

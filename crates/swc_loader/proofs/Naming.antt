@@ -1,12 +1,12 @@
 -- Names with endings are names, and what the last dot of a name cuts.
-use Rattle.std.proofs.Common.{◌≡◌, ◌≢◌, ◌==◌, ◌&&◌, ◌<◌, ◌≤◌, ◌+◌, ◌-◌, ◌⊎◌, inl, inr, Option, Some, ℕ, zero, suc, Bool, true, false, not, cond, IsTrue, List, [], ◌∷◌, ◌++◌, length, get_or, take, drop, map, Bor, bytes_eq, refl, sym, ap, ◌∙◌, subst, arith, eqb-true, append_assoc}
-use Rattle.std.specs.List.{list_any, list_all, slice_range, suffix_len, before_last, after_last}
+use Rattle.std.proofs.Common.{◌≡◌, ◌≢◌, ◌==◌, ◌&&◌, ◌<◌, ◌+◌, ◌-◌, inl, inr, Some, ℕ, zero, suc, Bool, true, false, not, cond, IsTrue, List, [], ◌∷◌, ◌++◌, length, get_or, take, drop, map, Bor, bytes_eq, refl, sym, ap, ◌∙◌, subst, arith, eqb-true, append_assoc}
+use Rattle.std.specs.List.{list_any, list_all, slice_range, suffix_len}
 use Rattle.std.specs.Map.{lookup}
 use Rattle.std.proofs.lemmas.Bool.Decides.{eqb_tells}
 use Rattle.std.proofs.lemmas.List.{at_drop_more}
 use Rattle.std.proofs.lemmas.List.Folds.{list_any_at}
 use Rattle.std.proofs.lemmas.List.Sums.{suffix_len_is}
-use Rattle.sugar_path.specs.Path.{Path, has_no_slash, is_name, IsName, IsPath, is_root, steps, text_of, with_slash}
+use Rattle.sugar_path.specs.Path.{Path, has_no_slash, IsName, IsPath, is_root, steps, text_of, with_slash}
 use Rattle.sugar_path.proofs.RouteTexts.{with_slash-name}
 use Rattle.sugar_path.proofs.Bools.{and_left, and_right}
 use Rattle.swc_loader.specs.Endings.{is_ending, are_endings, all_are_endings, AreEndings}
@@ -140,9 +140,12 @@ with_slash-text (n ∷ p) h =
     let P : List ℕ → Type 0 = λ t. with_slash t ≡ t ++ 47 ∷ [] in
     subst P (append_assoc (steps p) (47 ∷ []) n) (with_slash-name (steps p ++ 47 ∷ []) n h.0)
 
+dot_at : (n e : List ℕ) → is_ending e ≡ true → get_or (n ++ e) (length n) 0 ≡ 46
+dot_at [] [] h = cc
+dot_at [] (a ∷ []) h = cc
+dot_at [] (a ∷ b ∷ cs) h = eqb-true a 46 (and_left (a == 46) _ (and_left ((a == 46) && not (b == 46)) (has_no_slash (b ∷ cs)) h))
+dot_at (c ∷ cs) e h = dot_at cs e h
+
 -- behind a base stands the dot of its ending
-pub dot-behind : (n e : List ℕ) → is_ending e ≡ true → get_or (n ++ e) (length n) 0 ≡ 46
-dot-behind [] [] h = cc
-dot-behind [] (a ∷ []) h = cc
-dot-behind [] (a ∷ b ∷ cs) h = eqb-true a 46 (and_left (a == 46) _ (and_left ((a == 46) && not (b == 46)) (has_no_slash (b ∷ cs)) h))
-dot-behind (c ∷ cs) e h = dot-behind cs e h
+pub dot-behind : (n e whole : List ℕ) → whole ≡ n ++ e → is_ending e ≡ true → get_or whole (length n) 0 ≡ 46
+dot-behind n e whole is h = ap (λ t. get_or t (length n) 0) is ∙ dot_at n e h

@@ -1,17 +1,15 @@
 -- The plans of the searches come to what the tree has, and put the questions that the laws say.
 use Rattle.std.proofs.Common.{◌≡◌, ℕ, Bool, true, false, cond, List, [], ◌∷◌, ◌++◌, Option, Some, None, refl, ap, ◌∙◌}
 use Rattle.sugar_path.specs.Path.{Path, clean, text_of}
-use Rattle.tree_core.specs.declared.question.Question.{Question}
 use Rattle.tree_core.specs.declared.question.Question.TheVariants as question
 use Rattle.tree_core.specs.Tree.{Files}
 use Rattle.tree_core.specs.First.{is_key, first_key, up_to_first}
-use Rattle.tree_core.specs.Plan.{Plan, Done, answer, asked, ◌>>=◌, file, read, first_file}
+use Rattle.tree_core.specs.Plan.{Done, answer, asked, file, read, first_file}
 use Rattle.tree_core.proofs.Asking.{answer-then, asked-then, answer-done, asked-done}
 use Rattle.tree_core.proofs.Firsts.{answer-file, asked-file, answer-read, asked-read, answer-first_file, asked-first_file}
 use Rattle.swc_loader.specs.declared.target.TargetEnv.{TargetEnv}
 use Rattle.swc_loader.specs.declared.entry.PackageEntry.{PackageEntry}
 use Rattle.swc_loader.specs.declared.entry.PackageEntry.TheVariants as entry
-use Rattle.swc_loader.specs.declared.search.Searched.{Searched}
 use Rattle.swc_loader.specs.declared.search.Searched.TheVariants.{File, Malformed}
 use Rattle.swc_loader.specs.Conventions.{Conventions}
 use Rattle.swc_loader.specs.Candidates.{files}

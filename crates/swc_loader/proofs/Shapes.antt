@@ -1,6 +1,5 @@
 -- The shape of a text's parts, one more at a time.
-use Rattle.std.proofs.Common.{◌≡◌, ℕ, Bool, true, false, cond, List, [], ◌∷◌, ◌++◌, Option, Some, None, refl, sym, ap, ◌∙◌, not, ◌&&◌, bytes_eq, map, Bor, zero, suc, ◌+◌, ◌<◌, ◌≤◌, length, take, get_or, subst, add-one, arith, take_all}
-use Rattle.std.proofs.lemmas.List.{length-map}
+use Rattle.std.proofs.Common.{◌≡◌, ℕ, Bool, true, false, cond, List, [], ◌∷◌, ◌++◌, Option, Some, None, refl, sym, ap, ◌∙◌, map, Bor}
 use Rattle.std.specs.List.{filter, last_or}
 use Rattle.swc_loader.specs.Candidates.{is_step, is_named_by, is_closed_by}
 
@@ -35,12 +34,3 @@ one_more_part n c parts x c' n' h closed named = record { named = by_step (is_st
     by_step : (b : Bool) → is_step x ≡ b → n' ≡ is_named_by (last_or None (filter is_step (parts ++ x ∷ [])))
     by_step true is = rw (filter-one_more parts x true is, last_or-one_more {A = List ℕ} None (filter is_step parts) x) ((rw is at named) ∙ (rw is at closed))
     by_step false is = rw (filter-one_more parts x false is) ((rw is at named) ∙ h.named)
-
-pub texts_more : (xs : List (Bor (List ℕ))) (i : ℕ) (d : Bor (List ℕ)) → i < length xs → take (i + 1) (texts_of xs) ≡ take i (texts_of xs) ++ (get_or xs i d).now ∷ []
-texts_more [] i d lt = absurd (omega arith)
-texts_more (x ∷ xs) zero d lt = refl
-texts_more (x ∷ xs) (suc i) d lt = let P : ℕ → Type 0 = λ n. take n (texts_of (x ∷ xs)) ≡ take (suc i) (texts_of (x ∷ xs)) ++ (get_or (x ∷ xs) (suc i) d).now ∷ [] in
-    subst P (sym (add-one (suc i))) (ap (λ ys. x.now ∷ ys) (subst (λ (n : ℕ). take n (texts_of xs) ≡ take i (texts_of xs) ++ (get_or xs i d).now ∷ []) (add-one i) (texts_more xs i d (omega arith))))
-
-pub texts_all : (xs : List (Bor (List ℕ))) (i : ℕ) → length xs ≤ i → take i (texts_of xs) ≡ texts_of xs
-texts_all xs i le = take_all i (texts_of xs) (omega (arith, length-map xs (λ (x : Bor (List ℕ)). x.now)))

@@ -1,13 +1,13 @@
 // File candidates: the paths at which the text of a specifier may be a file, tried one after the other.
-ghost use Rattle.std.specs.Prelude.{◌≡◌, ◌++◌, ◌∷◌, ◌&&◌, Bool, List, ℕ, true, false, map, None, MatchOption, IsTrue, IfOk};
+ghost use Rattle.std.specs.Prelude.{◌≡◌, ◌++◌, ◌∷◌, true, false, map, MatchOption, IsTrue};
 ghost use Rattle.sugar_path.specs.Path.{IsName, has_no_slash};
 ghost use Rattle.tree_core.specs.Asks.{Asks};
 ghost use Rattle.tree_core.specs.Plan.{first_file};
-ghost use Rattle.swc_loader.specs.Candidates.{has_extension, extension, stem, sources_of, with_endings, itself, names_with_extension, names_without_extension, in_folder, candidates_at};
+ghost use Rattle.swc_loader.specs.Candidates.{has_extension, extension, stem, with_endings, itself, in_folder, candidates_at};
 ghost use Rattle.swc_loader.specs.Endings.{is_ending, AreEndings};
 
 use crate::Conventions;
-use std::alloc::{AllocError, Global};
+use std::alloc::Global;
 use sugar_path::CleanPath;
 use tree_core::{Asker, ReadError};
 
@@ -26,48 +26,23 @@ pub(crate) fn candidate_file<R: Asker>(
 {
     match split_extension(name) {
         Some((stem, extension)) => {
-            with_extension(
-                alloc,
-                tree,
-                conventions,
-                folder,
-                name,
-                closed,
-                stem,
-                extension,
-            )
+            if let Some(file) = itself_or_ending(alloc, tree, conventions, folder, name, closed)? {
+                return Ok(Some(file));
+            }
+            first_with_ending(alloc, tree, folder, stem, conventions.sources_of(extension))
         }
-        None => without_extension(alloc, tree, conventions, folder, name, closed),
+        None => {
+            let first = conventions.first_endings();
+            if let Some(file) = first_with_ending(alloc, tree, folder, name, first)? {
+                return Ok(Some(file));
+            }
+            itself_or_ending(alloc, tree, conventions, folder, name, closed)
+        }
     }
 }
 
-// The candidates of a name that has an extension.
-fn with_extension<R: Asker>(
-    alloc: Global,
-    tree: &mut R,
-    conventions: &Conventions,
-    folder: &CleanPath,
-    name: &str,
-    closed: bool,
-    stem: &str,
-    extension: &str,
-) -> Result<Option<CleanPath>, ReadError>
-    requires name { IsName name.now }
-    requires stem { IsTrue (has_no_slash stem.now) }
-    ensures { Asks (R.asking tree.old) (R.asking tree.new) result (first_file (in_folder folder.now
-        (names_with_extension conventions.now name.now closed stem.now extension.now))) }
-{
-    if let Some(file) = itself_if_closed(alloc, tree, folder, name, closed)? {
-        return Ok(Some(file));
-    }
-    if let Some(file) = first_with_ending(alloc, tree, folder, name, conventions.endings())? {
-        return Ok(Some(file));
-    }
-    first_with_ending(alloc, tree, folder, stem, conventions.sources_of(extension))
-}
-
-// The candidates of a name without an extension.
-fn without_extension<R: Asker>(
+// The name itself, where the text is closed, and then the name with each ending.
+fn itself_or_ending<R: Asker>(
     alloc: Global,
     tree: &mut R,
     conventions: &Conventions,
@@ -76,12 +51,9 @@ fn without_extension<R: Asker>(
     closed: bool,
 ) -> Result<Option<CleanPath>, ReadError>
     requires { IsName name.now }
-    ensures { Asks (R.asking tree.old) (R.asking tree.new) result (first_file
-        (in_folder folder.now (names_without_extension conventions.now name.now closed))) }
+    ensures { Asks (R.asking tree.old) (R.asking tree.new) result (first_file (in_folder folder.now
+        (itself closed name.now ++ with_endings name.now conventions.now.endings))) }
 {
-    if let Some(file) = first_with_ending(alloc, tree, folder, name, conventions.first_endings())? {
-        return Ok(Some(file));
-    }
     if let Some(file) = itself_if_closed(alloc, tree, folder, name, closed)? {
         return Ok(Some(file));
     }

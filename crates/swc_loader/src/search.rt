@@ -1,10 +1,10 @@
 // The search of a folder, and of the place that a text names.
-ghost use Rattle.std.specs.Prelude.{◌≡◌, ◌++◌, IfOk, string_bytes};
-ghost use Rattle.sugar_path.specs.Path.{clean, join, text_of};
+ghost use Rattle.std.specs.Prelude.{◌≡◌, IfOk, string_bytes};
+ghost use Rattle.sugar_path.specs.Path.{join, text_of};
 ghost use Rattle.tree_core.specs.Asks.{Asks};
 ghost use Rattle.tree_core.specs.Plan.{first_file};
 ghost use Rattle.swc_loader.specs.Candidates.{files_at};
-ghost use Rattle.swc_loader.specs.Search.{package_file, index_files, places_at, by_entry, entry_places, packaged, place_at, first_found};
+ghost use Rattle.swc_loader.specs.Search.{package_file, index_files, places_at, entry_places, packaged, place_at, first_found};
 ghost use Rattle.swc_loader.specs.Search.{folder as folder_plan};
 
 use crate::candidates::{candidate_file, first_with_ending};
@@ -70,7 +70,7 @@ fn file_of<R: Asker>(
     ensures { Asks (R.asking tree.old) (R.asking tree.new) result
         (first_file (files_at conventions.now at.now text.now)) }
 {
-    let shape = shape_of(alloc, text)?;
+    let shape = shape_of(text);
     if !shape.named {
         return Ok(None);
     }

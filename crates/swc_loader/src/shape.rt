@@ -1,10 +1,6 @@
 // Whether a text ends in a name, and whether anything stands behind that name.
-ghost use Rattle.std.specs.Prelude.{◌≡◌, IfOk, List, ℕ, map};
-ghost use Rattle.sugar_path.specs.Path.{parts};
+ghost use Rattle.std.specs.Prelude.{◌≡◌, Some};
 ghost use Rattle.swc_loader.specs.Candidates.{is_step, is_closed_by, is_named, is_closed};
-ghost use Rattle.std.specs.Prelude.{Some};
-
-use std::alloc::{AllocError, Global};
 
 // How a text ends.
 #[derive(Clone, Copy, Debug, PartialEq, Eq)]
@@ -16,27 +12,19 @@ pub(crate) struct Shape {
 }
 
 // The shape of a text.
-pub(crate) fn shape_of(alloc: Global, text: &str) -> Result<Shape, AllocError>
-    ensures named { IfOk result (λ s. s.named ≡ is_named text.now) }
-    ensures closed { IfOk result (λ s. s.closed ≡ is_closed text.now) }
+pub(crate) fn shape_of(text: &str) -> Shape
+    ensures named { result.named ≡ is_named text.now }
+    ensures closed { result.closed ≡ is_closed text.now }
 {
-    let parts = parts_of(alloc, text)?;
     let mut named = false;
     let mut closed = false;
-    for part in parts.as_slice() {
+    for part in text.split('/') {
         closed = is_name(part);
         if is_step(part) {
             named = closed;
         }
     }
-    Ok(Shape { named, closed })
-}
-
-// The parts of a text between its slashes.
-fn parts_of<'a>(alloc: Global, text: &'a str) -> Result<Vec<&'a str>, AllocError>
-    ensures { IfOk result (λ v. map (λ x. x.now) v.items ≡ parts text.now) }
-{
-    text.split('/').collect(alloc)
+    Shape { named, closed }
 }
 
 // A part that is neither empty nor `.`.

@@ -1,4 +1,4 @@
-use Rattle.std.proofs.Common.{◌≡◌, ◌++◌, ◌∷◌, [], List, ℕ, Bor, Some, length, get_or, take, string_bytes, refl, sym, ap, ◌∙◌, arith}
+use Rattle.std.proofs.Common.{◌≡◌, ◌++◌, ◌∷◌, [], List, ℕ, Some, length, get_or, take, string_bytes, refl, ap, ◌∙◌, arith}
 use Rattle.std.proofs.lemmas.List.{length-append}
 use Rattle.std.proofs.Math.Seq.{take-append_seam}
 use Rattle.sugar_path.specs.Path.{Path, parent}
@@ -8,9 +8,13 @@ use Rattle.swc_loader.proofs.Naming.{is_name-ending, dot-behind}
 use Rattle.swc_loader.proofs.Firsts.{with_each, same_at, passes_at}
 use Rattle.swc_loader.proofs.candidates.first_with_ending.Goals as goal
 
--- the name with an ending, where the buffer held its base
+-- the base with an ending, where the buffer held the base
+pushed : (base held name e : List ℕ) → name ≡ held ++ e → held ≡ base → name ≡ base ++ e
+pushed base held name e is old = is ∙ ap (λ s. s ++ e) old
+
+-- the same of a text that is the buffer's
 with_ending : (base now held name e : List ℕ) → now ≡ name → name ≡ held ++ e → held ≡ base → now ≡ base ++ e
-with_ending base now held name e is pushed old = is ∙ pushed ∙ ap (λ s. s ++ e) old
+with_ending base now held name e same is old = same ∙ pushed base held name e is old
 
 -- the candidate, where the buffer held its folder
 child : (folder held : Path) (name now : List ℕ) (p : Path) → p ≡ now ∷ held → now ≡ name → held ≡ folder → p ≡ name ∷ folder
@@ -52,17 +56,16 @@ returns-then-branch g c =
 pub truncate-requires : goal.truncate-requires
 truncate-requires g c =
     let e = get_or c.args.endings.now c.loop-ending.ending-index (record { ref_ptr = (0, 0); now = [] }) in
-    let whole : string_bytes c.push_str.new.self ≡ c.args.base.now ++ e.now = c.in_ok-push_str.ensures.bytes ∙ ap (λ s. s ++ e.now) c.loop-ending.invariant.base in
-    let dot = dot-behind c.args.base.now e.now (passes_at is_ending c.args.endings.now c.loop-ending.ending-index (record { ref_ptr = (0, 0); now = [] }) c.loop-ending-test.true c.requires.endings) in
-    let first : get_or (string_bytes c.push_str.new.self) (length c.args.base.now) 0 ≡ 46 = ap (λ s. get_or s (length c.args.base.now) 0) whole ∙ dot in
-    λ _. (omega (arith, ap length whole, length-append c.args.base.now e.now), λ _ _ high. absurd (omega (arith, first)))
+    let whole : string_bytes c.push_str.new.self ≡ c.args.base.now ++ e.now = pushed c.args.base.now (string_bytes c.loop-ending.name) (string_bytes c.push_str.new.self) e.now c.in_ok-push_str.ensures.bytes c.loop-ending.invariant.base in
+    let dot = dot-behind c.args.base.now e.now (string_bytes c.push_str.new.self) whole (passes_at is_ending c.args.endings.now c.loop-ending.ending-index (record { ref_ptr = (0, 0); now = [] }) c.loop-ending-test.true c.requires.endings) in
+    λ _. (omega (arith, ap length whole, length-append c.args.base.now e.now), λ _ _ high. absurd (omega (arith, dot)))
 
 pub loop-ending-preserved : goal.loop-ending-preserved
 loop-ending-preserved g c =
     let e = get_or c.args.endings.now c.loop-ending.ending-index (record { ref_ptr = (0, 0); now = [] }) in
     let h = leads_item (with_each c.args.folder.now c.args.base.now) c.args.endings.now c.loop-ending.ending-index _ c.loop-ending.invariant.left c.loop-ending-test.true (same_at c.args.endings.now c.loop-ending.ending-index (record { ref_ptr = (0, 0); now = [] }) c.loop-ending-test.true) in
     let at = child c.args.folder.now c.loop-ending.candidate _ _ _ c.in_ok-go_down.ensures.ok (with_ending c.args.base.now _ _ _ (get_or c.args.endings.now c.loop-ending.ending-index (record { ref_ptr = (0, 0); now = [] })).now c.as_str.ensures.value c.in_ok-push_str.ensures.bytes c.loop-ending.invariant.base) c.loop-ending.invariant.folder in
-    let whole : string_bytes c.push_str.new.self ≡ c.args.base.now ++ e.now = c.in_ok-push_str.ensures.bytes ∙ ap (λ s. s ++ e.now) c.loop-ending.invariant.base in
+    let whole : string_bytes c.push_str.new.self ≡ c.args.base.now ++ e.now = pushed c.args.base.now (string_bytes c.loop-ending.name) (string_bytes c.push_str.new.self) e.now c.in_ok-push_str.ensures.bytes c.loop-ending.invariant.base in
     record {
       folder = c.go_up-below.ensures.up ∙ ap parent at;
       base = c.truncate.ensures.bytes ∙ ap (λ s. take (length c.args.base.now) s) whole ∙ take-append_seam c.args.base.now e.now;

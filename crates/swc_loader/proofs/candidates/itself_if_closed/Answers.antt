@@ -1,4 +1,4 @@
-use Rattle.std.proofs.Common.{◌≡◌, ap, Some, refl}
+use Rattle.std.proofs.Common.{ap, Some, refl}
 use Rattle.tree_core.proofs.Asking.{asks_as, asks_done, asks_fails}
 use Rattle.swc_loader.proofs.candidates.itself_if_closed.Goals as goal
 

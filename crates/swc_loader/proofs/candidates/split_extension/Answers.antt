@@ -1,4 +1,4 @@
-use Rattle.std.proofs.Common.{◌≡◌, ℕ, zero, ◌∙◌, arith}
+use Rattle.std.proofs.Common.{◌∙◌, arith}
 use Rattle.std.proofs.lemmas.Str.Pattern.{rfind_char}
 use Rattle.swc_loader.proofs.Naming.{stem_is, extension_is, has_extension-dot, has_extension-none}
 use Rattle.swc_loader.proofs.candidates.split_extension.Goals as goal

@@ -1,4 +1,4 @@
-use Rattle.std.proofs.Common.{◌≡◌, ◌++◌, ◌∷◌, [], Bool, true, false, List, ℕ, cond, string_bytes, refl, sym, ap, ◌∙◌, lit<}
+use Rattle.std.proofs.Common.{◌≡◌, ◌++◌, ◌∷◌, [], Bool, false, List, ℕ, cond, string_bytes, refl, sym, ap, ◌∙◌, lit<}
 use Rattle.sugar_path.specs.Path.{is_absolute, text_of, join, with_slash}
 use Rattle.swc_loader.proofs.Naming.{with_slash-text}
 use Rattle.swc_loader.proofs.search.joined.Goals as goal

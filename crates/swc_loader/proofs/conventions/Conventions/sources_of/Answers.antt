@@ -1,4 +1,4 @@
-use Rattle.std.proofs.Common.{◌≡◌, Bor, List, ℕ, [], bytes_eq, unwrap_or, refl, sym, ap, ◌∙◌}
+use Rattle.std.proofs.Common.{[], bytes_eq, unwrap_or, refl, sym, ap, ◌∙◌}
 use Rattle.std.specs.Map.{lookup}
 use Rattle.std.proofs.lemmas.List.{at_drop_all}
 use Rattle.swc_loader.specs.Candidates.{sources_of}
