@@ -51,11 +51,18 @@ impl NodeModulesResolver {
         ensures { Asks (R.asking tree.old) (R.asking tree.new) result
             (rows.probe self.now specifier.now) }
     {
-        if !self.conventions.probes_working_folder() || specifier.starts_with('.') {
+        if !self.is_probed(specifier) {
             return Ok(None);
         }
         let at = CleanPath::read(alloc, &self.cwd, specifier)?;
         place_without_entry(alloc, tree, &self.conventions, specifier, &at)
+    }
+
+    // Whether a specifier is first looked for from the working folder.
+    fn is_probed(&self, specifier: &str) -> bool
+        ensures { result ≡ rows.is_probed self.now specifier.now }
+    {
+        self.conventions.probes_working_folder() && !specifier.starts_with('.')
     }
 
     /// What is known of a specifier before a search: the answer for one of Node's own modules, else the target. It asks the

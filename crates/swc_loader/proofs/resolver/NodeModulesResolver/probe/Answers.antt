@@ -1,8 +1,10 @@
-use Rattle.std.proofs.Common.{◌≡◌, ◌==◌, ◌∙◌, false, get_or, sym, lit<}
+use Rattle.std.proofs.Common.{◌∙◌, refl, sym}
+use Rattle.tree_core.proofs.Asking.{asks_done}
 use Rattle.swc_loader.proofs.resolver.NodeModulesResolver.probe.Goals as goal
+
+pub returns-then-not-is_probed : goal.returns-then-not-is_probed
+returns-then-not-is_probed g c = rw (sym c.is_probed.ensures ∙ c.if-not-is_probed.true) (asks_done refl)
 
 pub returns : goal.returns
 returns g c =
-    let dot : (get_or c.args.specifier.now 0 0 == 46) ≡ false = sym (c.starts_with.ensures.byte (lit< tt) (lit< tt) (λ w o h. h)) ∙ c.if-starts_with.false in
-    rw (← c.self.view_is, sym c.probes_working_folder.ensures ∙ c.if-not-probes_working_folder.false, dot)
-    (rw c.in_ok-at.ensures at c.place_without_entry.ensures)
+    rw (sym c.is_probed.ensures ∙ c.if-not-is_probed.false, ← c.self.view_is) (rw c.in_ok-at.ensures at c.place_without_entry.ensures)

@@ -1,7 +1,7 @@
 use Rattle.std.proofs.Common.{◌≡◌, ◌∙◌, ap, lit<}
 use Rattle.sugar_path.specs.Path.{is_absolute}
 use Rattle.tree_core.specs.Resolving.{resolving}
-use Rattle.tree_core.proofs.Asking.{asks_then, asks_fails_in}
+use Rattle.tree_core.proofs.Asking.{asks_then, asks_fails_in, asks_starved_in}
 use Rattle.swc_loader.specs.Settings.{NodeSettings}
 use Rattle.swc_loader.specs.NodeRows.{behind_base}
 use Rattle.swc_loader.proofs.Places.{asks_place}
@@ -10,6 +10,14 @@ use Rattle.swc_loader.proofs.resolver.NodeModulesResolver.search_behind.Goals as
 pub returns-in_err-folder : goal.returns-in_err-folder
 unfolding behind_base
 returns-in_err-folder g c = asks_fails_in resolving _ _ c.from_residual.ensures.1 c.in_err-folder.ensures
+
+pub returns-in_err-text : goal.returns-in_err-text
+unfolding behind_base
+returns-in_err-text g c = asks_then _ c.in_ok-folder.ensures (asks_starved_in resolving _ c.from_residual-in_err-text.ensures.1)
+
+pub returns-in_err-at : goal.returns-in_err-at
+unfolding behind_base
+returns-in_err-at g c = asks_then _ c.in_ok-folder.ensures (asks_starved_in resolving _ c.from_residual-in_err-at.ensures.1)
 
 pub returns-in_err-found : goal.returns-in_err-found
 unfolding behind_base
