@@ -7,7 +7,8 @@ use Rattle.std.proofs.lemmas.List.{drop_more}
 use Rattle.serde_json.specs.Data.{Data, no_items, item}
 use Rattle.serde_json.specs.View.{view, items_view}
 use Rattle.serde_json.specs.declared.value.Value.{Value}
-use Rattle.json_reading.specs.Reading.{ReadsAs, ◌>>=◌, two_by, items_by}
+use Rattle.sugar_path.specs.Front.{◌>>=◌}
+use Rattle.json_reading.specs.Reading.{ReadsAs, two_by, items_by}
 
 -- a list of other than two members is no pair
 pub two_by-other : {A B : Type 0} (f : Data → Option A) (g : Data → Option B) (vs : List Value) → length vs ≢ 2 → two_by f g (items_view vs) ≡ None

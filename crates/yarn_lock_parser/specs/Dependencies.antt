@@ -4,7 +4,8 @@ use Rattle.std.specs.Option.{option_or}
 use Rattle.yarn_lock_parser.specs.declared.byte_set.ByteSet.TheVariants.{Blank, Quote, NotLineEnd, DependencyName}
 use Rattle.yarn_lock_parser.specs.declared.dependencies.DependencyKind.{DependencyKind}
 use Rattle.yarn_lock_parser.specs.declared.dependencies.DependencyKind.TheVariants.{Regular, Optional, Peer}
-use Rattle.yarn_lock_parser.specs.Front.{◌>>=◌, after, after_line_end, run, some_run, quoted_at, some}
+use Rattle.sugar_path.specs.Front.{◌>>=◌, after}
+use Rattle.yarn_lock_parser.specs.Front.{after_line_end, run, some_run, quoted_at, some}
 
 -- the blanks before what stands deeper than an indent: the indent, and one blank or more
 unfoldable pub deeper : List ℕ → List ℕ → Option (List ℕ × List ℕ)

@@ -2,21 +2,10 @@
 use Rattle.std.specs.Prelude.{◌≡◌, ◌++◌, ℕ, zero, suc, ◌==◌, ◌-◌, if◌then◌else◌, List, [], ◌∷◌, length, take, drop, reverse, Option, Some, None, option_map, unwrap_or}
 use Rattle.std.specs.Option.{option_or}
 use Rattle.std.specs.List.{prefix_len}
+use Rattle.sugar_path.specs.Front.{◌>>=◌, after}
 use Rattle.yarn_lock_parser.specs.declared.byte_set.ByteSet.{ByteSet}
 use Rattle.yarn_lock_parser.specs.declared.byte_set.ByteSet.TheVariants.{Blank, NotLineFeed, NotQuote}
 use Rattle.yarn_lock_parser.specs.ByteSet.{has}
-
--- one part, and then the next, where both fit
-infixl 10 ◌>>=◌
-abbrev pub ◌>>=◌ : {A B : Type 0} → Option A → (A → Option B) → Option B
-None >>= next = None
-(Some x) >>= next = next x
-
--- what follows a word at the front
-unfoldable pub after : List ℕ → List ℕ → Option (List ℕ)
-after [] t = Some t
-after (w ∷ ws) [] = None
-after (w ∷ ws) (c ∷ cs) = if c == w then after ws cs else None
 
 -- what follows a word that may stand at the front
 abbrev pub after_optional : List ℕ → List ℕ → List ℕ

@@ -3,7 +3,8 @@ use Rattle.std.specs.Prelude.{ℕ, if◌then◌else◌, List, Option, Some, None
 use Rattle.std.specs.Str.Parse.{digits_value}
 use Rattle.std.specs.Option.{option_map_or}
 use Rattle.yarn_lock_parser.specs.declared.byte_set.ByteSet.TheVariants.{WhiteSpace, Digit}
-use Rattle.yarn_lock_parser.specs.Front.{◌>>=◌, after, after_blanks, after_line_end, run, some_run, front}
+use Rattle.sugar_path.specs.Front.{◌>>=◌, after}
+use Rattle.yarn_lock_parser.specs.Front.{after_blanks, after_line_end, run, some_run, front}
 use Rattle.yarn_lock_parser.specs.Cut.{after_first_empty_line}
 
 pub record Metadata : Type 0 where

@@ -8,7 +8,8 @@ use Rattle.yarn_lock_parser.specs.declared.metas.MetaKind.{MetaKind}
 use Rattle.yarn_lock_parser.specs.declared.metas.MetaKind.TheVariants.{Dependencies, PeerDependencies}
 use Rattle.yarn_lock_parser.specs.declared.metas.Flag.{Flag}
 use Rattle.yarn_lock_parser.specs.declared.metas.Flag.TheVariants.{Absent, Known, Unreadable}
-use Rattle.yarn_lock_parser.specs.Front.{◌>>=◌, after, before_optional, after_line_end, run, some_run, line_at, quoted_at, some}
+use Rattle.sugar_path.specs.Front.{◌>>=◌, after}
+use Rattle.yarn_lock_parser.specs.Front.{before_optional, after_line_end, run, some_run, line_at, quoted_at, some}
 use Rattle.yarn_lock_parser.specs.Dependencies.{deeper, names_kind}
 
 -- a property's key and value, below a meta with an indent of its own
