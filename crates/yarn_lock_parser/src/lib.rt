@@ -13,6 +13,7 @@ mod front;
 mod header;
 mod item;
 mod items;
+pub mod laws;
 mod lockfile;
 mod metadata;
 mod metas;
