@@ -137,11 +137,11 @@ fn entries_of<'a>(
     let mut found = Vec::new(alloc);
     let mut rest = text;
     while let Some((one, behind)) = entry_text(rest) {
-        match entry_of(alloc, one)? {
+        match entry_of(alloc, one) {
             Ok(entry) => found.push(entry)?,
-            Err(cause) => {
+            Err(e) => {
                 let place = place_in(content, rest);
-                return Err(YarnLockError::Parser { place, cause });
+                return Err(e.at(place));
             }
         }
         rest = behind;
