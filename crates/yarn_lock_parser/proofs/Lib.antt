@@ -1,5 +1,6 @@
 pub mod BodyRests
 pub mod Cuts
+pub mod EmptyLines
 pub mod EqualMetas
 pub mod Every
 pub mod FlagLaws

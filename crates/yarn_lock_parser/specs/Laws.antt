@@ -1,8 +1,9 @@
 -- What holds of the reading, whatever the text.
-use Rattle.std.specs.Prelude.{◌≡◌, ◌++◌, ◌&&◌, ◌||◌, not, ℕ, Bool, false, List, [], ◌∷◌, bytes_eq, codes, IsTrue, IsFalse}
-use Rattle.std.specs.List.{concat, fold, list_any}
-use Rattle.yarn_lock_parser.specs.declared.metas.Flag.{Flag}
+use Rattle.std.specs.Prelude.{◌≡◌, ◌⊎◌, ◌++◌, ◌&&◌, ◌||◌, not, ℕ, Bool, true, false, List, [], ◌∷◌, bytes_eq, codes, IsTrue}
+use Rattle.std.specs.List.{concat, fold, list_all, list_any}
+use Rattle.yarn_lock_parser.specs.declared.byte_set.ByteSet.TheVariants.{Blank}
 use Rattle.yarn_lock_parser.specs.declared.metas.Flag.TheVariants.{Absent}
+use Rattle.yarn_lock_parser.specs.ByteSet.{has}
 use Rattle.yarn_lock_parser.specs.Cut.{entry_texts}
 use Rattle.yarn_lock_parser.specs.Item.{Item, Version, Dependencies, Integrity, Resolved, Metas, Other}
 use Rattle.yarn_lock_parser.specs.Metas.{flag_of, noted}
@@ -11,6 +12,33 @@ use Rattle.yarn_lock_parser.specs.Fields.{is_unreadable, no_fields, with_item}
 -- the texts of the entries, joined, are the text that they are cut from
 abbrev pub EntriesAreTheText : Type 0
 EntriesAreTheText = (t : List ℕ) → concat (entry_texts t) ≡ t
+
+-- a line feed, or a carriage return and a line feed
+abbrev pub IsLineEnd : List ℕ → Type 0
+IsLineEnd t = (t ≡ 10 ∷ []) ⊎ (t ≡ 13 ∷ 10 ∷ [])
+
+-- where a line begins: at the front, or behind a line feed
+abbrev pub IsBeforeLine : List ℕ → Type 0
+IsBeforeLine t = (t ≡ []) ⊎ ((front : List ℕ) × (t ≡ front ++ 10 ∷ []))
+
+-- a text whose last line has only blanks
+pub record EndsWithEmptyLine (t : List ℕ) : Type 0 where
+  pub prior : List ℕ
+  pub blanks : List ℕ
+  pub line_end : List ℕ
+  pub is : t ≡ prior ++ (blanks ++ line_end)
+  pub begins : IsBeforeLine prior
+  pub are_blank : list_all (has Blank) blanks ≡ true
+  pub ends : IsLineEnd line_end
+
+abbrev pub AllButLast : (List ℕ → Type 0) → List (List ℕ) → Type 0
+AllButLast P [] = Unit {0}
+AllButLast P (t ∷ []) = Unit {0}
+AllButLast P (t ∷ u ∷ us) = P t × AllButLast P (u ∷ us)
+
+-- each text of an entry but the last one ends with its empty line
+abbrev pub EntriesEndWithEmptyLines : Type 0
+EntriesEndWithEmptyLines = (t : List ℕ) → AllButLast EndsWithEmptyLine (entry_texts t)
 
 abbrev pub is_optional : List ℕ × List ℕ → Bool
 is_optional property = bytes_eq property.0 (codes "optional")

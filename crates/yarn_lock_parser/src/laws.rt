@@ -1,9 +1,14 @@
 // Laws of the reading, each proved for all texts. `parse_str` has them by its contract.
-ghost use Rattle.yarn_lock_parser.specs.Laws.{EntriesAreTheText, UnreadableByOne, SpoiltByOne, LastFlagCounts};
+ghost use Rattle.yarn_lock_parser.specs.Laws.{EntriesAreTheText, EntriesEndWithEmptyLines, UnreadableByOne, SpoiltByOne, LastFlagCounts};
 
 /// The texts that entries are read from, joined, are the text that they are cut from.
 pub fn entries_are_the_text()
     ensures { EntriesAreTheText }
+{}
+
+/// Each text of an entry but the last one ends with its empty line.
+pub fn entries_end_with_empty_lines()
+    ensures { EntriesEndWithEmptyLines }
 {}
 
 /// What is said of a dependency is unreadable exactly where some property `optional` is neither `true` nor `false`.
