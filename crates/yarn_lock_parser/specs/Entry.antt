@@ -24,10 +24,11 @@ pub record Entry : Type 0 where
   pub peer_dependencies_meta : List (List ℕ × DepMeta)
   pub descriptors : List (List ℕ × List ℕ)
 
+-- one part, and then the next, up to the first error
 infixl 10 ◌>>=◌
-abbrev pub ◌>>=◌ : {A B : Type 0} → Result A LockCause → (A → Result B LockCause) → Result B LockCause
+abbrev pub ◌>>=◌ : {A B X : Type 0} → Result A X → (A → Result B X) → Result B X
 (Ok x) >>= next = next x
-(Err cause) >>= next = Err cause
+(Err e) >>= next = Err e
 
 abbrev pub refuse_if : Bool → LockCause → Result (Unit {0}) LockCause
 refuse_if true cause = Err cause

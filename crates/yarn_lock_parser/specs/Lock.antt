@@ -10,7 +10,7 @@ use Rattle.yarn_lock_parser.specs.declared.header.Generator.{Generator}
 use Rattle.yarn_lock_parser.specs.Header.{header_at}
 use Rattle.yarn_lock_parser.specs.Metadata.{Metadata, metadata_at}
 use Rattle.yarn_lock_parser.specs.Cut.{entry_texts}
-use Rattle.yarn_lock_parser.specs.Entry.{Entry, entry_of}
+use Rattle.yarn_lock_parser.specs.Entry.{◌>>=◌, Entry, entry_of}
 
 pub record Lock : Type 0 where
   pub generator : Generator
@@ -22,11 +22,6 @@ pub record Lock : Type 0 where
 pub record Refusal : Type 0 where
   pub place : ℕ
   pub cause : LockCause
-
-infixl 10 ◌>>=◌
-abbrev pub ◌>>=◌ : {A B : Type 0} → Result A Refusal → (A → Result B Refusal) → Result B Refusal
-(Ok x) >>= next = next x
-(Err refusal) >>= next = Err refusal
 
 abbrev pub at_place : {A : Type 0} → ℕ → Result A LockCause → Result A Refusal
 at_place place (Ok x) = Ok x
