@@ -1,5 +1,5 @@
 -- The texts of an object, put into a map one after another.
-use Rattle.std.proofs.Common.{◌≡◌, ℕ, Less, List, [], ◌∷◌, ◌++◌, Option, Some, None, Bool, false, String, Global, string_bytes, string_cmp, nat_cmp, bytes_eq, is_eq, refl, sym, ap, ◌∙◌, append_assoc}
+use Rattle.std.proofs.Common.{◌≡◌, ℕ, Less, List, [], ◌∷◌, ◌++◌, Option, Some, None, false, String, Global, string_bytes, string_cmp, nat_cmp, bytes_eq, is_eq, refl, sym, ap, ◌∙◌, append_assoc}
 use Rattle.std.proofs.lemmas.Cmp.{nat_list_cmp_total}
 use Rattle.std.proofs.lemmas.Map.Text.{is_eq-slice_cmp}
 use Rattle.std.specs.Cmp.Lexicographic.{slice_cmp}

@@ -1,5 +1,5 @@
 -- What a package.json says, field by field.
-use Rattle.std.specs.Prelude.{ℕ, List, [], Option, None, option_map, codes}
+use Rattle.std.specs.Prelude.{ℕ, List, Option, None, option_map, codes}
 use Rattle.serde_json.specs.Data.{Data, Members}
 use Rattle.serde_json.specs.View.{view, members_view}
 use Rattle.deno_package_json.specs.declared.package_json.PackageJson.{PackageJson}

@@ -11,7 +11,7 @@ use Rattle.deno_package_json.specs.Loading.{from_text}
 use Rattle.deno_package_json.specs.Package.{package_of}
 use Rattle.deno_package_json.specs.Reader.{Files, IsTextAt}
 use Rattle.deno_package_json.specs.declared.error.PackageJsonLoadError.{PackageJsonLoadError}
-use Rattle.deno_package_json.specs.declared.error.PackageJsonLoadError.TheVariants.{Io, Deserialize, HoldsFloat, MixedExports, NoMemory}
+use Rattle.deno_package_json.specs.declared.error.PackageJsonLoadError.TheVariants.{Io, NoMemory}
 use Rattle.deno_package_json.specs.declared.package_json.PackageJson.{PackageJson}
 
 -- what a load answers

@@ -3,7 +3,6 @@ use Rattle.std.specs.Prelude.{◌==◌, ◌||◌, ℕ, Bool, List, [], ◌∷◌
 use Rattle.std.specs.Map.{lookup}
 use Rattle.npm_req.specs.Package.{name_and_range}
 use Rattle.npm_req.specs.Requirement.{Requirement, meaning_of}
-use Rattle.npm_req.specs.declared.package_req.PackageReq.{PackageReq}
 use Rattle.npm_req.specs.declared.requirement.Meaning.{Meaning}
 use Rattle.deno_package_json.specs.declared.dep_value.PackageJsonDepValue.{PackageJsonDepValue}
 use Rattle.deno_package_json.specs.declared.dep_value.PackageJsonDepValue.TheVariants.{Req, Workspace}

@@ -15,11 +15,13 @@ pub trait PackageJsonCache {
 
     /// The package that is kept under a path.
     fn get(&self, path: &str) -> Result<Option<PackageJsonRc>, AllocError>
-        ensures { IfOk result (λ found. option_map shared found ≡ finite.get (kept self.now) path.now) };
+        ensures { IfOk result (λ found.
+            option_map shared found ≡ finite.get (kept self.now) path.now) };
 
     /// Keeps a package under a path, in place of an earlier one.
     fn set(&mut self, path: Text, package_json: PackageJsonRc) -> Result<(), AllocError>
-        ensures put { OnOk result (kept self.new ≡ finite.insert (kept self.old) path (shared package_json)) }
+        ensures put { OnOk result (kept self.new
+            ≡ finite.insert (kept self.old) path (shared package_json)) }
         ensures same { OnErr result (kept self.new ≡ kept self.old) };
 }
 

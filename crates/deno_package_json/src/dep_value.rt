@@ -50,7 +50,8 @@ impl PackageJsonDepValueParseError {
 }
 
 fn unsupported_message(alloc: Global, scheme: &str) -> Result<String, AllocError>
-    ensures { IfOk result (λ made. string_bytes made ≡ codes "Not implemented scheme '" ++ scheme.now ++ codes "'") }
+    ensures { IfOk result (λ made.
+        string_bytes made ≡ codes "Not implemented scheme '" ++ scheme.now ++ codes "'") }
 {
     format!(in alloc; "Not implemented scheme '{scheme}'")
 }

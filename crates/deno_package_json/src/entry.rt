@@ -10,7 +10,8 @@ use sugar_path::Text;
 impl PackageJson {
     /// The text that names the main module, without the white space around it. It takes no memory.
     pub fn main(&self, referrer_kind: NodeModuleKind) -> Option<&str>
-        ensures { option_map (λ text. text.now) result ≡ main_of referrer_kind (package_of self.now) }
+        ensures { option_map (λ text. text.now) result
+            ≡ main_of referrer_kind (package_of self.now) }
     {
         match self.named_main(referrer_kind) {
             Some(text) => unless_empty(text.as_str().trim()),
@@ -19,7 +20,8 @@ impl PackageJson {
     }
 
     fn named_main(&self, referrer_kind: NodeModuleKind) -> Option<&Text>
-        ensures { option_map (λ text. text.now) result ≡ named_main referrer_kind (package_of self.now) }
+        ensures { option_map (λ text. text.now) result
+            ≡ named_main referrer_kind (package_of self.now) }
     {
         match referrer_kind {
             NodeModuleKind::Esm => if self.typ.as_str() == "module" {

@@ -13,7 +13,8 @@ pub(crate) fn exports_in(
     alloc: Global,
     value: &Value,
 ) -> Result<Option<Map<String, Value>>, AllocError>
-    ensures { IfOk result (λ found. option_map (λ ms. members_view ms.entries) found ≡ exports_in (view value.now)) }
+    ensures { IfOk result (λ found.
+        option_map (λ ms. members_view ms.entries) found ≡ exports_in (view value.now)) }
 {
     match value.get("exports") {
         Some(exports) => exports_of(alloc, exports),
@@ -22,7 +23,8 @@ pub(crate) fn exports_in(
 }
 
 fn exports_of(alloc: Global, value: &Value) -> Result<Option<Map<String, Value>>, AllocError>
-    ensures { IfOk result (λ found. option_map (λ ms. members_view ms.entries) found ≡ exports_of (view value.now)) }
+    ensures { IfOk result (λ found.
+        option_map (λ ms. members_view ms.entries) found ≡ exports_of (view value.now)) }
 {
     match value {
         Value::String(_) => Ok(Some(main_entry(alloc, value)?)),
@@ -47,7 +49,8 @@ fn main_entry(alloc: Global, value: &Value) -> Result<Map<String, Value>, AllocE
 
 /// A copy of an object's members.
 pub(crate) fn object_of(value: &Value) -> Result<Option<Map<String, Value>>, AllocError>
-    ensures { IfOk result (λ found. option_map (λ ms. members_view ms.entries) found ≡ as_object (view value.now)) }
+    ensures { IfOk result (λ found.
+        option_map (λ ms. members_view ms.entries) found ≡ as_object (view value.now)) }
 {
     match value.clone()? {
         Value::Object(members) => Ok(Some(members)),
@@ -109,7 +112,8 @@ pub(crate) fn bin_in(value: &Value) -> Result<Option<Value>, AllocError>
 
 /// A copy of the field `imports`.
 pub(crate) fn imports_in(value: &Value) -> Result<Option<Map<String, Value>>, AllocError>
-    ensures { IfOk result (λ found. option_map (λ ms. members_view ms.entries) found ≡ imports_in (view value.now)) }
+    ensures { IfOk result (λ found.
+        option_map (λ ms. members_view ms.entries) found ≡ imports_in (view value.now)) }
 {
     match value.get("imports") {
         Some(imports) => object_of(imports),

@@ -109,12 +109,12 @@ static OBJECTS: [Row; 26] = [
     ),
 ];
 
-/// Paths with their file URLs: each byte below 128 is in one of them.
+/// Paths with their file URLs: each byte that can stand in a text is in one of them.
 pub(crate) fn paths() -> &'static [(&'static str, &'static str)] {
     &PATHS
 }
 
-static PATHS: [(&'static str, &'static str); 7] = [
+static PATHS: [(&'static str, &'static str); 16] = [
     ("/a b/package.json", "file:///a%20b/package.json"),
     (
         "/\u{e9}\u{20ac}\u{1f600}",
@@ -136,5 +136,42 @@ static PATHS: [(&'static str, &'static str); 7] = [
     (
         "/`abcdefghijklmnopqrstuvwxyz{|}~\x7f",
         "file:///%60abcdefghijklmnopqrstuvwxyz%7B%7C%7D~%7F",
+    ),
+    // Each byte from 80 to BF behind C2, and then each other lead byte, C3 to F4.
+    (
+        "/\u{80}\u{81}\u{82}\u{83}\u{84}\u{85}\u{86}\u{87}\u{88}\u{89}\u{8a}\u{8b}\u{8c}\u{8d}\u{8e}\u{8f}",
+        "file:///%C2%80%C2%81%C2%82%C2%83%C2%84%C2%85%C2%86%C2%87%C2%88%C2%89%C2%8A%C2%8B%C2%8C%C2%8D%C2%8E%C2%8F",
+    ),
+    (
+        "/\u{90}\u{91}\u{92}\u{93}\u{94}\u{95}\u{96}\u{97}\u{98}\u{99}\u{9a}\u{9b}\u{9c}\u{9d}\u{9e}\u{9f}",
+        "file:///%C2%90%C2%91%C2%92%C2%93%C2%94%C2%95%C2%96%C2%97%C2%98%C2%99%C2%9A%C2%9B%C2%9C%C2%9D%C2%9E%C2%9F",
+    ),
+    (
+        "/\u{a0}\u{a1}\u{a2}\u{a3}\u{a4}\u{a5}\u{a6}\u{a7}\u{a8}\u{a9}\u{aa}\u{ab}\u{ac}\u{ad}\u{ae}\u{af}",
+        "file:///%C2%A0%C2%A1%C2%A2%C2%A3%C2%A4%C2%A5%C2%A6%C2%A7%C2%A8%C2%A9%C2%AA%C2%AB%C2%AC%C2%AD%C2%AE%C2%AF",
+    ),
+    (
+        "/\u{b0}\u{b1}\u{b2}\u{b3}\u{b4}\u{b5}\u{b6}\u{b7}\u{b8}\u{b9}\u{ba}\u{bb}\u{bc}\u{bd}\u{be}\u{bf}",
+        "file:///%C2%B0%C2%B1%C2%B2%C2%B3%C2%B4%C2%B5%C2%B6%C2%B7%C2%B8%C2%B9%C2%BA%C2%BB%C2%BC%C2%BD%C2%BE%C2%BF",
+    ),
+    (
+        "/\u{c0}\u{100}\u{140}\u{180}\u{1c0}\u{200}\u{240}\u{280}\u{2c0}\u{300}\u{340}\u{380}\u{3c0}\u{400}\u{440}",
+        "file:///%C3%80%C4%80%C5%80%C6%80%C7%80%C8%80%C9%80%CA%80%CB%80%CC%80%CD%80%CE%80%CF%80%D0%80%D1%80",
+    ),
+    (
+        "/\u{480}\u{4c0}\u{500}\u{540}\u{580}\u{5c0}\u{600}\u{640}\u{680}\u{6c0}\u{700}\u{740}\u{780}\u{7c0}",
+        "file:///%D2%80%D3%80%D4%80%D5%80%D6%80%D7%80%D8%80%D9%80%DA%80%DB%80%DC%80%DD%80%DE%80%DF%80",
+    ),
+    (
+        "/\u{800}\u{1000}\u{2000}\u{3000}\u{4000}\u{5000}\u{6000}\u{7000}",
+        "file:///%E0%A0%80%E1%80%80%E2%80%80%E3%80%80%E4%80%80%E5%80%80%E6%80%80%E7%80%80",
+    ),
+    (
+        "/\u{8000}\u{9000}\u{a000}\u{b000}\u{c000}\u{d000}\u{e000}\u{f000}",
+        "file:///%E8%80%80%E9%80%80%EA%80%80%EB%80%80%EC%80%80%ED%80%80%EE%80%80%EF%80%80",
+    ),
+    (
+        "/\u{10000}\u{40000}\u{80000}\u{c0000}\u{100000}",
+        "file:///%F0%90%80%80%F1%80%80%80%F2%80%80%80%F3%80%80%80%F4%80%80%80",
     ),
 ];

@@ -26,7 +26,8 @@ pub trait DenoPkgJsonFs {
 
     /// The text of a file, with U+FFFD for what is no UTF-8. A file that isn't there is a fault.
     fn read_to_string_lossy(&mut self, alloc: Global, path: &str) -> Result<String, ReadError>
-        ensures text { IfOk result (λ text. IsTextAt (files self.old) path.now (string_bytes text)) }
+        ensures text { IfOk result (λ text.
+            IsTextAt (files self.old) path.now (string_bytes text)) }
         ensures files { files self.new ≡ files self.old }
         ensures cause { HasCause (faults self.old) (faults self.new) result };
 }
@@ -79,7 +80,8 @@ impl DenoPkgJsonFs for MapFs {
     ghost faults = { λ m. m.faults };
 
     fn read_to_string_lossy(&mut self, alloc: Global, path: &str) -> Result<String, ReadError>
-        ensures text { IfOk result (λ text. option_map utf8_lossy (finite.get self.old.files path.now) ≡ Some (string_bytes text)) }
+        ensures text { IfOk result (λ text.
+            option_map utf8_lossy (finite.get self.old.files path.now) ≡ Some (string_bytes text)) }
         ensures files { Some self.new.files ≡ Some self.old.files }
         ensures cause { HasCause self.old.faults self.new.faults result }
         ensures absent { IsErrOf result Fault → finite.get self.old.files path.now ≡ None }

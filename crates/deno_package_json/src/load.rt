@@ -120,9 +120,12 @@ struct Entries {
 
 impl Entries {
     fn of(alloc: Global, value: &Value) -> Result<Entries, AllocError>
-        ensures exports { IfOk result (λ e. option_map (λ ms. members_view ms.entries) e.exports ≡ exports_in (view value.now)) }
-        ensures imports { IfOk result (λ e. option_map (λ ms. members_view ms.entries) e.imports ≡ imports_in (view value.now)) }
-        ensures bin { IfOk result (λ e. option_map view e.bin ≡ get (codes "bin") (view value.now)) }
+        ensures exports { IfOk result (λ e.
+            option_map (λ ms. members_view ms.entries) e.exports ≡ exports_in (view value.now)) }
+        ensures imports { IfOk result (λ e.
+            option_map (λ ms. members_view ms.entries) e.imports ≡ imports_in (view value.now)) }
+        ensures bin { IfOk result (λ e.
+            option_map view e.bin ≡ get (codes "bin") (view value.now)) }
     {
         let exports = exports_in(alloc, value)?;
         let imports = imports_in(value)?;
@@ -151,7 +154,8 @@ impl Texts {
         ensures main { IfOk result (λ t. t.main ≡ text_under (codes "main") (view value.now)) }
         ensures esm { IfOk result (λ t. t.module ≡ text_under (codes "module") (view value.now)) }
         ensures name { IfOk result (λ t. t.name ≡ text_under (codes "name") (view value.now)) }
-        ensures version { IfOk result (λ t. t.version ≡ text_under (codes "version") (view value.now)) }
+        ensures version { IfOk result (λ t.
+            t.version ≡ text_under (codes "version") (view value.now)) }
         ensures typ { IfOk result (λ t. t.typ ≡ typ_in (view value.now)) }
         ensures types { IfOk result (λ t. t.types ≡ types_in (view value.now)) }
     {
@@ -183,10 +187,17 @@ struct Tables {
 
 impl Tables {
     fn of(alloc: Global, value: &Value) -> Result<Tables, AllocError>
-        ensures dependencies { IfOk result (λ t. option_map (λ table. table.entries) t.dependencies ≡ table_under (codes "dependencies") (view value.now)) }
-        ensures dev_dependencies { IfOk result (λ t. option_map (λ table. table.entries) t.dev_dependencies ≡ table_under (codes "devDependencies") (view value.now)) }
-        ensures scripts { IfOk result (λ t. option_map (λ table. table.entries) t.scripts ≡ table_under (codes "scripts") (view value.now)) }
-        ensures workspaces { IfOk result (λ t. t.workspaces ≡ texts_under (codes "workspaces") (view value.now)) }
+        ensures dependencies { IfOk result (λ t.
+            option_map (λ table. table.entries) t.dependencies
+            ≡ table_under (codes "dependencies") (view value.now)) }
+        ensures dev_dependencies { IfOk result (λ t.
+            option_map (λ table. table.entries) t.dev_dependencies
+            ≡ table_under (codes "devDependencies") (view value.now)) }
+        ensures scripts { IfOk result (λ t.
+            option_map (λ table. table.entries) t.scripts
+            ≡ table_under (codes "scripts") (view value.now)) }
+        ensures workspaces { IfOk result (λ t.
+            t.workspaces ≡ texts_under (codes "workspaces") (view value.now)) }
     {
         let dependencies = table_under(alloc, value, "dependencies")?;
         let dev_dependencies = table_under(alloc, value, "devDependencies")?;

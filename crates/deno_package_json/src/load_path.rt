@@ -21,8 +21,10 @@ impl PackageJson {
         fs: &mut F,
         cache: Option<&mut C>,
     ) -> Result<PackageJsonRc, PackageJsonLoadError>
-        ensures loads { LoadsKept (kept_at path.now (lent_kept C.kept cache.entry)) (F.files fs.old) path.now result }
-        ensures keeps { KeepsIfLent (lent_kept C.kept cache.entry) (left_kept C.kept cache.exit) path.now result }
+        ensures loads { LoadsKept (kept_at path.now (lent_kept C.kept cache.entry))
+            (F.files fs.old) path.now result }
+        ensures keeps { KeepsIfLent (lent_kept C.kept cache.entry) (left_kept C.kept cache.exit)
+            path.now result }
         ensures files { F.files fs.new ≡ F.files fs.old }
         ensures cause { HasLoadCause (F.faults fs.old) (F.faults fs.new) result }
     {
@@ -40,7 +42,8 @@ fn load_kept<F: DenoPkgJsonFs, C: PackageJsonCache>(
     fs: &mut F,
     cache: &mut C,
 ) -> Result<PackageJsonRc, PackageJsonLoadError>
-    ensures loads { LoadsKept (finite.get (C.kept cache.old) path.now) (F.files fs.old) path.now result }
+    ensures loads { LoadsKept (finite.get (C.kept cache.old) path.now)
+        (F.files fs.old) path.now result }
     ensures keeps { KeepsAnswer (C.kept cache.old) (C.kept cache.new) path.now result }
     ensures files { F.files fs.new ≡ F.files fs.old }
     ensures cause { HasLoadCause (F.faults fs.old) (F.faults fs.new) result }
@@ -60,7 +63,8 @@ fn keep<C: PackageJsonCache>(
     cache: &mut C,
     loaded: &PackageJsonRc,
 ) -> Result<(), AllocError>
-    ensures put { OnOk result (C.kept cache.new ≡ finite.insert (C.kept cache.old) path.now (shared loaded.now)) }
+    ensures put { OnOk result (C.kept cache.new
+        ≡ finite.insert (C.kept cache.old) path.now (shared loaded.now)) }
     ensures same { OnErr result (C.kept cache.new ≡ C.kept cache.old) }
 {
     let key = Text::of(alloc, path)?;

@@ -122,7 +122,8 @@ fn of_workspace(alloc: Global, range: &str) -> Result<Required, AllocError>
 }
 
 fn refused(alloc: Global, range: &str, place: usize) -> Result<Required, AllocError>
-    ensures { IfOk result (λ found. found ≡ Err (PackageJsonDepValueParseError.VersionReq range.now place)) }
+    ensures { IfOk result (λ found.
+        found ≡ Err (PackageJsonDepValueParseError.VersionReq range.now place)) }
 {
     let text = Text::of(alloc, range)?;
     Ok(Err(PackageJsonDepValueParseError::VersionReq { text, place }))

@@ -15,7 +15,8 @@ pub(crate) fn table_under(
     value: &Value,
     name: &str,
 ) -> Result<Option<IndexMap<Text, Text>>, AllocError>
-    ensures { IfOk result (λ found. option_map (λ table. table.entries) found ≡ table_under name.now (view value.now)) }
+    ensures { IfOk result (λ found.
+        option_map (λ table. table.entries) found ≡ table_under name.now (view value.now)) }
 {
     match value.get(name) {
         Some(Value::Object(members)) => Ok(Some(table_of(alloc, members)?)),

@@ -29,7 +29,8 @@ fn put_json(
     fields: &mut Map<String, Value>,
     from: &PackageJson,
 ) -> Result<(), AllocError>
-    ensures { OnOk result (members_view fields.new.entries ≡ with_fields (members_view fields.old.entries) (json_fields (package_of from.now))) }
+    ensures { OnOk result (members_view fields.new.entries
+        ≡ with_fields (members_view fields.old.entries) (json_fields (package_of from.now))) }
 {
     put(fields, alloc, "exports", object_or_null(&from.exports)?)?;
     put(fields, alloc, "imports", object_or_null(&from.imports)?)?;
@@ -45,7 +46,8 @@ fn put_texts(
     fields: &mut Map<String, Value>,
     from: &PackageJson,
 ) -> Result<(), AllocError>
-    ensures { OnOk result (members_view fields.new.entries ≡ with_fields (members_view fields.old.entries) (text_fields (package_of from.now))) }
+    ensures { OnOk result (members_view fields.new.entries
+        ≡ with_fields (members_view fields.old.entries) (text_fields (package_of from.now))) }
 {
     put(fields, alloc, "main", text_or_null(alloc, &from.main)?)?;
     put(fields, alloc, "module", text_or_null(alloc, &from.module)?)?;
@@ -70,7 +72,8 @@ fn put_tables(
     fields: &mut Map<String, Value>,
     from: &PackageJson,
 ) -> Result<(), AllocError>
-    ensures { OnOk result (members_view fields.new.entries ≡ with_fields (members_view fields.old.entries) (table_fields (package_of from.now))) }
+    ensures { OnOk result (members_view fields.new.entries
+        ≡ with_fields (members_view fields.old.entries) (table_fields (package_of from.now))) }
 {
     put(
         fields,
@@ -99,7 +102,8 @@ fn put_tables(
 }
 
 fn object_or_null(members: &Option<Map<String, Value>>) -> Result<Value, AllocError>
-    ensures { IfOk result (λ value. view value ≡ or_null object (option_map (λ ms. members_view ms.entries) members.now)) }
+    ensures { IfOk result (λ value.
+        view value ≡ or_null object (option_map (λ ms. members_view ms.entries) members.now)) }
 {
     match members {
         Some(members) => Ok(Value::Object(members.clone()?)),
@@ -117,7 +121,8 @@ fn text_or_null(alloc: Global, text: &Option<Text>) -> Result<Value, AllocError>
 }
 
 fn table_or_null(alloc: Global, table: &Option<IndexMap<Text, Text>>) -> Result<Value, AllocError>
-    ensures { IfOk result (λ value. view value ≡ or_null table_value (option_map (λ t. t.entries) table.now)) }
+    ensures { IfOk result (λ value.
+        view value ≡ or_null table_value (option_map (λ t. t.entries) table.now)) }
 {
     match table {
         Some(table) => Ok(Value::Object(table_members(alloc, table)?)),
@@ -129,7 +134,9 @@ fn table_members(
     alloc: Global,
     table: &IndexMap<Text, Text>,
 ) -> Result<Map<String, Value>, AllocError>
-    ensures { IfOk result (λ ms. members_view ms.entries ≡ fold (λ found entry. with_member entry.0 (string entry.1) found) no_members table.now.entries) }
+    ensures { IfOk result (λ ms.
+        members_view ms.entries
+        ≡ fold (λ found e. with_member e.0 (string e.1) found) no_members table.now.entries) }
 {
     let mut members = Map::new(alloc);
     for (name, text) in table.iter() {

@@ -1,13 +1,14 @@
 -- Lists of JSON values, read one member after the other.
-use Rattle.std.proofs.Common.{◌≡◌, ◌≢◌, ◌<◌, ◌+◌, ℕ, List, [], ◌∷◌, ◌++◌, length, get_or, drop, refl, sym, ap, ◌∙◌, append_assoc, append-nil, arith, Option, Some, None}
+use Rattle.std.proofs.Common.{◌≡◌, ◌≢◌, ◌<◌, ◌+◌, ℕ, List, [], ◌∷◌, ◌++◌, length, get_or, drop, refl, sym, ap, append_assoc, Option, Some, None}
 use Rattle.std.specs.Prelude.{option_map, option_and_then, Result, Ok, Err, IsErrAnd}
 use Rattle.json_reading.specs.declared.error.FromJsonError.{FromJsonError}
 use Rattle.json_reading.specs.declared.error.FromJsonError.TheVariants.{OtherKind, NoMemory}
 use Rattle.std.proofs.lemmas.List.{drop_more}
-use Rattle.serde_json.specs.Data.{Data, no_items, item}
+use Rattle.serde_json.specs.Data.{Data}
 use Rattle.serde_json.specs.View.{view, items_view}
 use Rattle.serde_json.specs.declared.value.Value.{Value}
-use Rattle.json_reading.specs.Reading.{ReadsAs, ◌>>=◌, two_by, items_by}
+use Rattle.sugar_path.specs.Front.{◌>>=◌}
+use Rattle.json_reading.specs.Reading.{ReadsAs, two_by, items_by}
 
 -- a list of other than two members is no pair
 pub two_by-other : {A B : Type 0} (f : Data → Option A) (g : Data → Option B) (vs : List Value) → length vs ≢ 2 → two_by f g (items_view vs) ≡ None

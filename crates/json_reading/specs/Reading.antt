@@ -1,14 +1,10 @@
 -- What a JSON value (RFC 8259) reads as: a reader takes a value to what it says, and to nothing where the value is of another kind.
-use Rattle.std.specs.Prelude.{◌≡◌, ℕ, List, [], ◌∷◌, Option, Some, None, Result, Ok, Err, option_map, option_and_then}
+use Rattle.std.specs.Prelude.{◌≡◌, ℕ, List, [], ◌∷◌, Option, Some, None, Result, Ok, Err, option_map}
+pub use Rattle.sugar_path.specs.Front.{◌>>=◌}
 use Rattle.serde_json.specs.Data.{Data, null, boolean, number, string, array, object, Items, no_items, item}
 use Rattle.serde_json.specs.Find.{get, as_array}
 use Rattle.json_reading.specs.declared.error.FromJsonError.{FromJsonError}
 use Rattle.json_reading.specs.declared.error.FromJsonError.TheVariants.{OtherKind, NoMemory}
-
--- one reading behind the other: nothing where either gives nothing
-infixl 10 ◌>>=◌
-abbrev pub ◌>>=◌ : {A B : Type 0} → Option A → (A → Option B) → Option B
-found >>= next = option_and_then next found
 
 -- a call answers what is read, and refuses where nothing is
 abbrev pub ReadsAs : {A : Type 0} → Result A FromJsonError → Option A → Type 0

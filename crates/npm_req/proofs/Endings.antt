@@ -5,7 +5,8 @@ use Rattle.std.specs.Str.{IsAscii, IsCharBoundary}
 use Rattle.std.proofs.lemmas.Bool.Decides.{eqb_tells}
 use Rattle.std.proofs.lemmas.Str.{IsCharBoundary-at_seam, IsUtf8-append, IsUtf8-from_ascii}
 use Rattle.std.proofs.lemmas.Str.Ascii.{IsAscii-nil}
-use Rattle.npm_req.specs.Front.{IsEndOf, after_all, after_byte, before_all, is_blank, is_space, trimmed}
+use Rattle.sugar_path.specs.Front.{after}
+use Rattle.npm_req.specs.Front.{IsEndOf, after_all, before_all, is_blank, is_space, trimmed}
 use Rattle.npm_req.specs.Part.{IsInText, after_sign, behind, operator_of, or_equal}
 use Rattle.npm_req.specs.Range.{after_hyphen}
 use Rattle.npm_req.specs.Requirement.{place_of}
@@ -22,7 +23,8 @@ pub end_of_end : (r s t : List ℕ) → IsEndOf r s → IsEndOf s t → IsEndOf 
 end_of_end r s t inner outer =
     (outer.0 ++ inner.0, outer.1 ∙ ap (λ x. outer.0 ++ x) inner.1 ∙ sym (append_assoc outer.0 inner.0 r))
 
-end_of_byte : (b : ℕ) (t r : List ℕ) → after_byte b t ≡ Some r → IsEndOf r t
+end_of_byte : (b : ℕ) (t r : List ℕ) → after (b ∷ []) t ≡ Some r → IsEndOf r t
+unfolding after
 end_of_byte b [] r e = cc
 end_of_byte b (c ∷ cs) r e = by_test (c == b) e
   where
@@ -46,23 +48,23 @@ end_of_word (c ∷ cs) = by_test (ends_part (c ∷ cs)) (end_of_word cs)
     by_test true rest = ([], refl)
     by_test false rest = (c ∷ rest.0, ap (λ x. c ∷ x) rest.1)
 
-end_of_maybe : (b : ℕ) (t : List ℕ) → IsEndOf (unwrap_or (after_byte b t) t) t
-end_of_maybe b t = by_found (after_byte b t) (end_of_byte b t)
+end_of_maybe : (b : ℕ) (t : List ℕ) → IsEndOf (unwrap_or (after (b ∷ []) t) t) t
+end_of_maybe b t = by_found (after (b ∷ []) t) (end_of_byte b t)
   where
     by_found : (o : Option (List ℕ)) → ((r : List ℕ) → o ≡ Some r → IsEndOf r t) → IsEndOf (unwrap_or o t) t
     by_found None h = ([], refl)
     by_found (Some r) h = h r refl
 
 end_of_or_equal : (one two : Operator) (t : List ℕ) → IsEndOf (or_equal one two t).1 t
-end_of_or_equal one two t = by_found (after_byte 61 t) (end_of_byte 61 t)
+end_of_or_equal one two t = by_found (after (61 ∷ []) t) (end_of_byte 61 t)
   where
     by_found : (o : Option (List ℕ)) → ((r : List ℕ) → o ≡ Some r → IsEndOf r t) → IsEndOf (behind {A = Operator × List ℕ} o (λ rest. (two, rest)) (one, t)).1 t
     by_found None h = ([], refl)
     by_found (Some r) h = h r refl
 
 -- a mark in front, or what is read without it
-end_of_behind : (b : ℕ) (t : List ℕ) (found : List ℕ → Operator × List ℕ) (other : Operator × List ℕ) → ((r : List ℕ) → IsEndOf (found r).1 r) → IsEndOf other.1 t → IsEndOf (behind (after_byte b t) found other).1 t
-end_of_behind b t found other h k = by_found (after_byte b t) (end_of_byte b t)
+end_of_behind : (b : ℕ) (t : List ℕ) (found : List ℕ → Operator × List ℕ) (other : Operator × List ℕ) → ((r : List ℕ) → IsEndOf (found r).1 r) → IsEndOf other.1 t → IsEndOf (behind (after (b ∷ []) t) found other).1 t
+end_of_behind b t found other h k = by_found (after (b ∷ []) t) (end_of_byte b t)
   where
     by_found : (o : Option (List ℕ)) → ((r : List ℕ) → o ≡ Some r → IsEndOf r t) → IsEndOf (behind o found other).1 t
     by_found None e = k
@@ -71,7 +73,7 @@ end_of_behind b t found other h k = by_found (after_byte b t) (end_of_byte b t)
 end_of_operator : (t : List ℕ) → IsEndOf (operator_of t).1 t
 end_of_operator t =
     end_of_behind 94 t (λ rest. (op.Caret, rest)) _ end_itself
-    (end_of_behind 126 t (λ rest. (op.Tilde, unwrap_or (after_byte 62 rest) rest)) _ (end_of_maybe 62)
+    (end_of_behind 126 t (λ rest. (op.Tilde, unwrap_or (after (62 ∷ []) rest) rest)) _ (end_of_maybe 62)
     (end_of_behind 62 t (or_equal op.Above op.AtLeast) _ (end_of_or_equal op.Above op.AtLeast)
     (end_of_behind 60 t (or_equal op.Below op.AtMost) _ (end_of_or_equal op.Below op.AtMost) (end_of_maybe 61 t))))
 
@@ -85,10 +87,10 @@ end_of_part t =
     end_of_end (after_word (after_sign rest)) (after_sign rest) t (end_of_word (after_sign rest)) (end_of_end (after_sign rest) rest t (end_of_sign rest) (end_of_operator t))
 
 -- two marks, one after the other
-end_of_both : (a b : ℕ) (t r : List ℕ) → option_and_then (after_byte b) (after_byte a t) ≡ Some r → IsEndOf r t
-end_of_both a b t r e = by_found (after_byte a t) (end_of_byte a t) e
+end_of_both : (a b : ℕ) (t r : List ℕ) → option_and_then (after (b ∷ [])) (after (a ∷ []) t) ≡ Some r → IsEndOf r t
+end_of_both a b t r e = by_found (after (a ∷ []) t) (end_of_byte a t) e
   where
-    by_found : (o : Option (List ℕ)) → ((s : List ℕ) → o ≡ Some s → IsEndOf s t) → option_and_then (after_byte b) o ≡ Some r → IsEndOf r t
+    by_found : (o : Option (List ℕ)) → ((s : List ℕ) → o ≡ Some s → IsEndOf s t) → option_and_then (after (b ∷ [])) o ≡ Some r → IsEndOf r t
     by_found None h e = cc
     by_found (Some s) h e = end_of_end r s t (end_of_byte b s r e) (h s refl)
 
@@ -96,7 +98,7 @@ pub end_of_bars : (t r : List ℕ) → after_bars t ≡ Some r → IsEndOf r t
 end_of_bars t r e = end_of_both 124 124 t r e
 
 end_of_hyphen : (t r : List ℕ) → after_hyphen t ≡ Some r → IsEndOf r t
-end_of_hyphen t r e = by_found (option_and_then (after_byte 32) (after_byte 45 (after_all is_space t))) (end_of_both 45 32 (after_all is_space t)) e
+end_of_hyphen t r e = by_found (option_and_then (after (32 ∷ [])) (after (45 ∷ []) (after_all is_space t))) (end_of_both 45 32 (after_all is_space t)) e
   where
     by_found : (o : Option (List ℕ)) → ((s : List ℕ) → o ≡ Some s → IsEndOf s (after_all is_space t)) → option_map (after_all is_space) o ≡ Some r → IsEndOf r t
     by_found None h e = cc

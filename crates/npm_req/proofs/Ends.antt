@@ -2,7 +2,8 @@
 use Rattle.std.proofs.Common.{◌≡◌, ◌≢◌, ◌<◌, ◌==◌, ◌||◌, ◌⊎◌, ℕ, suc, Bool, true, false, cond, List, [], ◌∷◌, ◌++◌, length, length-append, refl, sym, ap, ◌∙◌, Option, Some, None, Bor, arith, inl, inr}
 use Rattle.std.specs.Prelude.{option_map, MatchOption}
 use Rattle.std.proofs.lemmas.Bool.Decides.{eqb_tells}
-use Rattle.npm_req.specs.Front.{after_byte, after_all, before_all, is_space, is_blank}
+use Rattle.sugar_path.specs.Front.{after}
+use Rattle.npm_req.specs.Front.{after_all, before_all, is_space, is_blank}
 
 -- a number is told from another
 pub tells_same : (a : ℕ) → (a == a) ≡ true
@@ -12,20 +13,22 @@ tells_same a = by_test (eqb_tells a a)
     by_test (inl w) = w.0
     by_test (inr w) = absurd (w.1 refl)
 
-pub after_byte-strip_prefix : (b : ℕ) (t : List ℕ) (r : Option (Bor (List ℕ))) → MatchOption r ((rest : List ℕ) → t ≢ b ∷ rest) (λ x. t ≡ b ∷ x.now) → option_map (λ x. x.now) r ≡ after_byte b t
-after_byte-strip_prefix b t (Some x) h = sym (ap (after_byte b) h ∙ here)
+pub after-strip_prefix : (b : ℕ) (t : List ℕ) (r : Option (Bor (List ℕ))) → MatchOption r ((rest : List ℕ) → t ≢ b ∷ rest) (λ x. t ≡ b ∷ x.now) → option_map (λ x. x.now) r ≡ after (b ∷ []) t
+unfolding after
+after-strip_prefix b t (Some x) h = sym (ap (after (b ∷ [])) h ∙ here)
   where
-    here : after_byte b (b ∷ x.now) ≡ Some x.now
+    here : after (b ∷ []) (b ∷ x.now) ≡ Some x.now
     here = rw (tells_same b) refl
-after_byte-strip_prefix b [] None h = refl
-after_byte-strip_prefix b (c ∷ cs) None h = by_test (eqb_tells c b)
+after-strip_prefix b [] None h = refl
+after-strip_prefix b (c ∷ cs) None h = by_test (eqb_tells c b)
   where
     by_test : ((c == b) ≡ true) × (c ≡ b) ⊎ ((c == b) ≡ false) × (c ≢ b) → None ≡ cond (c == b) (Some cs) None
     by_test (inl w) = absurd (h cs (ap (λ d. d ∷ cs) w.1))
     by_test (inr w) = rw w.0 refl
 
 -- the bytes in front that pass a test, one at a time
-pub after_all-byte : (passes : ℕ → Bool) (b : ℕ) (t rest : List ℕ) → after_byte b t ≡ Some rest → passes b ≡ true → (after_all passes t ≡ after_all passes rest) × (length rest < length t)
+pub after_all-byte : (passes : ℕ → Bool) (b : ℕ) (t rest : List ℕ) → after (b ∷ []) t ≡ Some rest → passes b ≡ true → (after_all passes t ≡ after_all passes rest) × (length rest < length t)
+unfolding after
 after_all-byte passes b [] rest e h = cc
 after_all-byte passes b (c ∷ cs) rest e h = by_test (eqb_tells c b) e
   where
@@ -38,7 +41,8 @@ after_all-byte passes b (c ∷ cs) rest e h = by_test (eqb_tells c b) e
     by_test (inr w) e = let found : None ≡ Some rest = rw w.0 at e in cc
 
 -- a text that begins with no space
-pub after_spaces-none : (t : List ℕ) → after_byte 32 t ≡ None → after_all is_space t ≡ t
+pub after_spaces-none : (t : List ℕ) → after (32 ∷ []) t ≡ None → after_all is_space t ≡ t
+unfolding after
 after_spaces-none [] e = refl
 after_spaces-none (c ∷ cs) e = by_test (c == 32) e
   where
@@ -46,7 +50,8 @@ after_spaces-none (c ∷ cs) e = by_test (c == 32) e
     by_test true e = cc
     by_test false e = refl
 
-pub after_blanks-none : (t : List ℕ) → after_byte 32 t ≡ None → after_byte 9 t ≡ None → after_all is_blank t ≡ t
+pub after_blanks-none : (t : List ℕ) → after (32 ∷ []) t ≡ None → after (9 ∷ []) t ≡ None → after_all is_blank t ≡ t
+unfolding after
 after_blanks-none [] e f = refl
 after_blanks-none (c ∷ cs) e f = by_tests (c == 32) (c == 9) e f
   where

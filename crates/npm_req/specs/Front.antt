@@ -1,10 +1,5 @@
 -- What stands at the ends of a text.
-use Rattle.std.specs.Prelude.{◌≡◌, ◌++◌, ℕ, Bool, ◌==◌, ◌||◌, if◌then◌else◌, List, [], ◌∷◌, Option, Some, None}
-
--- what follows a byte that the text begins with
-abbrev pub after_byte : ℕ → List ℕ → Option (List ℕ)
-after_byte b [] = None
-after_byte b (c ∷ cs) = if c == b then Some cs else None
+use Rattle.std.specs.Prelude.{◌≡◌, ◌++◌, ℕ, Bool, ◌==◌, ◌||◌, if◌then◌else◌, List, [], ◌∷◌}
 
 -- what follows the bytes in front that pass a test
 abbrev pub after_all : (ℕ → Bool) → List ℕ → List ℕ

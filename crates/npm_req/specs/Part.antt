@@ -1,8 +1,9 @@
 -- One part of a range: an operator, spaces, a `v`, and a partial version.
-use Rattle.std.specs.Prelude.{◌≡◌, ℕ, List, length, Option, Some, None, Result, Ok, Err, unwrap_or}
+use Rattle.std.specs.Prelude.{◌≡◌, ℕ, List, length, Option, Some, None, Result, Ok, Err, unwrap_or, codes}
 use Rattle.npm_req.specs.Comparators.{comparators}
 use Rattle.std.specs.Str.{IsUtf8}
-use Rattle.npm_req.specs.Front.{IsEndOf, after_all, after_byte, is_space}
+use Rattle.sugar_path.specs.Front.{after}
+use Rattle.npm_req.specs.Front.{IsEndOf, after_all, is_space}
 use Rattle.npm_req.specs.Partial.{partial_of}
 use Rattle.npm_req.specs.Word.{after_word, word}
 use Rattle.npm_req.specs.declared.comparator.Comparator.{Comparator}
@@ -23,20 +24,20 @@ behind (Some rest) found other = found rest
 
 -- an operator that becomes another one where `=` follows
 abbrev pub or_equal : Operator → Operator → List ℕ → Operator × List ℕ
-or_equal plain equal t = behind (after_byte 61 t) (λ rest. (equal, rest)) (plain, t)
+or_equal plain equal t = behind (after (codes "=") t) (λ rest. (equal, rest)) (plain, t)
 
 -- the operator in front and what follows it: `^`, `~` or `~>`, `>` or `>=`, `<` or `<=`, `=`; nothing counts as `=`
 abbrev pub operator_of : List ℕ → Operator × List ℕ
 operator_of t =
-    behind (after_byte 94 t) (λ rest. (op.Caret, rest))
-    (behind (after_byte 126 t) (λ rest. (op.Tilde, unwrap_or (after_byte 62 rest) rest))
-    (behind (after_byte 62 t) (or_equal op.Above op.AtLeast)
-    (behind (after_byte 60 t) (or_equal op.Below op.AtMost)
-    (op.Equal, unwrap_or (after_byte 61 t) t))))
+    behind (after (codes "^") t) (λ rest. (op.Caret, rest))
+    (behind (after (codes "~") t) (λ rest. (op.Tilde, unwrap_or (after (codes ">") rest) rest))
+    (behind (after (codes ">") t) (or_equal op.Above op.AtLeast)
+    (behind (after (codes "<") t) (or_equal op.Below op.AtMost)
+    (op.Equal, unwrap_or (after (codes "=") t) t))))
 
 -- where the partial version of a part begins, from what follows the operator
 abbrev pub after_sign : List ℕ → List ℕ
-after_sign t = unwrap_or (after_byte 118 (after_all is_space t)) (after_all is_space t)
+after_sign t = unwrap_or (after (codes "v") (after_all is_space t)) (after_all is_space t)
 
 abbrev pub part_with : List ℕ → Operator → Option Partial → List ℕ → Reading (List Comparator)
 part_with t operator None rest = Err (length t)

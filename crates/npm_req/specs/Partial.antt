@@ -1,5 +1,6 @@
 -- Partial versions: a version, or one to three components, each a number or an x.
 use Rattle.std.specs.Prelude.{ℕ, ◌≤◌, Bool, false, ◌==◌, ◌||◌, if◌then◌else◌, List, [], ◌∷◌, Option, Some, None, option_map}
+use Rattle.std.specs.Option.{option_or}
 use Rattle.semver.specs.Parse.{Parts}
 use Rattle.semver.specs.Order.{parts}
 use Rattle.npm_req.specs.Number.{largest_number, number}
@@ -38,14 +39,9 @@ components others = None
 abbrev pub without_build : Parts → Parts
 without_build p = (p.0, p.1, p.2, p.3, [])
 
--- what one of two ways to read gives, the first where both do
-abbrev pub or_else : {A : Type 0} → Option A → Option A → Option A
-or_else None other = other
-or_else (Some a) other = Some a
-
 -- the partial that a text writes: a version, whose build is dropped, or components between dots
 abbrev pub partial_of : List ℕ → Option Partial
-partial_of t = or_else (option_map (λ p. Full (without_build p)) (semver_of t)) (components (parts t))
+partial_of t = option_or (option_map (λ p. Full (without_build p)) (semver_of t)) (components (parts t))
 
 -- the numbers of a partial aren't too large
 abbrev pub IsCounted : Partial → Type 0

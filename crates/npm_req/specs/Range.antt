@@ -1,7 +1,8 @@
 -- Ranges: alternatives between `||`, each empty, two partial versions around `-`, or parts between spaces.
-use Rattle.std.specs.Prelude.{ℕ, zero, suc, if◌then◌else◌, List, [], ◌∷◌, ◌++◌, length, Option, Some, None, option_and_then, option_map, Result, Ok, Err}
+use Rattle.std.specs.Prelude.{ℕ, zero, suc, if◌then◌else◌, List, [], ◌∷◌, ◌++◌, length, Option, Some, None, option_and_then, option_map, Result, Ok, Err, codes}
+use Rattle.sugar_path.specs.Front.{after}
 use Rattle.npm_req.specs.Comparators.{comparators}
-use Rattle.npm_req.specs.Front.{after_all, after_byte, is_space}
+use Rattle.npm_req.specs.Front.{after_all, is_space}
 use Rattle.npm_req.specs.Part.{Reading, part}
 use Rattle.npm_req.specs.Partial.{partial_of}
 use Rattle.npm_req.specs.Word.{after_bars, after_word, ends_alternative, word}
@@ -26,7 +27,7 @@ parts_of (suc n) t =
 
 -- where the second partial version of a form with `-` begins, from what follows the first: behind spaces, `-` and one space or more
 abbrev pub after_hyphen : List ℕ → Option (List ℕ)
-after_hyphen t = option_map (after_all is_space) (option_and_then (after_byte 32) (after_byte 45 (after_all is_space t)))
+after_hyphen t = option_map (after_all is_space) (option_and_then (after (codes " ")) (after (codes "-") (after_all is_space t)))
 
 abbrev pub up_to : Partial → List ℕ → Option Partial → List ℕ → Reading (List Comparator)
 up_to low t None rest = Err (length t)

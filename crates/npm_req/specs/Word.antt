@@ -1,10 +1,10 @@
 -- The words of a range: what stands up to a space, `||` or the end of the text.
-use Rattle.std.specs.Prelude.{ℕ, Bool, true, ◌==◌, ◌||◌, if◌then◌else◌, List, [], ◌∷◌, Option, is_some, option_and_then}
-use Rattle.npm_req.specs.Front.{after_byte}
+use Rattle.std.specs.Prelude.{ℕ, Bool, true, ◌==◌, ◌||◌, if◌then◌else◌, List, [], ◌∷◌, Option, is_some, option_and_then, codes}
+use Rattle.sugar_path.specs.Front.{after}
 
 -- what follows `||`
 abbrev pub after_bars : List ℕ → Option (List ℕ)
-after_bars t = option_and_then (after_byte 124) (after_byte 124 t)
+after_bars t = option_and_then (after (codes "|")) (after (codes "|") t)
 
 -- whether an alternative ends where this text follows
 abbrev pub ends_alternative : List ℕ → Bool

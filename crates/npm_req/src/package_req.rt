@@ -21,7 +21,8 @@ impl PackageReq {
     pub fn from_str(alloc: Global, text: &str) -> Result<PackageReq, PackageReqParseError>
         ensures name { IfOk result (λ made. made.name ≡ (name_and_range text.now).0) }
         ensures text { IfOk result (λ made. made.version_req.text ≡ (name_and_range text.now).1) }
-        ensures read { IfOk result (λ made. meaning_of (name_and_range text.now).1 ≡ Ok made.version_req.meaning) }
+        ensures read { IfOk result (λ made.
+            meaning_of (name_and_range text.now).1 ≡ Ok made.version_req.meaning) }
         ensures empty { (result ≡ Err PackageReqParseError.EmptyName) ↔ (text.now ≡ []) }
         ensures refused { IfErr result (IsRefused text.now) }
         ensures place { IfErr result (IsPlaceInRange text.now) }

@@ -86,7 +86,8 @@ fn hyphen_of(alloc: Global, low: Partial, text: &str) -> Result<(Vec<Comparator>
 
 // The comparators of the parts up to the end of the alternative, and what follows it.
 fn parts_of(alloc: Global, text: &str) -> Result<(Vec<Comparator>, &str), Refusal>
-    ensures read { IfOk result (λ r. parts_of (length text.now) text.now ≡ Ok (r.0.items, r.1.now)) }
+    ensures read { IfOk result (λ r.
+        parts_of (length text.now) text.now ≡ Ok (r.0.items, r.1.now)) }
     ensures shorter { IfOk result (λ r. length r.1.now ≤ length text.now) }
     ensures end { IfOk result (λ r. IsEndOf r.1.now text.now) }
     ensures refused { IfErr result (Refuses (parts_of (length text.now) text.now)) }

@@ -69,7 +69,8 @@ impl Version {
     /// Spaces and tabs around it don't count, nor does one `v` or `=` in front.
     pub fn parse_npm(alloc: Global, text: &str) -> Result<Version, NpmVersionParseError>
         ensures read { IfOk result (λ version. version_of text.now ≡ Some version) }
-        ensures refused { result ≡ Err NpmVersionParseError.NotAVersion → version_of text.now ≡ None }
+        ensures refused { result ≡ Err NpmVersionParseError.NotAVersion
+            → version_of text.now ≡ None }
     {
         match semver_of(alloc, without_sign(trimmed(text)))? {
             Some(version) => Ok(version),
@@ -165,6 +166,7 @@ impl Version {
 }
 
 // What follows one `v` or `=`, if the text begins with it.
+#[tactic(auto, unfolding(sugar_path::specs::Front::after))]
 fn without_sign(text: &str) -> &str
     ensures { result.now ≡ without_sign text.now }
 {

@@ -20,6 +20,7 @@ pub(crate) fn ends_alternative(text: &str) -> bool
 }
 
 // What stands before the first place where a part ends, and the rest.
+#[tactic(auto, unfolding(sugar_path::specs::Front::after))]
 pub(crate) fn word(text: &str) -> (&str, &str)
     ensures front { result.0.now ≡ word text.now }
     ensures rest { result.1.now ≡ after_word text.now }
@@ -35,6 +36,7 @@ pub(crate) fn word(text: &str) -> (&str, &str)
 }
 
 // Whether a part ends where these bytes follow.
+#[tactic(auto, unfolding(sugar_path::specs::Front::after))]
 fn ends_part(rest: &[u8]) -> bool
     ensures { result ≡ ends_part rest.now }
 {

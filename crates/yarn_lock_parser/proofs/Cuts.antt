@@ -7,7 +7,8 @@ use Rattle.std.proofs.Math.Seq.{take-length}
 use Rattle.yarn_lock_parser.specs.declared.byte_set.ByteSet.{ByteSet}
 use Rattle.yarn_lock_parser.specs.declared.byte_set.ByteSet.TheVariants.{Blank, NotLineFeed}
 use Rattle.yarn_lock_parser.specs.ByteSet.{has}
-use Rattle.yarn_lock_parser.specs.Front.{◌>>=◌, after, run, line_at, front, IsRest}
+use Rattle.sugar_path.specs.Front.{◌>>=◌, after}
+use Rattle.yarn_lock_parser.specs.Front.{run, line_at, front, IsRest}
 use Rattle.yarn_lock_parser.specs.Cut.{after_empty_line, after_later_empty_line, after_first_empty_line, entry_text}
 use Rattle.yarn_lock_parser.proofs.Rests.{either_form, IsLater, later, then_later, run-rest, after_line_end-later}
 

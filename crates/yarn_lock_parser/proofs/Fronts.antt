@@ -12,7 +12,8 @@ use Rattle.std.proofs.lemmas.List.Sums.{prefix_len_passes, prefix_len_stops, pre
 use Rattle.yarn_lock_parser.specs.declared.byte_set.ByteSet.{ByteSet}
 use Rattle.yarn_lock_parser.specs.declared.byte_set.ByteSet.TheVariants.{Blank, WhiteSpace, Digit, Version, Quote, NotLineFeed, NotLineEnd, NotQuote, NotColon, NotAt, Descriptor, DependencyName, Unquoted}
 use Rattle.yarn_lock_parser.specs.ByteSet.{has}
-use Rattle.yarn_lock_parser.specs.Front.{after, before, front, IsRest}
+use Rattle.sugar_path.specs.Front.{after}
+use Rattle.yarn_lock_parser.specs.Front.{before, front, IsRest}
 
 -- two numbers that differ
 differs : (a b : ℕ) → a ≢ b → (a == b) ≡ false

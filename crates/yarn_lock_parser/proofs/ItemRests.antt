@@ -7,7 +7,8 @@ use Rattle.yarn_lock_parser.specs.declared.dependencies.DependencyKind.TheVarian
 use Rattle.yarn_lock_parser.specs.declared.metas.MetaKind.{MetaKind}
 use Rattle.yarn_lock_parser.specs.declared.metas.MetaKind.TheVariants as meta_kinds
 use Rattle.yarn_lock_parser.specs.declared.metas.Flag.{Flag}
-use Rattle.yarn_lock_parser.specs.Front.{after, after_optional, after_blanks, run, IsRest}
+use Rattle.sugar_path.specs.Front.{after}
+use Rattle.yarn_lock_parser.specs.Front.{after_optional, after_blanks, run, IsRest}
 use Rattle.yarn_lock_parser.specs.Items.{at_key, at_value, version_at, integrity_at, resolved_at}
 use Rattle.yarn_lock_parser.specs.Dependencies.{names_kind, dependency_kind, dependencies_at}
 use Rattle.yarn_lock_parser.specs.Metas.{meta_kind, metas_at}

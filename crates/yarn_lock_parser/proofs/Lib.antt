@@ -1,9 +1,12 @@
 pub mod BodyRests
 pub mod Cuts
+pub mod EmptyLines
 pub mod EqualMetas
 pub mod Every
+pub mod FlagLaws
 pub mod Fronts
 pub mod ItemRests
+pub mod Joined
 pub mod Locks
 pub mod Parted
 pub mod Quotes

@@ -2,11 +2,14 @@
 use Rattle.std.proofs.Common.{◌≡◌, ◌≤◌, ◌+◌, ◌-◌, ℕ, List, [], ◌∷◌, ◌++◌, length, refl, sym, ap, ◌∙◌, Option, Some, None, Result, Ok, Err, arith, append_assoc, append-nil}
 use Rattle.std.specs.Prelude.{unwrap_or}
 use Rattle.std.proofs.lemmas.List.{length-take}
+use Rattle.yarn_lock_parser.specs.declared.error.EntryError.{EntryError}
+use Rattle.yarn_lock_parser.specs.declared.error.EntryError.TheVariants.{Refused, NoMemory}
 use Rattle.yarn_lock_parser.specs.declared.error.LockCause.{LockCause}
 use Rattle.yarn_lock_parser.specs.Front.{IsRest, front}
 use Rattle.yarn_lock_parser.specs.Cut.{after_first_empty_line, entry_text, entry_texts}
-use Rattle.yarn_lock_parser.specs.Entry.{Entry, entry_of}
-use Rattle.yarn_lock_parser.specs.Lock.{◌>>=◌, Refusal, at_place, entries_from, place_in}
+use Rattle.yarn_lock_parser.specs.Entry.{◌>>=◌, Entry, entry_of}
+use Rattle.yarn_lock_parser.specs.Entry as by_cause
+use Rattle.yarn_lock_parser.specs.Lock.{Explains, Refusal, at_place, entries_from, error_at, place_in}
 use Rattle.yarn_lock_parser.proofs.Rests.{IsLater, rest-length}
 use Rattle.yarn_lock_parser.proofs.Every.{Shortens, every-none, every-more}
 use Rattle.yarn_lock_parser.proofs.Cuts.{first_empty-rest}
@@ -71,8 +74,12 @@ entries_at-end found place t e = ap (over found place) (every-none entry_text t 
 abbrev joined : List Entry → ℕ → ℕ → List (List ℕ) → Result Entry LockCause → Result (List Entry) Refusal
 joined found place len texts read = put_found found (at_place place read >>= λ first. (entries_from (place + len) texts >>= λ others. Ok (first ∷ others)))
 
-pub entries_at-refused : (found : List Entry) (place : ℕ) (t : List ℕ) (x : List ℕ × List ℕ) (cause : LockCause) → entry_text t ≡ Some x → entry_of x.0 ≡ Err cause → entries_at found place t ≡ Err (record { place = place; cause = cause })
+entries_at-refused : (found : List Entry) (place : ℕ) (t : List ℕ) (x : List ℕ × List ℕ) (cause : LockCause) → entry_text t ≡ Some x → entry_of x.0 ≡ Err cause → entries_at found place t ≡ Err (record { place = place; cause = cause })
 entries_at-refused found place t x cause e refused = ap (over found place) (every-more entry_text entry_text-shortens t x e) ∙ ap (joined found place (length x.0) (entry_texts x.1)) refused
+
+pub entries_at-error : (found : List Entry) (place : ℕ) (t : List ℕ) (x : List ℕ × List ℕ) (e : EntryError) → entry_text t ≡ Some x → by_cause.Explains (entry_of x.0) e → Explains (entries_at found place t) (error_at place e)
+entries_at-error found place t x (Refused cause) e refused = entries_at-refused found place t x cause e refused
+entries_at-error found place t x NoMemory e refused = tt
 
 put_found-push : (found : List Entry) (e : Entry) (read : Result (List Entry) Refusal) → put_found (found ++ e ∷ []) read ≡ put_found found (read >>= λ others. Ok (e ∷ others))
 put_found-push found e (Ok others) = ap Ok (append_assoc found (e ∷ []) others)

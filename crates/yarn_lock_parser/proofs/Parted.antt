@@ -1,6 +1,7 @@
 -- Descriptors, one after the other.
 use Rattle.std.proofs.Common.{◌≡◌, ℕ, List, [], ◌∷◌, ◌++◌, refl, ap, Option, Some, None, append_assoc, append-nil}
-use Rattle.yarn_lock_parser.specs.Front.{◌>>=◌, every}
+use Rattle.sugar_path.specs.Front.{◌>>=◌}
+use Rattle.yarn_lock_parser.specs.Front.{every}
 use Rattle.yarn_lock_parser.specs.Descriptors.{parted, each_parted, next_descriptor, put_before}
 use Rattle.yarn_lock_parser.proofs.Every.{every-none, every-more}
 use Rattle.yarn_lock_parser.proofs.Shorter.{next_descriptor-shortens}

@@ -11,7 +11,8 @@ use Rattle.std.proofs.lemmas.Bool.Decides.{eqb_tells}
 use Rattle.yarn_lock_parser.specs.declared.byte_set.ByteSet.{ByteSet}
 use Rattle.yarn_lock_parser.specs.declared.byte_set.ByteSet.TheVariants.{Blank, Digit, NotLineFeed, NotQuote}
 use Rattle.yarn_lock_parser.specs.ByteSet.{has}
-use Rattle.yarn_lock_parser.specs.Front.{◌>>=◌, after, after_optional, run, some_run, after_blanks, after_line_end, line_at, quoted_at, IsRest, some}
+use Rattle.sugar_path.specs.Front.{◌>>=◌, after}
+use Rattle.yarn_lock_parser.specs.Front.{after_optional, run, some_run, after_blanks, after_line_end, line_at, quoted_at, IsRest, some}
 use Rattle.yarn_lock_parser.specs.Metadata.{after_compression}
 use Rattle.yarn_lock_parser.proofs.Fronts.{after-some}
 

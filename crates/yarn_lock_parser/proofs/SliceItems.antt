@@ -6,7 +6,8 @@ use Rattle.yarn_lock_parser.specs.declared.byte_set.ByteSet.TheVariants.{Blank, 
 use Rattle.yarn_lock_parser.specs.declared.dependencies.DependencyKind.{DependencyKind}
 use Rattle.yarn_lock_parser.specs.declared.metas.MetaKind.{MetaKind}
 use Rattle.yarn_lock_parser.specs.declared.metas.Flag.{Flag}
-use Rattle.yarn_lock_parser.specs.Front.{◌>>=◌, after, after_optional, after_line_end, run, some_run, front, IsRest, every}
+use Rattle.sugar_path.specs.Front.{◌>>=◌, after}
+use Rattle.yarn_lock_parser.specs.Front.{after_optional, after_line_end, run, some_run, front, IsRest, every}
 use Rattle.yarn_lock_parser.specs.Descriptors.{before_colon, descriptor_at, next_descriptor, parted, each_parted, descriptors_on, descriptors_at}
 use Rattle.yarn_lock_parser.specs.Items.{version_at, integrity_at, resolved_at}
 use Rattle.yarn_lock_parser.specs.Dependencies.{trimmed, line_rest, dependency_version, dependency_at, dependencies_at}

@@ -16,9 +16,8 @@ use Rattle.yarn_lock_parser.specs.Item.{Item, Version, Dependencies, Integrity, 
 use Rattle.yarn_lock_parser.specs.Fields.{Fields, no_fields, with_item, fields_of}
 use Rattle.yarn_lock_parser.specs.Metadata.{Metadata, after_compression, cache_key, after_key, metadata_at}
 use Rattle.yarn_lock_parser.specs.Metas.{as_meta}
-use Rattle.yarn_lock_parser.specs.Entry.{Entry, entry_of, ends_in_blank, refuse_if, first_name, named, entry_with}
-use Rattle.yarn_lock_parser.specs.Entry as by_cause
-use Rattle.yarn_lock_parser.specs.Lock.{◌>>=◌, Lock, Refusal, at_place, entries_from, first_version, metadata_after, place_in, lock_of}
+use Rattle.yarn_lock_parser.specs.Entry.{◌>>=◌, Entry, entry_of, ends_in_blank, refuse_if, first_name, entry_with}
+use Rattle.yarn_lock_parser.specs.Lock.{Lock, at_place, entries_from, first_version, metadata_after, place_in, lock_of}
 use Rattle.yarn_lock_parser.specs.Slices.{IsSlice, ArePairsOf, AreNamedIn, IsEntryOf, IsLockOf}
 use Rattle.yarn_lock_parser.proofs.Rests as rests
 use Rattle.yarn_lock_parser.proofs.Rests.{mapped, behind, after-rest, after_blanks-later}
@@ -67,9 +66,9 @@ fields_of-slices t f e =
 -- ---- an entry
 
 -- where two parts of an entry are right one after the other, the first is, and then the next
-entry_step : {A B P : Type 0} (read : Result A LockCause) (next : A → Result B LockCause) (y : B) → by_cause.◌>>=◌ read next ≡ Ok y → ((x : A) → read ≡ Ok x → next x ≡ Ok y → P) → P
-entry_step (Ok x) next y e go = go x refl e
-entry_step (Err cause) next y e go = cc
+ok_step : {A B P X : Type 0} (read : Result A X) (next : A → Result B X) (y : B) → (read >>= next) ≡ Ok y → ((x : A) → read ≡ Ok x → next x ≡ Ok y → P) → P
+ok_step (Ok x) next y e go = go x refl e
+ok_step (Err cause) next y e go = cc
 
 found_if_ok : {A C : Type 0} (o : Option A) (cause : C) (x : A) → ok_or o cause ≡ Ok x → o ≡ Some x
 found_if_ok None cause x e = cc
@@ -101,11 +100,11 @@ entry_with-slices t found r f pairs rest h =
 pub entry_of-slices : (t : List ℕ) (e : Entry) → entry_of t ≡ Ok e → IsEntryOf t e
 unfolding entry_of
 entry_of-slices t e h =
-    entry_step (refuse_if (ends_in_blank t) causes.LastLine) _ e h (λ finished finished-is h₁.
-    entry_step (ok_or (descriptors_at t) causes.Descriptors) _ e h₁ (λ head head-is h₂.
-    entry_step (ok_or (fields_of head.1) causes.NoItem) _ e h₂ (λ fields fields-is h₃.
-    entry_step (refuse_if fields.is_spoilt causes.Optional) _ e h₃ (λ readable readable-is h₄.
-    entry_step (refuse_if (length fields.version == 0) causes.NoVersion) (λ versioned. Ok (entry_with head.0 fields)) e h₄ (λ versioned versioned-is h₅.
+    ok_step (refuse_if (ends_in_blank t) causes.LastLine) _ e h (λ finished finished-is h₁.
+    ok_step (ok_or (descriptors_at t) causes.Descriptors) _ e h₁ (λ head head-is h₂.
+    ok_step (ok_or (fields_of head.1) causes.NoItem) _ e h₂ (λ fields fields-is h₃.
+    ok_step (refuse_if fields.is_spoilt causes.Optional) _ e h₃ (λ readable readable-is h₄.
+    ok_step (refuse_if (length fields.version == 0) causes.NoVersion) (λ versioned. Ok (entry_with head.0 fields)) e h₄ (λ versioned versioned-is h₅.
     let is : entry_with head.0 fields ≡ e = cc in
     let found = found_if_ok (descriptors_at t) causes.Descriptors head head-is in
     let said = found_if_ok (fields_of head.1) causes.NoItem fields fields-is in
@@ -121,11 +120,6 @@ entry_text-slice (c ∷ cs) x e =
     let rest = unwrap_or (after_first_empty_line (c ∷ cs)) [] in
     let parts : (front (c ∷ cs) rest, rest) ≡ x = cc in
     rw (← parts) (front-slice (c ∷ cs) rest)
-
--- the same steps, for the readings of a lock file
-lock_step : {A B P : Type 0} (read : Result A Refusal) (next : A → Result B Refusal) (y : B) → (read >>= next) ≡ Ok y → ((x : A) → read ≡ Ok x → next x ≡ Ok y → P) → P
-lock_step (Ok x) next y e go = go x refl e
-lock_step (Err refusal) next y e go = cc
 
 read_at_place : {A : Type 0} (place : ℕ) (read : Result A LockCause) (x : A) → at_place place read ≡ Ok x → read ≡ Ok x
 read_at_place place (Ok y) x e = let same : y ≡ x = cc in ap Ok same
@@ -148,7 +142,7 @@ entry-within a e h = record {
 entries_from-slices : (t : List ℕ) (place : ℕ) (ts : List (List ℕ)) (es : List Entry) → AllByRecursion (IsSlice t) ts → entries_from place ts ≡ Ok es → AllByRecursion (IsEntryOf t) es
 entries_from-slices t place [] es slices e = let is : [] ≡ es = cc in rw (← is) tt
 entries_from-slices t place (s ∷ ts) es slices e =
-    lock_step _ _ es e (λ first first-is e₁. lock_step (entries_from (place + length s) ts) (λ others. Ok (first ∷ others)) es e₁ (λ others others-is e₂.
+    ok_step _ _ es e (λ first first-is e₁. ok_step (entries_from (place + length s) ts) (λ others. Ok (first ∷ others)) es e₁ (λ others others-is e₂.
     let is : first ∷ others ≡ es = cc in
     let entry = entry_of-slices s first (read_at_place place (entry_of s) first first-is) in
     rw (← is) (entry-within slices.0 first entry, entries_from-slices t (place + length s) ts others slices.1 others-is)
@@ -194,9 +188,9 @@ key-behind r (Some key) h = slice-behind r h
 lock_of-slices : (t : List ℕ) (lock : Lock) → lock_of t ≡ Ok lock → IsLockOf t lock
 unfolding lock_of
 lock_of-slices t lock e =
-    lock_step (at_place 0 (ok_or (header_at t) causes.Header)) _ lock e (λ head head-is e₁.
-    lock_step (at_place (place_in t head.1) (ok_or (metadata_after head.0.is_first_version head.1) causes.Metadata)) _ lock e₁ (λ facts facts-is e₂.
-    lock_step (entries_from (place_in t facts.1) (entry_texts facts.1)) (λ entries. Ok (record { generator = head.0.generator; version = facts.0.version; cache_key = facts.0.cache_key; entries = entries })) lock e₂ (λ entries entries-is e₃.
+    ok_step (at_place 0 (ok_or (header_at t) causes.Header)) _ lock e (λ head head-is e₁.
+    ok_step (at_place (place_in t head.1) (ok_or (metadata_after head.0.is_first_version head.1) causes.Metadata)) _ lock e₁ (λ facts facts-is e₂.
+    ok_step (entries_from (place_in t facts.1) (entry_texts facts.1)) (λ entries. Ok (record { generator = head.0.generator; version = facts.0.version; cache_key = facts.0.cache_key; entries = entries })) lock e₂ (λ entries entries-is e₃.
     let is : record { generator = head.0.generator; version = facts.0.version; cache_key = facts.0.cache_key; entries = entries } ≡ lock = cc in
     let header = header_at-rest t head (found_if_ok (header_at t) causes.Header head (read_at_place 0 _ head head-is)) in
     let said = found_if_ok (metadata_after head.0.is_first_version head.1) causes.Metadata facts (read_at_place (place_in t head.1) _ facts facts-is) in

@@ -5,7 +5,8 @@ use Rattle.std.specs.List.{AllByRecursion}
 use Rattle.std.proofs.lemmas.List.{take-append-drop, reverse-append, reverse-reverse}
 use Rattle.yarn_lock_parser.specs.declared.byte_set.ByteSet.{ByteSet}
 use Rattle.yarn_lock_parser.specs.declared.byte_set.ByteSet.TheVariants.{Quote, NotLineFeed, NotQuote}
-use Rattle.yarn_lock_parser.specs.Front.{after, before, before_optional, run, some_run, line_at, quoted_at, front, IsRest, up_to, every, some}
+use Rattle.sugar_path.specs.Front.{after}
+use Rattle.yarn_lock_parser.specs.Front.{before, before_optional, run, some_run, line_at, quoted_at, front, IsRest, up_to, every, some}
 use Rattle.yarn_lock_parser.specs.Dependencies.{before_quotes, trimmed}
 use Rattle.yarn_lock_parser.specs.Slices.{IsSlice}
 use Rattle.yarn_lock_parser.proofs.Fronts.{before-some}

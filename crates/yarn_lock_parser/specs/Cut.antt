@@ -1,5 +1,5 @@
 -- Where a text is cut: behind a line of only blanks.
-use Rattle.std.specs.Prelude.{ℕ, ◌==◌, cond, List, [], ◌∷◌, Option, Some, None, unwrap_or}
+use Rattle.std.specs.Prelude.{ℕ, ◌==◌, if◌then◌else◌, List, [], ◌∷◌, Option, Some, None, unwrap_or}
 use Rattle.std.specs.Option.{option_or}
 use Rattle.yarn_lock_parser.specs.declared.byte_set.ByteSet.TheVariants.{Blank}
 use Rattle.yarn_lock_parser.specs.Front.{run, after_line_end, front, every}
@@ -11,7 +11,10 @@ after_empty_line t = after_line_end (run Blank t).1
 -- what follows the first line of only blanks that begins behind a line feed
 unfoldable pub after_later_empty_line : List ℕ → Option (List ℕ)
 after_later_empty_line [] = None
-after_later_empty_line (c ∷ cs) = cond (c == 10) (option_or (after_empty_line cs) (after_later_empty_line cs)) (after_later_empty_line cs)
+after_later_empty_line (c ∷ cs) =
+    if c == 10
+    then option_or (after_empty_line cs) (after_later_empty_line cs)
+    else after_later_empty_line cs
 
 -- what follows the first line of only blanks, where a line begins at the front too
 unfoldable pub after_first_empty_line : List ℕ → Option (List ℕ)

@@ -1,16 +1,17 @@
 -- The dependencies that an entry lists under a heading.
-use Rattle.std.specs.Prelude.{ℕ, Bool, ◌==◌, ◌&&◌, cond, List, [], ◌∷◌, length, reverse, Option, Some, None, unwrap_or, is_some, is_none, codes}
+use Rattle.std.specs.Prelude.{ℕ, Bool, ◌==◌, ◌&&◌, if◌then◌else◌, List, [], ◌∷◌, length, reverse, Option, Some, None, unwrap_or, is_some, is_none, codes}
 use Rattle.std.specs.Option.{option_or}
 use Rattle.yarn_lock_parser.specs.declared.byte_set.ByteSet.TheVariants.{Blank, Quote, NotLineEnd, DependencyName}
 use Rattle.yarn_lock_parser.specs.declared.dependencies.DependencyKind.{DependencyKind}
 use Rattle.yarn_lock_parser.specs.declared.dependencies.DependencyKind.TheVariants.{Regular, Optional, Peer}
-use Rattle.yarn_lock_parser.specs.Front.{◌>>=◌, after, after_line_end, run, some_run, quoted_at, some}
+use Rattle.sugar_path.specs.Front.{◌>>=◌, after}
+use Rattle.yarn_lock_parser.specs.Front.{after_line_end, run, some_run, quoted_at, some}
 
 -- the blanks before what stands deeper than an indent: the indent, and one blank or more
 unfoldable pub deeper : List ℕ → List ℕ → Option (List ℕ × List ℕ)
 deeper indent t = do
   further ← after indent (run Blank t).0
-  cond (length further == 0) None (Some (run Blank t))
+  if length further == 0 then None else Some (run Blank t)
 
 -- a text without the quotes at its end
 unfoldable pub before_quotes : List ℕ → List ℕ
@@ -26,7 +27,7 @@ is_lone_return t = is_some (after (13 ∷ []) t) && is_none (after (13 ∷ 10 �
 
 -- the rest of a line, where no carriage return stands in it
 unfoldable pub line_rest : List ℕ → Option (List ℕ × List ℕ)
-line_rest t = cond (is_lone_return (run NotLineEnd t).1) None (Some (run NotLineEnd t))
+line_rest t = if is_lone_return (run NotLineEnd t).1 then None else Some (run NotLineEnd t)
 
 -- the version, which is a quoted text, or else the rest of the line; a line end or blanks behind it are passed over
 unfoldable pub dependency_version : List ℕ → Option (List ℕ × List ℕ)

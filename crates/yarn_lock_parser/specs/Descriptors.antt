@@ -2,7 +2,8 @@
 use Rattle.std.specs.Prelude.{ℕ, List, [], ◌∷◌, ◌++◌, Option, Some, option_map, codes}
 use Rattle.std.specs.Option.{option_or}
 use Rattle.yarn_lock_parser.specs.declared.byte_set.ByteSet.TheVariants.{Descriptor, NotAt}
-use Rattle.yarn_lock_parser.specs.Front.{◌>>=◌, after, after_optional, before, run, some_run, line_at, front, every}
+use Rattle.sugar_path.specs.Front.{◌>>=◌, after}
+use Rattle.yarn_lock_parser.specs.Front.{after_optional, before, run, some_run, line_at, front, every}
 
 -- the line's text before its `:`, which a carriage return may follow
 unfoldable pub before_colon : List ℕ → Option (List ℕ)

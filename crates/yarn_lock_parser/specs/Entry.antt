@@ -1,7 +1,9 @@
 -- An entry of a lock file, and what a text is refused for as an entry.
-use Rattle.std.specs.Prelude.{ℕ, Bool, true, false, ◌==◌, ◌-◌, List, [], ◌∷◌, length, map, Result, Ok, Err, ok_or, slice_get}
+use Rattle.std.specs.Prelude.{◌≡◌, ℕ, Bool, true, false, ◌==◌, ◌-◌, List, [], ◌∷◌, length, map, Result, Ok, Err, ok_or, slice_get}
 use Rattle.std.specs.Option.{option_map_or}
 use Rattle.yarn_lock_parser.specs.declared.byte_set.ByteSet.TheVariants.{Blank}
+use Rattle.yarn_lock_parser.specs.declared.error.EntryError.{EntryError}
+use Rattle.yarn_lock_parser.specs.declared.error.EntryError.TheVariants.{Refused, NoMemory}
 use Rattle.yarn_lock_parser.specs.declared.error.LockCause.{LockCause}
 use Rattle.yarn_lock_parser.specs.declared.error.LockCause.TheVariants.{LastLine, Descriptors, NoItem, Optional, NoVersion}
 use Rattle.yarn_lock_parser.specs.declared.metas.DepMeta.{DepMeta}
@@ -22,14 +24,15 @@ pub record Entry : Type 0 where
   pub peer_dependencies_meta : List (List ℕ × DepMeta)
   pub descriptors : List (List ℕ × List ℕ)
 
+-- one part, and then the next, up to the first error
 infixl 10 ◌>>=◌
-abbrev pub ◌>>=◌ : {A B : Type 0} → Result A LockCause → (A → Result B LockCause) → Result B LockCause
+abbrev pub ◌>>=◌ : {A B X : Type 0} → Result A X → (A → Result B X) → Result B X
 (Ok x) >>= next = next x
-(Err cause) >>= next = Err cause
+(Err e) >>= next = Err e
 
-abbrev pub refuse_if : Bool → LockCause → Result Bool LockCause
+abbrev pub refuse_if : Bool → LockCause → Result (Unit {0}) LockCause
 refuse_if true cause = Err cause
-refuse_if false cause = Ok true
+refuse_if false cause = Ok tt
 
 -- a text that ends in a blank, so its last line has no line feed
 unfoldable pub ends_in_blank : List ℕ → Bool
@@ -66,3 +69,8 @@ entry_of t = do
   readable ← refuse_if fields.is_spoilt Optional
   versioned ← refuse_if (length fields.version == 0) NoVersion
   Ok (entry_with head.0 fields)
+
+-- what an error of the reader means of a reading: want of memory means nothing
+abbrev pub Explains : Result Entry LockCause → EntryError → Type 0
+Explains read (Refused cause) = read ≡ Err cause
+Explains read NoMemory = Unit {0}

@@ -1,22 +1,11 @@
 -- What a text's front is, and what follows it. A reading of a front is what the front says, and the text that follows it.
-use Rattle.std.specs.Prelude.{◌≡◌, ◌++◌, ℕ, zero, suc, ◌==◌, ◌-◌, cond, List, [], ◌∷◌, length, take, drop, reverse, Option, Some, None, option_map, unwrap_or}
+use Rattle.std.specs.Prelude.{◌≡◌, ◌++◌, ℕ, zero, suc, ◌==◌, ◌-◌, if◌then◌else◌, List, [], ◌∷◌, length, take, drop, reverse, Option, Some, None, option_map, unwrap_or}
 use Rattle.std.specs.Option.{option_or}
 use Rattle.std.specs.List.{prefix_len}
+use Rattle.sugar_path.specs.Front.{◌>>=◌, after}
 use Rattle.yarn_lock_parser.specs.declared.byte_set.ByteSet.{ByteSet}
 use Rattle.yarn_lock_parser.specs.declared.byte_set.ByteSet.TheVariants.{Blank, NotLineFeed, NotQuote}
 use Rattle.yarn_lock_parser.specs.ByteSet.{has}
-
--- one part, and then the next, where both fit
-infixl 10 ◌>>=◌
-abbrev pub ◌>>=◌ : {A B : Type 0} → Option A → (A → Option B) → Option B
-None >>= next = None
-(Some x) >>= next = next x
-
--- what follows a word at the front
-unfoldable pub after : List ℕ → List ℕ → Option (List ℕ)
-after [] t = Some t
-after (w ∷ ws) [] = None
-after (w ∷ ws) (c ∷ cs) = cond (c == w) (after ws cs) None
 
 -- what follows a word that may stand at the front
 abbrev pub after_optional : List ℕ → List ℕ → List ℕ
@@ -36,7 +25,7 @@ run set t = (take (prefix_len (has set) t) t, drop (prefix_len (has set) t) t)
 
 -- the same run, of one byte or more
 unfoldable pub some_run : ByteSet → List ℕ → Option (List ℕ × List ℕ)
-some_run set t = cond (length (run set t).0 == 0) None (Some (run set t))
+some_run set t = if length (run set t).0 == 0 then None else Some (run set t)
 
 -- what follows one blank or more
 abbrev pub after_blanks : List ℕ → Option (List ℕ)
@@ -82,4 +71,4 @@ every part t = up_to part (length t) t
 
 -- the same, of one part or more
 unfoldable pub some : {A : Type 0} → (List ℕ → Option (A × List ℕ)) → List ℕ → Option (List A × List ℕ)
-some part t = cond (length (every part t).0 == 0) None (Some (every part t))
+some part t = if length (every part t).0 == 0 then None else Some (every part t)

@@ -4,7 +4,8 @@ use Rattle.std.specs.Option.{option_map_or}
 use Rattle.yarn_lock_parser.specs.declared.byte_set.ByteSet.TheVariants.{WhiteSpace}
 use Rattle.yarn_lock_parser.specs.declared.header.Header.{Header}
 use Rattle.yarn_lock_parser.specs.declared.header.Generator.TheVariants.{Yarn, Bun}
-use Rattle.yarn_lock_parser.specs.Front.{◌>>=◌, after, run, line_at}
+use Rattle.sugar_path.specs.Front.{◌>>=◌, after}
+use Rattle.yarn_lock_parser.specs.Front.{run, line_at}
 
 -- what follows the line that Bun adds
 unfoldable pub after_bun_line : List ℕ → Option (List ℕ)

@@ -2,7 +2,8 @@
 use Rattle.std.specs.Prelude.{ℕ, List, [], ◌∷◌, Option, Some, option_map, codes}
 use Rattle.std.specs.Option.{option_or}
 use Rattle.yarn_lock_parser.specs.declared.byte_set.ByteSet.TheVariants.{Version, Unquoted}
-use Rattle.yarn_lock_parser.specs.Front.{◌>>=◌, after, after_optional, after_blanks, after_line_end, run, some_run}
+use Rattle.sugar_path.specs.Front.{◌>>=◌, after}
+use Rattle.yarn_lock_parser.specs.Front.{after_optional, after_blanks, after_line_end, run, some_run}
 
 -- what follows the blanks before a key, and a quote that may open it
 abbrev pub at_key : List ℕ → Option (List ℕ)

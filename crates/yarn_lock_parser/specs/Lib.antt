@@ -9,6 +9,7 @@ pub mod Front
 pub mod Header
 pub mod Item
 pub mod Items
+pub mod Laws
 pub mod Lock
 pub mod Metadata
 pub mod Metas

@@ -1,5 +1,7 @@
 -- A whole lock file, and where and why a text is none.
 use Rattle.std.specs.Prelude.{ℕ, Bool, true, false, ◌+◌, ◌-◌, List, [], ◌∷◌, ◌≡◌, length, Option, Some, None, Result, Ok, Err, ok_or}
+use Rattle.yarn_lock_parser.specs.declared.error.EntryError.{EntryError}
+use Rattle.yarn_lock_parser.specs.declared.error.EntryError.TheVariants as of_entry
 use Rattle.yarn_lock_parser.specs.declared.error.LockCause.{LockCause}
 use Rattle.yarn_lock_parser.specs.declared.error.LockCause.TheVariants as causes
 use Rattle.yarn_lock_parser.specs.declared.error.YarnLockError.{YarnLockError}
@@ -8,7 +10,7 @@ use Rattle.yarn_lock_parser.specs.declared.header.Generator.{Generator}
 use Rattle.yarn_lock_parser.specs.Header.{header_at}
 use Rattle.yarn_lock_parser.specs.Metadata.{Metadata, metadata_at}
 use Rattle.yarn_lock_parser.specs.Cut.{entry_texts}
-use Rattle.yarn_lock_parser.specs.Entry.{Entry, entry_of}
+use Rattle.yarn_lock_parser.specs.Entry.{◌>>=◌, Entry, entry_of}
 
 pub record Lock : Type 0 where
   pub generator : Generator
@@ -20,11 +22,6 @@ pub record Lock : Type 0 where
 pub record Refusal : Type 0 where
   pub place : ℕ
   pub cause : LockCause
-
-infixl 10 ◌>>=◌
-abbrev pub ◌>>=◌ : {A B : Type 0} → Result A Refusal → (A → Result B Refusal) → Result B Refusal
-(Ok x) >>= next = next x
-(Err refusal) >>= next = Err refusal
 
 abbrev pub at_place : {A : Type 0} → ℕ → Result A LockCause → Result A Refusal
 at_place place (Ok x) = Ok x
@@ -57,6 +54,11 @@ lock_of t = do
   facts ← at_place (place_in t head.1) (ok_or (metadata_after head.0.is_first_version head.1) causes.Metadata)
   entries ← entries_from (place_in t facts.1) (entry_texts facts.1)
   Ok (record { generator = head.0.generator; version = facts.0.version; cache_key = facts.0.cache_key; entries = entries })
+
+-- the error of a lock file with an entry at a place
+abbrev pub error_at : ℕ → EntryError → YarnLockError
+error_at place (of_entry.Refused cause) = Parser place cause
+error_at place of_entry.NoMemory = NoMemory
 
 -- what an error of the reader means of a reading: want of memory means nothing
 abbrev pub Explains : {A : Type 0} → Result A Refusal → YarnLockError → Type 0

@@ -1,9 +1,10 @@
 -- The metadata that lock files have from version 2 on.
-use Rattle.std.specs.Prelude.{ℕ, cond, List, Option, Some, None, option_map, unwrap_or, nat_le, codes}
+use Rattle.std.specs.Prelude.{ℕ, if◌then◌else◌, List, Option, Some, None, option_map, unwrap_or, nat_le, codes}
 use Rattle.std.specs.Str.Parse.{digits_value}
 use Rattle.std.specs.Option.{option_map_or}
 use Rattle.yarn_lock_parser.specs.declared.byte_set.ByteSet.TheVariants.{WhiteSpace, Digit}
-use Rattle.yarn_lock_parser.specs.Front.{◌>>=◌, after, after_blanks, after_line_end, run, some_run, front}
+use Rattle.sugar_path.specs.Front.{◌>>=◌, after}
+use Rattle.yarn_lock_parser.specs.Front.{after_blanks, after_line_end, run, some_run, front}
 use Rattle.yarn_lock_parser.specs.Cut.{after_first_empty_line}
 
 pub record Metadata : Type 0 where
@@ -12,7 +13,8 @@ pub record Metadata : Type 0 where
 
 -- the number that digits spell, at most 255
 unfoldable pub version_number : List ℕ → Option ℕ
-version_number digits = cond (nat_le (digits_value 10 digits) 255) (Some (digits_value 10 digits)) None
+version_number digits =
+    if nat_le (digits_value 10 digits) 255 then Some (digits_value 10 digits) else None
 
 -- a version's number
 unfoldable pub number_at : List ℕ → Option (ℕ × List ℕ)

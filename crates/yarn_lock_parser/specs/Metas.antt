@@ -1,5 +1,5 @@
 -- What an entry says of its dependencies under a heading.
-use Rattle.std.specs.Prelude.{ℕ, Bool, true, false, cond, List, [], ◌∷◌, bytes_eq, Option, Some, None, codes}
+use Rattle.std.specs.Prelude.{ℕ, Bool, true, false, if◌then◌else◌, List, [], ◌∷◌, bytes_eq, Option, Some, None, codes}
 use Rattle.std.specs.Option.{option_or}
 use Rattle.std.specs.List.{fold}
 use Rattle.yarn_lock_parser.specs.declared.byte_set.ByteSet.TheVariants.{Blank, NotColon}
@@ -8,7 +8,8 @@ use Rattle.yarn_lock_parser.specs.declared.metas.MetaKind.{MetaKind}
 use Rattle.yarn_lock_parser.specs.declared.metas.MetaKind.TheVariants.{Dependencies, PeerDependencies}
 use Rattle.yarn_lock_parser.specs.declared.metas.Flag.{Flag}
 use Rattle.yarn_lock_parser.specs.declared.metas.Flag.TheVariants.{Absent, Known, Unreadable}
-use Rattle.yarn_lock_parser.specs.Front.{◌>>=◌, after, before_optional, after_line_end, run, some_run, line_at, quoted_at, some}
+use Rattle.sugar_path.specs.Front.{◌>>=◌, after}
+use Rattle.yarn_lock_parser.specs.Front.{before_optional, after_line_end, run, some_run, line_at, quoted_at, some}
 use Rattle.yarn_lock_parser.specs.Dependencies.{deeper, names_kind}
 
 -- a property's key and value, below a meta with an indent of its own
@@ -20,12 +21,15 @@ property_at indent t = do
   Some (((run NotColon own.1).0, before_optional (13 ∷ []) rest.0), rest.1)
 
 abbrev pub flag_of : List ℕ → Flag
-flag_of value = cond (bytes_eq value (codes "true")) (Known true) (cond (bytes_eq value (codes "false")) (Known false) Unreadable)
+flag_of value =
+    if bytes_eq value (codes "true")
+    then Known true
+    else (if bytes_eq value (codes "false") then Known false else Unreadable)
 
 -- A property `optional` gives the flag. One that is neither `true` nor `false` spoils it for good.
 abbrev pub noted : Flag → List ℕ × List ℕ → Flag
 noted Unreadable property = Unreadable
-noted flag property = cond (bytes_eq property.0 (codes "optional")) (flag_of property.1) flag
+noted flag property = if bytes_eq property.0 (codes "optional") then flag_of property.1 else flag
 
 -- what the properties say, one or more, below a meta with an indent of its own
 unfoldable pub flag_under : List ℕ → List ℕ → Option (Flag × List ℕ)

@@ -28,7 +28,7 @@ impl ByteSet {
         match self {
             ByteSet::Blank => byte == b' ' || byte == b'\t',
             ByteSet::WhiteSpace => byte == b' ' || byte == b'\t' || byte == b'\r' || byte == b'\n',
-            ByteSet::Digit => b'0' <= byte && byte <= b'9',
+            ByteSet::Digit => byte.is_ascii_digit(),
             ByteSet::Version => is_version_byte(byte),
             ByteSet::Quote => byte == b'"',
             ByteSet::NotLineFeed => byte != b'\n',

@@ -22,7 +22,8 @@ pub(crate) fn dependencies_at(
     alloc: Global,
     text: &str,
 ) -> Result<Option<(DependencyKind, Vec<Pair<'_>>, &str)>, AllocError>
-    ensures { IfOk result (λ o. option_map (λ x. ((x.0, x.1.items), x.2.now)) o ≡ dependencies_at text.now) }
+    ensures { IfOk result (λ o.
+        option_map (λ x. ((x.0, x.1.items), x.2.now)) o ≡ dependencies_at text.now) }
 {
     let Some((indent, key)) = some_run(ByteSet::Blank, text) else {
         return Ok(None);

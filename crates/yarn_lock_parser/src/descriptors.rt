@@ -14,7 +14,8 @@ pub(crate) fn descriptors_at(
     alloc: Global,
     text: &str,
 ) -> Result<Option<(Vec<Pair<'_>>, &str)>, AllocError>
-    ensures { IfOk result (λ o. option_map (λ x. (x.0.items, x.1.now)) o ≡ descriptors_at text.now) }
+    ensures { IfOk result (λ o.
+        option_map (λ x. (x.0.items, x.1.now)) o ≡ descriptors_at text.now) }
 {
     let Some((line, rest)) = line_at(text) else {
         return Ok(None);
@@ -57,7 +58,9 @@ fn with_further<'a>(
     first: Pair<'a>,
     list: &'a str,
 ) -> Result<Option<Vec<Pair<'a>>>, AllocError>
-    ensures { IfOk result (λ o. option_map (λ v. v.items) o ≡ put_before (first.entry ∷ []) (each_parted (every next_descriptor list.now).0)) }
+    ensures { IfOk result (λ o.
+        option_map (λ v. v.items) o
+        ≡ put_before (first.entry ∷ []) (each_parted (every next_descriptor list.now).0)) }
 {
     let mut found = Vec::new(alloc);
     found.push(first)?;

@@ -1,14 +1,14 @@
 // An entry of a lock file.
-ghost use Rattle.std.specs.Prelude.{◌≡◌, IfOk};
-ghost use Rattle.yarn_lock_parser.specs.Entry.{ends_in_blank, entry_of, entry_with};
+ghost use Rattle.std.specs.Prelude.{◌≡◌, IfErr, IfOk, Ok};
+ghost use Rattle.yarn_lock_parser.specs.Entry.{ends_in_blank, entry_of, entry_with, Explains, refuse_if};
 
 use crate::byte_set::ByteSet;
 use crate::descriptors::descriptors_at;
-use crate::error::LockCause;
+use crate::error::{EntryError, LockCause};
 use crate::fields::{Fields, fields_of};
 use crate::metas::Metas;
 use crate::pair::{Pair, Pairs};
-use std::alloc::{AllocError, Global};
+use std::alloc::Global;
 use std::marker::Model;
 
 /// An entry of a lock file: the packages that it stands for, and what it says of them.
@@ -111,28 +111,22 @@ impl<'a> Entry<'a> {
 
 /// The entry that a text is, or the first cause against it.
 #[tactic(auto, unfolding(crate::specs::Entry::entry_of))]
-pub(crate) fn entry_of(
-    alloc: Global,
-    text: &str,
-) -> Result<Result<Entry<'_>, LockCause>, AllocError>
-    ensures { IfOk result (λ read. read ≡ entry_of text.now) }
+pub(crate) fn entry_of(alloc: Global, text: &str) -> Result<Entry<'_>, EntryError>
+    ensures read { IfOk result (λ entry. entry_of text.now ≡ Ok entry) }
+    ensures refused { IfErr result (Explains (entry_of text.now)) }
 {
-    if ends_in_blank(text) {
-        return Ok(Err(LockCause::LastLine));
-    }
-    let Some((descriptors, body)) = descriptors_at(alloc, text)? else {
-        return Ok(Err(LockCause::Descriptors));
-    };
-    let Some(fields) = fields_of(alloc, body)? else {
-        return Ok(Err(LockCause::NoItem));
-    };
-    if fields.is_spoilt {
-        return Ok(Err(LockCause::Optional));
-    }
-    if fields.version.is_empty() {
-        return Ok(Err(LockCause::NoVersion));
-    }
-    Ok(Ok(Entry::new(descriptors, fields)))
+    refuse_if(ends_in_blank(text), LockCause::LastLine)?;
+    let (descriptors, body) = descriptors_at(alloc, text)?.ok_or(LockCause::Descriptors)?;
+    let fields = fields_of(alloc, body)?.ok_or(LockCause::NoItem)?;
+    refuse_if(fields.is_spoilt, LockCause::Optional)?;
+    refuse_if(fields.version.is_empty(), LockCause::NoVersion)?;
+    Ok(Entry::new(descriptors, fields))
+}
+
+fn refuse_if(is_refused: bool, cause: LockCause) -> Result<(), LockCause>
+    ensures { result ≡ refuse_if is_refused cause }
+{
+    if is_refused { Err(cause) } else { Ok(()) }
 }
 
 #[tactic(auto, unfolding(crate::specs::Entry::ends_in_blank))]

@@ -7,7 +7,7 @@ use thiserror::Error;
 /// What is wrong with a text. Parts are read in order, and the first that is wrong is told; an entry's causes are tried in the order below.
 #[derive(Clone, Copy, Debug, PartialEq, Eq)]
 pub enum LockCause {
-    /// The text doesn't begin with two comment lines.
+    /// The text doesn't begin with two whole lines, whatever they say.
     Header,
     /// What follows the header of a text that isn't of version 1 is no metadata.
     Metadata,
@@ -15,7 +15,7 @@ pub enum LockCause {
     LastLine,
     /// The entry's first line has no descriptors.
     Descriptors,
-    /// Nothing follows the entry's first line.
+    /// What follows the entry's first line has no line end, and none of an item's forms fits it.
     NoItem,
     /// A property `optional` is neither `true` nor `false`.
     Optional,
@@ -31,6 +31,47 @@ pub enum YarnLockError {
     Parser { place: usize, cause: LockCause },
     #[error("out of memory")]
     NoMemory,
+}
+
+/// Why a text gives no entry.
+#[derive(Drop)]
+pub(crate) enum EntryError {
+    Refused(LockCause),
+    NoMemory,
+}
+
+impl EntryError {
+    ghost use Rattle.yarn_lock_parser.specs.Lock.{error_at};
+
+    /// The error of a lock file with the entry at a place.
+    pub(crate) fn at(self, place: usize) -> YarnLockError
+        ensures { result ≡ error_at place self }
+    {
+        match self {
+            EntryError::Refused(cause) => YarnLockError::Parser { place, cause },
+            EntryError::NoMemory => YarnLockError::NoMemory,
+        }
+    }
+}
+
+impl From<AllocError> for EntryError {
+    ghost use Rattle.yarn_lock_parser.specs.declared.error.EntryError.TheVariants.{NoMemory};
+
+    ghost from_gives = { λ _ e. e ≡ NoMemory };
+
+    fn from(_: AllocError) -> Self {
+        EntryError::NoMemory
+    }
+}
+
+impl From<LockCause> for EntryError {
+    ghost use Rattle.yarn_lock_parser.specs.declared.error.EntryError.TheVariants.{Refused};
+
+    ghost from_gives = { λ cause e. e ≡ Refused cause };
+
+    fn from(cause: LockCause) -> Self {
+        EntryError::Refused(cause)
+    }
 }
 
 impl From<AllocError> for YarnLockError {

@@ -32,7 +32,17 @@ impl<'a> Model for Fields<'a> {
 
     ghost Value = { specs.Fields };
 
-    ghost view = { λ f. record { version = f.version.now; resolved = f.resolved.now; integrity = f.integrity.now; dependencies = f.dependencies.items; optional_dependencies = f.optional_dependencies.items; peer_dependencies = f.peer_dependencies.items; dependencies_meta = f.dependencies_meta.items; peer_dependencies_meta = f.peer_dependencies_meta.items; is_spoilt = f.is_spoilt } };
+    ghost view = { λ f. record {
+      version = f.version.now;
+      resolved = f.resolved.now;
+      integrity = f.integrity.now;
+      dependencies = f.dependencies.items;
+      optional_dependencies = f.optional_dependencies.items;
+      peer_dependencies = f.peer_dependencies.items;
+      dependencies_meta = f.dependencies_meta.items;
+      peer_dependencies_meta = f.peer_dependencies_meta.items;
+      is_spoilt = f.is_spoilt;
+    } };
 }
 
 impl<'a> Fields<'a> {

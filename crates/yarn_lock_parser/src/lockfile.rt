@@ -28,7 +28,12 @@ impl<'a> Model for Lockfile<'a> {
 
     ghost Value = { specs.Lock };
 
-    ghost view = { λ l. record { generator = l.generator; version = l.version; cache_key = option_map (λ key. key.now) l.cache_key; entries = l.entries.items } };
+    ghost view = { λ l. record {
+      generator = l.generator;
+      version = l.version;
+      cache_key = option_map (λ key. key.now) l.cache_key;
+      entries = l.entries.items;
+    } };
 }
 
 impl<'a> Lockfile<'a> {
@@ -124,17 +129,19 @@ fn entries_of<'a>(
     text: &'a str,
 ) -> Result<Vec<Entry<'a>>, YarnLockError>
     requires { IsRest content.now text.now }
-    ensures read { IfOk result (λ found. entries_from (place_in content.now text.now) (entry_texts text.now) ≡ Ok found.items) }
-    ensures refused { IfErr result (Explains (entries_from (place_in content.now text.now) (entry_texts text.now))) }
+    ensures read { IfOk result (λ found.
+        entries_from (place_in content.now text.now) (entry_texts text.now) ≡ Ok found.items) }
+    ensures refused { IfErr result (Explains
+        (entries_from (place_in content.now text.now) (entry_texts text.now))) }
 {
     let mut found = Vec::new(alloc);
     let mut rest = text;
     while let Some((one, behind)) = entry_text(rest) {
-        match entry_of(alloc, one)? {
+        match entry_of(alloc, one) {
             Ok(entry) => found.push(entry)?,
-            Err(cause) => {
+            Err(e) => {
                 let place = place_in(content, rest);
-                return Err(YarnLockError::Parser { place, cause });
+                return Err(e.at(place));
             }
         }
         rest = behind;

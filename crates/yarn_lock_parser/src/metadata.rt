@@ -20,7 +20,10 @@ impl<'a> Model for Metadata<'a> {
 
     ghost Value = { specs.Metadata };
 
-    ghost view = { λ m. record { version = m.version; cache_key = option_map (λ t. t.now) m.cache_key } };
+    ghost view = { λ m. record {
+      version = m.version;
+      cache_key = option_map (λ t. t.now) m.cache_key;
+    } };
 }
 
 /// The metadata, and what follows them and any white space.

@@ -10,6 +10,7 @@ use crate::dependencies::deeper;
 use crate::front::{after, after_line_end, before_optional, line_at, quoted_at, run, some_run};
 use std::alloc::{AllocError, Global};
 use std::marker::Model;
+use std::{fmt, slice};
 
 /// Which metas a heading names.
 #[derive(Clone, Copy)]
@@ -40,7 +41,7 @@ impl Flag {
 }
 
 /// What an entry says of one of its dependencies.
-#[derive(PartialEq, Eq, Default, Drop)]
+#[derive(Debug, PartialEq, Eq, Default, Drop)]
 pub struct DepMeta {
     /// Whether it may be left out, where the entry says so.
     pub optional: Option<bool>,
@@ -79,7 +80,8 @@ pub(crate) fn metas_at(
     alloc: Global,
     text: &str,
 ) -> Result<Option<(MetaKind, Vec<Meta<'_>>, &str)>, AllocError>
-    ensures { IfOk result (λ o. option_map (λ x. ((x.0, x.1.items), x.2.now)) o ≡ metas_at text.now) }
+    ensures { IfOk result (λ o.
+        option_map (λ x. ((x.0, x.1.items), x.2.now)) o ≡ metas_at text.now) }
 {
     let Some((indent, key)) = some_run(ByteSet::Blank, text) else {
         return Ok(None);
@@ -164,7 +166,8 @@ fn further_flag<'a>(indent: &str, flag: Flag, text: &'a str) -> (Flag, &'a str)
 // A property's key and value, and what follows its line.
 #[tactic(auto, unfolding(crate::specs::Metas::property_at))]
 fn property_at<'a>(indent: &str, text: &'a str) -> Option<(&'a str, &'a str, &'a str)>
-    ensures { option_map (λ x. ((x.0.now, x.1.now), x.2.now)) result ≡ property_at indent.now text.now }
+    ensures { option_map (λ x. ((x.0.now, x.1.now), x.2.now)) result
+        ≡ property_at indent.now text.now }
 {
     let (_, text) = deeper(indent, text)?;
     let (key, end) = run(ByteSet::NotColon, text);
@@ -210,7 +213,7 @@ impl<'e, 'a> Model for Metas<'e, 'a> {
 }
 
 impl<'e, 'a> Metas<'e, 'a> {
-    ghost use Rattle.std.specs.Prelude.{◌≡◌, length, map, option_map, slice_get};
+    ghost use Rattle.std.specs.Prelude.{◌≡◌, ◌↔◌, [], IsTrue, length, map, option_map, slice_get};
     ghost use Rattle.yarn_lock_parser.specs.Metas.{as_meta};
     ghost use Rattle.std.specs.Cmp.Lexicographic.{pointwise};
     ghost use Rattle.yarn_lock_parser.specs.EntryEq.{meta_eq};
@@ -234,11 +237,67 @@ impl<'e, 'a> Metas<'e, 'a> {
         self.metas.len()
     }
 
+    /// Whether nothing is said of any dependency.
+    pub fn is_empty(&self) -> bool
+        ensures { IsTrue result ↔ (self.now ≡ []) }
+    {
+        self.metas.is_empty()
+    }
+
+    /// The names, each with what is said of it, in order.
+    pub fn iter(&self) -> MetasIter<'e, 'a>
+        ensures { result ≡ self.now }
+    {
+        MetasIter {
+            rest: self.metas.iter(),
+        }
+    }
+
     /// The name of the dependency at an index, and what is said of it.
     pub fn get(&self, index: usize) -> Option<(&'a str, DepMeta)>
         ensures { option_map (λ x. (x.0.now, x.1)) result ≡ slice_get self.now index }
     {
         let meta = self.metas.get(index)?;
+        let optional = meta.flag.known();
+        Some((meta.name, DepMeta { optional }))
+    }
+}
+
+impl<'e, 'a> fmt::Debug for Metas<'e, 'a> {
+    fn fmt<W: fmt::Write>(&self, f: &mut fmt::Formatter<W>) -> fmt::Result {
+        f.debug_map().entries(self.iter()).finish()
+    }
+}
+
+/// An iterator over metas. What it shows is the names that are left, each with what is said of it.
+#[derive(Drop)]
+pub struct MetasIter<'e, 'a> {
+    rest: slice::Iter<'e, Meta<'a>>,
+}
+
+impl<'e, 'a> Model for MetasIter<'e, 'a> {
+    ghost use Rattle.std.specs.Prelude.{List, ℕ, map};
+    ghost use Rattle.yarn_lock_parser.specs.declared.metas.DepMeta.{DepMeta};
+
+    ghost Value = { List (List ℕ × DepMeta) };
+
+    ghost use Rattle.yarn_lock_parser.specs.Metas.{as_meta};
+    ghost use Rattle.std.specs.Slice.Iter.{iter_rest};
+
+    ghost view = { λ m. map as_meta (iter_rest m.rest) };
+}
+
+impl<'e, 'a> Iterator for MetasIter<'e, 'a> {
+    ghost use Rattle.std.specs.Iterator.{YieldsFirstBy, item_count};
+
+    type Item = (&'a str, DepMeta);
+
+    ghost next_gives = { YieldsFirstBy (λ x. (x.0.now, x.1)) (λ rest. rest) };
+
+    ghost remaining = { item_count (λ rest. rest) };
+
+    fn next(&mut self) -> Option<(&'a str, DepMeta)> {
+        let meta = self.rest.next()?;
         let optional = meta.flag.known();
         Some((meta.name, DepMeta { optional }))
     }

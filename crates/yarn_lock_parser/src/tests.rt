@@ -351,6 +351,34 @@ fn the_first_fault_is_told_with_its_place(rt: HostRuntime) -> Result<(), Fail> {
     Ok(())
 }
 
+#[test]
+fn pairs_and_metas_are_listed(rt: HostRuntime) -> Result<(), Fail> {
+    let text =
+        "# a\n# yarn lockfile v1\n\nfoo@1:\n  version 1\n  dependencies:\n    a 1\n    b 2\n  dependenciesMeta:\n    a:\n      optional: true\n    b:\n      built: true\n";
+    let lock = parse_str(rt.alloc(), text)?;
+    for entry in lock.entries() {
+        let pairs = entry.dependencies();
+        let metas = entry.dependencies_meta();
+        assert!(rt; !pairs.is_empty() && !metas.is_empty());
+        assert!(rt; entry.peer_dependencies().is_empty());
+        assert!(rt; entry.peer_dependencies_meta().is_empty());
+        let mut listed = String::new(rt.alloc());
+        for ((name, value), (said, meta)) in pairs.iter().zip(metas.iter()) {
+            write!(listed, "{name}={value} {said}={meta:?} ")?;
+        }
+        assert_eq!(rt;
+            listed.as_str(),
+            "a=1 a=DepMeta { optional: Some(true) } b=2 b=DepMeta { optional: None } "
+        );
+        let shown = format!(in rt.alloc(); "{pairs:?} {metas:?}")?;
+        assert_eq!(rt;
+            shown.as_str(),
+            r#"{"a": "1", "b": "2"} {"a": DepMeta { optional: Some(true) }, "b": DepMeta { optional: None }}"#
+        );
+    }
+    Ok(())
+}
+
 // Entries that differ in one thing each.
 fn distinct() -> [&'static str; 9] {
     [

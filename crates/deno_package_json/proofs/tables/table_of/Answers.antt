@@ -1,4 +1,4 @@
-use Rattle.std.proofs.Common.{rules, arith, sym, ◌∙◌}
+use Rattle.std.proofs.Common.{arith}
 use Rattle.std.proofs.lemmas.Grind.{common_steps}
 use Rattle.deno_package_json.proofs.RisingNames.{insert_all-table_of}
 use Rattle.deno_package_json.proofs.tables.table_of.Goals as goal

@@ -1,4 +1,4 @@
-use Rattle.std.proofs.Common.{sym, ap, ◌∙◌, refl}
+use Rattle.std.proofs.Common.{refl}
 use Rattle.deno_package_json.proofs.Escapes.{percent_encode-escaped}
 use Rattle.deno_package_json.proofs.package_json.PackageJson.specifier.Goals as goal
 
