@@ -1,10 +1,10 @@
 -- The normal form of an absolute text is its own, and names the same path.
 use Rattle.std.proofs.Common.{◌≡◌, ◌≢◌, ◌==◌, ◌&&◌, ◌||◌, ◌⊎◌, inl, inr, ℕ, Bool, true, false, not, cond, List, [], ◌∷◌, ◌++◌, bytes_eq, refl, sym, ap, subst, ◌∙◌}
-use Rattle.std.specs.List.{AllByRecursion, slice_split, onto_first}
+use Rattle.std.specs.List.{AllByRecursion, onto_first}
 use Rattle.std.proofs.lemmas.Bool.Decides.{eqb_tells}
 use Rattle.sugar_path.specs.Path.{Path, IsPath, is_absolute, ends_in_slash, with_slash, join, parts, by_part, by_parts, parent, steps, text_of, clean}
 use Rattle.sugar_path.proofs.Parts.{parts-slash, by_parts-append, clean-text_of, text_of-absolute}
-use Rattle.pnp_core.specs.NormalizePath.{location_path, normal_names, with_end, normalize_path}
+use Rattle.pnp_core.specs.NormalizePath.{location_path, with_end, normalize_path}
 use Rattle.pnp_core.specs.Slashed.{slashed}
 use Rattle.pnp_core.proofs.Slashes.{clean-slashed, IsPath-location_path}
 

@@ -1,5 +1,5 @@
 -- The plans of the nearest manifest and of its loading come to what the tree has.
-use Rattle.std.proofs.Common.{◌≡◌, List, [], ◌∷◌, ◌++◌, refl, ap, ◌∙◌, map, Ok}
+use Rattle.std.proofs.Common.{◌≡◌, ◌∷◌, ◌++◌, refl, ap, ◌∙◌, map, Ok}
 use Rattle.std.specs.Prelude.{option_map}
 use Rattle.std.proofs.lemmas.List.{append-nil}
 use Rattle.sugar_path.specs.Path.{Path, up, text_of}
@@ -7,7 +7,6 @@ use Rattle.tree_core.specs.Tree.{Files}
 use Rattle.tree_core.specs.Plan.{Plan, Done, answer, asked, ◌>>=◌, read}
 use Rattle.tree_core.proofs.Asking.{answer-then, asked-then, answer-done, asked-done}
 use Rattle.tree_core.proofs.Firsts.{answer-first_existing, asked-first_existing}
-use Rattle.pnp_core.specs.ManifestReading.{reading}
 use Rattle.pnp_core.specs.Nearest.{manifest_file, nearest, nearest_text}
 use Rattle.pnp_core.specs.Loading.{loading, or_refused, told_loading}
 use Rattle.pnp_core.specs.OnTree.{nearest_on, nearest_asks, nearest_text_on, loaded_on, loaded_asks, told_on, NearestOnTree, NearestTextOnTree, LoadedOnTree, ToldOnTree}

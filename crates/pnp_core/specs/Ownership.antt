@@ -34,12 +34,14 @@ pub record Owns (m : Contents) (p : Path) (l : PackageLocator) : Type 0 where
   pub locator : row.0 ≡ l
   pub claims : Claims row (names p)
   pub longest :
-      All (λ other. Claims other (names p) → length (row_location other) ≤ length (row_location row))
+      All
+      (λ other. Claims other (names p) → length (row_location other) ≤ length (row_location row))
       (rows m.package_registry_data)
   pub last : All (λ other. Claims other (names p) → row_location other ≢ row_location row) later
 
 -- the owner of a path is the one locator that owns it, and there is none exactly where nothing owns the path
 pub record OwnerOwns : Type 0 where
   pub owned : (m : Contents) (p : Path) (l : PackageLocator) → (owner m p ≡ Some l) ↔ Owns m p l
-  pub unowned : (m : Contents) (p : Path) → (owner m p ≡ None) ↔ ((l : PackageLocator) → ¬ Owns m p l)
+  pub unowned :
+      (m : Contents) (p : Path) → (owner m p ≡ None) ↔ ((l : PackageLocator) → ¬ Owns m p l)
   pub one : (m : Contents) (p : Path) (k l : PackageLocator) → Owns m p k → Owns m p l → k ≡ l

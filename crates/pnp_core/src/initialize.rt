@@ -56,7 +56,9 @@ fn locations_from(
     folder: &str,
     registry: &IndexMap<Text, IndexMap<Text, PackageInformation>>,
 ) -> Result<Vec<Vec<Text>>, AllocError>
-    ensures { IfOk result (λ found. map (λ locations. locations.items) found.items ≡ all_locations folder.now (map (λ named. (named.0, named.1.entries)) registry.now.entries)) }
+    ensures { IfOk result (λ found.
+        map (λ locations. locations.items) found.items
+        ≡ all_locations folder.now (map (λ named. (named.0, named.1.entries)) registry.now.entries)) }
 {
     let mut found = Vec::new(alloc);
     for (_name, references) in registry.iter() {
@@ -116,7 +118,10 @@ fn located_trie(
     registry: &IndexMap<Text, IndexMap<Text, PackageInformation>>,
 ) -> Result<Trie<PackageLocator>, AllocError>
     requires { IsTrue (is_absolute folder.now) }
-    ensures { IfOk result (λ trie. (l : Path) → IsPath l → value_at trie l ≡ overlaid (rows (located_registry folder.now (map (λ named. (named.0, named.1.entries)) registry.now.entries))) [] l) }
+    ensures { IfOk result (λ trie.
+        let rows_by_name = map (λ named. (named.0, named.1.entries)) registry.now.entries in
+        (l : Path) → IsPath l
+        → value_at trie l ≡ overlaid (rows (located_registry folder.now rows_by_name)) [] l) }
 {
     let mut trie = Trie::new(alloc);
     for (name, references) in registry.iter() {
@@ -134,7 +139,10 @@ fn put_rows(
     references: &IndexMap<Text, PackageInformation>,
 ) -> Result<(), AllocError>
     requires { IsTrue (is_absolute folder.now) }
-    ensures { OnOk result ((l : Path) → IsPath l → value_at trie.new l ≡ overlaid (rows_under (name.now, located_rows folder.now references.now.entries)) trie.old l) }
+    ensures { OnOk result (
+        let located = located_rows folder.now references.now.entries in
+        (l : Path) → IsPath l
+        → value_at trie.new l ≡ overlaid (rows_under (name.now, located)) trie.old l) }
 {
     for (reference, package) in references.iter() {
         put_row(alloc, trie, folder, name, reference, package)?;
@@ -152,7 +160,10 @@ fn put_row(
     row: &PackageInformation,
 ) -> Result<(), AllocError>
     requires { IsTrue (is_absolute folder.now) }
-    ensures { OnOk result ((l : Path) → IsPath l → value_at trie.new l ≡ overlaid ((locator name.now reference.now, located folder.now row.now) ∷ []) trie.old l) }
+    ensures { OnOk result (
+        (l : Path) → IsPath l
+        → value_at trie.new l
+        ≡ overlaid ((locator name.now reference.now, located folder.now row.now) ∷ []) trie.old l) }
 {
     if row.discard_from_lookup {
         return Ok(());
@@ -194,7 +205,8 @@ fn missing_from(
     pool: &IndexMap<Text, Option<PackageDependency>>,
     own: &IndexMap<Text, Option<PackageDependency>>,
 ) -> Result<Vec<(Text, Option<PackageDependency>)>, AllocError>
-    ensures { IfOk result (λ missing. missing.items ≡ filter (λ bound. is_none (at bound.0 pool.now.entries)) own.now.entries) }
+    ensures { IfOk result (λ missing.
+        missing.items ≡ filter (λ bound. is_none (at bound.0 pool.now.entries)) own.now.entries) }
 {
     let mut missing = Vec::new(alloc);
     for (name, dependency) in own.iter() {
@@ -247,7 +259,10 @@ fn place_all(
     registry: &mut IndexMap<Text, IndexMap<Text, PackageInformation>>,
     mut locations: Vec<Vec<Text>>,
 )
-    ensures { map (λ named. (named.0, named.1.entries)) registry.new.entries ≡ changed (changed placed) (map (λ named. (named.0, named.1.entries)) registry.old.entries) (map (λ found. found.items) locations.items) }
+    ensures { map (λ named. (named.0, named.1.entries)) registry.new.entries
+        ≡ changed (changed placed)
+        (map (λ named. (named.0, named.1.entries)) registry.old.entries)
+        (map (λ found. found.items) locations.items) }
 {
     while let Some(found) = locations.pop() {
         if let Some(references) = registry.get_index_mut(locations.len()) {

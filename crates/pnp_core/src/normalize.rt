@@ -84,7 +84,8 @@ fn relative_text(alloc: Global, text: &str) -> Result<String, AllocError>
 
 // Goes on by one part of a relative text.
 fn follow_relative<'a>(names: &mut Vec<&'a str>, part: &'a str) -> Result<(), AllocError>
-    ensures { OnOk result (names_of names.new.items ≡ by_relative_part (names_of names.old.items) part.now) }
+    ensures { OnOk result (
+        names_of names.new.items ≡ by_relative_part (names_of names.old.items) part.now) }
 {
     if part == "" || part == "." {
         return Ok(());

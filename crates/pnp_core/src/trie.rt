@@ -61,7 +61,8 @@ impl<T: Drop> Trie<T> {
     /// The value of the nearest location that a path is or lies below.
     pub fn get_ancestor_value(&self, alloc: Global, key: &str) -> Result<Option<&T>, AllocError>
         requires { IsTrue (is_absolute key.now) }
-        ensures { IfOk result (λ found. option_copied found ≡ nearest_value self.now (location_path key.now)) }
+        ensures { IfOk result (λ found.
+            option_copied found ≡ nearest_value self.now (location_path key.now)) }
     {
         let mut path = location(alloc, key)?;
         loop {

@@ -1,4 +1,4 @@
-use Rattle.std.proofs.Common.{[], ◌∷◌, map, sym, ◌∙◌}
+use Rattle.std.proofs.Common.{map, ◌∙◌}
 use Rattle.pnp_core.specs.Manifest.{rows, rows_under}
 use Rattle.pnp_core.specs.ManifestReading.{located_rows, located_registry}
 use Rattle.pnp_core.proofs.Relocations.{overlaid-append}

@@ -1,4 +1,4 @@
-use Rattle.std.proofs.Common.{[], ◌∷◌, sym, ◌∙◌}
+use Rattle.std.proofs.Common.{[], ◌∷◌, ◌∙◌}
 use Rattle.pnp_core.specs.Manifest.{locator, rows_under}
 use Rattle.pnp_core.specs.ManifestReading.{located, located_rows}
 use Rattle.pnp_core.proofs.Relocations.{overlaid-append}
