@@ -107,7 +107,8 @@ text_of-some (n ∷ p) = behind (steps p)
     behind [] = refl
     behind (c ∷ s) = refl
 
-normal-of : (t : List ℕ) (p : Path) → is_absolute t ≡ true → location_path t ≡ p → normalize_path t ≡ with_end t (text_of p)
+-- an absolute text, whose path has a text of its own
+pub normal-of : (t : List ℕ) (p : Path) → is_absolute t ≡ true → location_path t ≡ p → normalize_path t ≡ with_end t (text_of p)
 normal-of t p abs names = rw (abs, names, text_of-some p) refl
 
 absolute-append : (s u : List ℕ) → is_absolute s ≡ true → is_absolute (s ++ u) ≡ true

@@ -1,5 +1,5 @@
 -- What is read of a manifest's text, one character at a time.
-use Rattle.std.proofs.Common.{◌≡◌, ◌≢◌, ◌<◌, ◌≤◌, ◌+◌, ◌/◌, ◌==◌, ◌⊎◌, ℕ, zero, suc, take, get_or, Bool, true, false, cond, List, [], ◌∷◌, ◌++◌, length, drop, append_assoc, refl, sym, ap, ◌∙◌, Option, Some, None, Bor, arith, lit<, inl, inr}
+use Rattle.std.proofs.Common.{◌≡◌, ◌≢◌, ◌<◌, ◌≤◌, ◌+◌, ◌/◌, ◌==◌, ◌⊎◌, ℕ, zero, suc, take, get_or, Bool, true, false, cond, List, [], ◌∷◌, ◌++◌, length, drop, append_assoc, refl, sym, ap, ◌∙◌, Option, Some, None, Bor, arith, inl, inr}
 use Rattle.std.specs.Prelude.{option_map, MatchOption, nat_lt, nat_le}
 use Rattle.std.specs.List.{AllByRecursion}
 use Rattle.std.specs.Str.Pattern.{FindsTextPrefix, StripsPrefix, LacksTextAt}
@@ -115,14 +115,6 @@ quoted-high : (bs t : List ℕ) → IsHigh bs → quoted (bs ++ t) ≡ bs ++ quo
 quoted-high [] t h = refl
 quoted-high (b ∷ bs) t h = rw (differs b 39 (λ e. absurd (omega (arith, h.0))), differs b 92 (λ e. absurd (omega (arith, h.0)))) (ap (λ s. b ∷ s) (quoted-high bs t h.1))
 
--- a character that is neither a quote nor a backslash stays
-pub quoted-char : (c : ℕ) (t : List ℕ) → c ≢ 39 → c ≢ 92 → quoted (encode c ++ t) ≡ encode c ++ quoted t
-quoted-char c t e f = by_case (leb_tells 128 c)
-  where
-    by_case : ((nat_le 128 c ≡ true) × (128 ≤ c)) ⊎ ((nat_le 128 c ≡ false) × (c < 128)) → quoted (encode c ++ t) ≡ encode c ++ quoted t
-    by_case (inl w) = quoted-high (encode c) t (encode-high c w.1)
-    by_case (inr w) = rw (encode_ascii c w.1) (rw (differs c 39 e, differs c 92 f) refl)
-
 -- the character after a backslash stays
 pub kept-char : (c : ℕ) (t : List ℕ) → kept (encode c ++ t) ≡ encode c ++ quoted t
 kept-char c t = by_case (leb_tells 128 c)
@@ -134,9 +126,6 @@ kept-char c t = by_case (leb_tells 128 c)
     by_case : ((nat_le 128 c ≡ true) × (128 ≤ c)) ⊎ ((nat_le 128 c ≡ false) × (c < 128)) → kept (encode c ++ t) ≡ encode c ++ quoted t
     by_case (inl w) = by_bytes (encode c) (encode-some c) (encode-high c w.1)
     by_case (inr w) = rw (encode_ascii c w.1) refl
-
-pub quoted-backslash : (t : List ℕ) → quoted (encode 92 ++ t) ≡ kept t
-quoted-backslash t = rw (encode_ascii 92 (lit< tt)) refl
 
 -- bytes before the first quote or backslash stay
 quoted-run : (t : List ℕ) (n : ℕ) → n ≤ length t → ((k : ℕ) → k < n → is_byte2 39 92 (get_or t k 0) ≡ true → ⊥) → quoted t ≡ take n t ++ quoted (drop n t)
