@@ -1,6 +1,7 @@
 pub mod Slashes
 pub mod Tries
 pub mod Owners
+pub mod Ownerships
 pub mod Walking
 pub mod Payloads
 pub mod Normal

@@ -1,10 +1,10 @@
 -- The normal form of an absolute text is its own, and names the same path.
 use Rattle.std.proofs.Common.{◌≡◌, ◌≢◌, ◌==◌, ◌&&◌, ◌||◌, ◌⊎◌, inl, inr, ℕ, Bool, true, false, not, cond, List, [], ◌∷◌, ◌++◌, bytes_eq, refl, sym, ap, subst, ◌∙◌}
-use Rattle.std.specs.List.{AllByRecursion, slice_split, onto_first}
+use Rattle.std.specs.List.{AllByRecursion, onto_first}
 use Rattle.std.proofs.lemmas.Bool.Decides.{eqb_tells}
 use Rattle.sugar_path.specs.Path.{Path, IsPath, is_absolute, ends_in_slash, with_slash, join, parts, by_part, by_parts, parent, steps, text_of, clean}
 use Rattle.sugar_path.proofs.Parts.{parts-slash, by_parts-append, clean-text_of, text_of-absolute}
-use Rattle.pnp_core.specs.NormalizePath.{location_path, normal_names, with_end, normalize_path}
+use Rattle.pnp_core.specs.NormalizePath.{location_path, with_end, normalize_path}
 use Rattle.pnp_core.specs.Slashed.{slashed}
 use Rattle.pnp_core.proofs.Slashes.{clean-slashed, IsPath-location_path}
 
@@ -107,7 +107,8 @@ text_of-some (n ∷ p) = behind (steps p)
     behind [] = refl
     behind (c ∷ s) = refl
 
-normal-of : (t : List ℕ) (p : Path) → is_absolute t ≡ true → location_path t ≡ p → normalize_path t ≡ with_end t (text_of p)
+-- an absolute text, whose path has a text of its own
+pub normal-of : (t : List ℕ) (p : Path) → is_absolute t ≡ true → location_path t ≡ p → normalize_path t ≡ with_end t (text_of p)
 normal-of t p abs names = rw (abs, names, text_of-some p) refl
 
 absolute-append : (s u : List ℕ) → is_absolute s ≡ true → is_absolute (s ++ u) ≡ true

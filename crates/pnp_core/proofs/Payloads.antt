@@ -1,11 +1,14 @@
 -- What is read of a manifest's text, one character at a time.
-use Rattle.std.proofs.Common.{◌≡◌, ◌≢◌, ◌<◌, ◌≤◌, ◌+◌, ◌/◌, ◌==◌, ◌⊎◌, ℕ, suc, Bool, true, false, cond, List, [], ◌∷◌, ◌++◌, length, drop, refl, sym, ap, ◌∙◌, Option, Some, None, Bor, arith, lit<, inl, inr}
+use Rattle.std.proofs.Common.{◌≡◌, ◌≢◌, ◌<◌, ◌≤◌, ◌+◌, ◌/◌, ◌==◌, ◌⊎◌, ℕ, zero, suc, take, get_or, Bool, true, false, cond, List, [], ◌∷◌, ◌++◌, length, drop, append_assoc, refl, sym, ap, ◌∙◌, Option, Some, None, Bor, arith, inl, inr}
 use Rattle.std.specs.Prelude.{option_map, MatchOption, nat_lt, nat_le}
 use Rattle.std.specs.List.{AllByRecursion}
 use Rattle.std.specs.Str.Pattern.{FindsTextPrefix, StripsPrefix, LacksTextAt}
 use Rattle.std.proofs.Math.Utf8.{encode, next}
 use Rattle.std.proofs.lemmas.Bool.Decides.{eqb_tells, leb_tells}
 use Rattle.std.proofs.lemmas.Str.{encode_ascii, length-encode, len_utf8_bounds}
+use Rattle.std.proofs.Math.Seq.{drop-cons}
+use Rattle.std.proofs.lemmas.List.{take_all, drop_all, append-nil}
+use Rattle.memchr.specs.Find.{IsFirstByte, is_byte2}
 use Rattle.pnp_core.specs.Payload.{after_word, is_blank, after_blank, after_blanks, after_constant, after_call, after_opening, after_leftmost, quoted, kept}
 
 -- two numbers that differ
@@ -112,14 +115,6 @@ quoted-high : (bs t : List ℕ) → IsHigh bs → quoted (bs ++ t) ≡ bs ++ quo
 quoted-high [] t h = refl
 quoted-high (b ∷ bs) t h = rw (differs b 39 (λ e. absurd (omega (arith, h.0))), differs b 92 (λ e. absurd (omega (arith, h.0)))) (ap (λ s. b ∷ s) (quoted-high bs t h.1))
 
--- a character that is neither a quote nor a backslash stays
-pub quoted-char : (c : ℕ) (t : List ℕ) → c ≢ 39 → c ≢ 92 → quoted (encode c ++ t) ≡ encode c ++ quoted t
-quoted-char c t e f = by_case (leb_tells 128 c)
-  where
-    by_case : ((nat_le 128 c ≡ true) × (128 ≤ c)) ⊎ ((nat_le 128 c ≡ false) × (c < 128)) → quoted (encode c ++ t) ≡ encode c ++ quoted t
-    by_case (inl w) = quoted-high (encode c) t (encode-high c w.1)
-    by_case (inr w) = rw (encode_ascii c w.1) (rw (differs c 39 e, differs c 92 f) refl)
-
 -- the character after a backslash stays
 pub kept-char : (c : ℕ) (t : List ℕ) → kept (encode c ++ t) ≡ encode c ++ quoted t
 kept-char c t = by_case (leb_tells 128 c)
@@ -132,8 +127,67 @@ kept-char c t = by_case (leb_tells 128 c)
     by_case (inl w) = by_bytes (encode c) (encode-some c) (encode-high c w.1)
     by_case (inr w) = rw (encode_ascii c w.1) refl
 
-pub quoted-backslash : (t : List ℕ) → quoted (encode 92 ++ t) ≡ kept t
-quoted-backslash t = rw (encode_ascii 92 (lit< tt)) refl
+-- bytes before the first quote or backslash stay
+quoted-run : (t : List ℕ) (n : ℕ) → n ≤ length t → ((k : ℕ) → k < n → is_byte2 39 92 (get_or t k 0) ≡ true → ⊥) → quoted t ≡ take n t ++ quoted (drop n t)
+quoted-run t zero h none = refl
+quoted-run [] (suc n) h none = absurd (omega arith)
+quoted-run (x ∷ t) (suc n) h none =
+    rw (by_tests (x == 39) (x == 92) refl refl) (ap (λ s. x ∷ s) (quoted-run t n (omega arith) (λ k less. none (suc k) (omega arith))))
+  where
+    by_tests : (a b : Bool) → (x == 39) ≡ a → (x == 92) ≡ b → quoted (x ∷ t) ≡ x ∷ quoted t
+    by_tests true b e f = absurd (none 0 (omega arith) (rw e refl))
+    by_tests false true e f = absurd (none 0 (omega arith) (rw (e, f) refl))
+    by_tests false false e f = rw (e, f) refl
+
+pub quoted-cut : (t : List ℕ) (n : ℕ) → IsFirstByte (is_byte2 39 92) t (Some n) → quoted t ≡ take n t ++ quoted (drop n t)
+quoted-cut t n first = quoted-run t n (omega (arith, first.0.high)) (λ k less. first.0.before k (omega arith) less)
+
+pub quoted-whole : (t : List ℕ) → IsFirstByte (is_byte2 39 92) t None → quoted t ≡ t
+quoted-whole t none =
+    quoted-run t (length t) (omega arith) (λ k less. none k (omega arith) less)
+    ∙ rw (take_all (length t) t (omega arith), drop_all (length t) t (omega arith)) (append-nil t)
+
+-- a quote ends it
+pub quoted-end : (t : List ℕ) (n : ℕ) → n < length t → get_or t n 0 ≡ 39 → quoted (drop n t) ≡ []
+quoted-end t n h quote = rw (drop-cons t n 0, quote) refl
+
+-- a byte that is found and is no quote takes the character behind it
+pub quoted-kept : (t : List ℕ) (n : ℕ) → IsFirstByte (is_byte2 39 92) t (Some n) → get_or t n 0 ≢ 39 → quoted (drop n t) ≡ kept (drop (n + 1) t)
+quoted-kept t n first other = by_tests first.0.high (eqb_tells (get_or t n 0) 39) (eqb_tells (get_or t n 0) 92)
+  where
+    by_tests : n < length t
+        → ((get_or t n 0 == 39) ≡ true) × (get_or t n 0 ≡ 39) ⊎ ((get_or t n 0 == 39) ≡ false) × (get_or t n 0 ≢ 39)
+        → ((get_or t n 0 == 92) ≡ true) × (get_or t n 0 ≡ 92) ⊎ ((get_or t n 0 == 92) ≡ false) × (get_or t n 0 ≢ 92)
+        → quoted (drop n t) ≡ kept (drop (n + 1) t)
+    by_tests less (inl w) v = absurd (other w.1)
+    by_tests less (inr w) (inl v) = let next : n + 1 ≡ suc n = omega arith in rw (drop-cons t n 0, v.1, next) refl
+    by_tests less (inr w) (inr v) = let passes : is_byte2 39 92 (get_or t n 0) ≡ true = first.1 in let none : false ≡ true = sym (rw (w.0, v.0) refl) ∙ passes in absurd (cc)
+
+-- a quote and a backslash are ASCII
+pub found-ascii : (t : List ℕ) (n : ℕ) → IsFirstByte (is_byte2 39 92) t (Some n) → get_or t n 0 < 128
+found-ascii t n first = by_tests (eqb_tells (get_or t n 0) 39) (eqb_tells (get_or t n 0) 92)
+  where
+    by_tests : ((get_or t n 0 == 39) ≡ true) × (get_or t n 0 ≡ 39) ⊎ ((get_or t n 0 == 39) ≡ false) × (get_or t n 0 ≢ 39)
+        → ((get_or t n 0 == 92) ≡ true) × (get_or t n 0 ≡ 92) ⊎ ((get_or t n 0 == 92) ≡ false) × (get_or t n 0 ≢ 92)
+        → get_or t n 0 < 128
+    by_tests (inl w) v = let is = w.1 in omega (arith, is)
+    by_tests (inr w) (inl v) = let is = v.1 in omega (arith, is)
+    by_tests (inr w) (inr v) = let passes : is_byte2 39 92 (get_or t n 0) ≡ true = first.1 in let none : false ≡ true = sym (rw (w.0, v.0) refl) ∙ passes in absurd (cc)
+
+-- what is made is whole where nothing is left
+pub quoted-ends : (made t whole : List ℕ) (n : ℕ) → made ++ quoted t ≡ whole → quoted t ≡ take n t ++ quoted (drop n t) → quoted (drop n t) ≡ [] → made ++ take n t ≡ whole
+quoted-ends made t whole n e cut none = ap (λ s. made ++ s) (sym (cut ∙ ap (λ s. take n t ++ s) none ∙ append-nil (take n t))) ∙ e
+
+-- a run, the character behind its escape, and what is left are the whole still
+pub quoted-goes_on : (made t whole rest : List ℕ) (n c : ℕ) → made ++ quoted t ≡ whole → quoted t ≡ take n t ++ quoted (drop n t)
+    → quoted (drop n t) ≡ kept (drop (n + 1) t) → drop (n + 1) t ≡ encode c ++ rest
+    → ((made ++ take n t) ++ encode c) ++ quoted rest ≡ whole
+quoted-goes_on made t whole rest n c e cut escape step =
+    append_assoc (made ++ take n t) (encode c) (quoted rest)
+    ∙ append_assoc made (take n t) (encode c ++ quoted rest)
+    ∙ ap (λ s. made ++ (take n t ++ s)) (sym (escape ∙ ap kept step ∙ kept-char c rest))
+    ∙ ap (λ s. made ++ s) (sym cut)
+    ∙ e
 
 opening-high : (b : ℕ) (s : List ℕ) → 128 ≤ b → after_opening (b ∷ s) ≡ None
 unfolding after_constant after_call

@@ -1,5 +1,5 @@
 -- Rows that get their locations, and the trie that finds them there.
-use Rattle.std.proofs.Common.{◌≡◌, ℕ, zero, suc, Bool, true, false, not, ◌&&◌, cond, List, [], ◌∷◌, ◌++◌, length, map, refl, rules, sym, ap, ◌∙◌, Option, Some, None}
+use Rattle.std.proofs.Common.{◌≡◌, ℕ, zero, suc, Bool, true, false, cond, List, [], ◌∷◌, ◌++◌, length, map, refl, rules, sym, ap, ◌∙◌, Option, Some, None}
 use Rattle.std.specs.Prelude.{slice_get, option_map, option_and_then, bytes_eq, is_some, IsSome}
 use Rattle.std.specs.List.{AllByRecursion}
 use Rattle.std.specs.Map.{values_of}
@@ -8,7 +8,7 @@ use Rattle.indexmap.specs.IndexMap.{insert_all}
 use Rattle.std.specs.HashMap.{HashMap}
 use Rattle.sugar_path.specs.Path.{Path, IsPath, is_absolute, path_eq, join, parent, text_of}
 use Rattle.pnp_core.specs.declared.manifest.PackageLocator.{PackageLocator}
-use Rattle.pnp_core.specs.NormalizePath.{location_path, normalize_path}
+use Rattle.pnp_core.specs.NormalizePath.{location_path}
 use Rattle.pnp_core.specs.Payload.{or_else}
 use Rattle.pnp_core.specs.Manifest.{Contents, Dependencies, Package, Registry, Row, at, top_level, locator, rows, rows_under, package_at}
 use Rattle.pnp_core.specs.ManifestReading.{located, located_rows, located_registry, filled_by, initialized}

@@ -1,5 +1,5 @@
 -- What a package's row binds a name to.
-use Rattle.std.specs.Prelude.{ℕ, Bool, false, not, ◌&&◌, cond, List, [], Option, Some, None, bytes_eq, option_and_then, is_some, ◌||◌}
+use Rattle.std.specs.Prelude.{ℕ, Bool, false, not, ◌&&◌, if◌then◌else◌, List, [], Option, Some, None, bytes_eq, option_and_then, is_some, ◌||◌}
 use Rattle.std.specs.List.{list_any}
 use Rattle.pnp_core.specs.declared.manifest.Binding.{Binding}
 use Rattle.pnp_core.specs.declared.manifest.Binding.TheVariants.{Bound, MissingPeer, Undeclared}
@@ -16,7 +16,8 @@ bound_to name (Alias n r) = locator n r
 
 -- what a locator's row says of a name: nothing, null, or a binding
 abbrev pub own : Contents → PackageLocator → List ℕ → Option (Option PackageDependency)
-own m l name = option_and_then (λ p. at name p.package_dependencies) (package_at m.package_registry_data l)
+own m l name =
+    option_and_then (λ p. at name p.package_dependencies) (package_at m.package_registry_data l)
 
 -- a binding that isn't null
 abbrev pub given : Option (Option PackageDependency) → Option PackageDependency
@@ -43,7 +44,7 @@ abbrev pub fallback : Contents → List ℕ → Option PackageDependency
 fallback m name = or_else (given (own m top_level name)) (given (at name m.fallback_pool))
 
 abbrev pub allowed_fallback : Contents → PackageLocator → List ℕ → Option PackageDependency
-allowed_fallback m o name = cond (may_fall_back m o) (fallback m name) None
+allowed_fallback m o name = if may_fall_back m o then fallback m name else None
 
 -- with no binding of its own and no fallback: null is a peer that nobody provides
 abbrev pub unbound : Option (Option PackageDependency) → Binding
@@ -56,7 +57,9 @@ bound_or other name (Some dependency) = Bound (bound_to name dependency)
 
 -- the binding of a name for an owner: its own, else a fallback that is allowed
 abbrev pub bind : Contents → PackageLocator → List ℕ → Binding
-bind m o name = bound_or (unbound (own m o name)) name (or_else (given (own m o name)) (allowed_fallback m o name))
+bind m o name =
+    bound_or (unbound (own m o name)) name
+    (or_else (given (own m o name)) (allowed_fallback m o name))
 
 -- the owner's own row binds the name, or no fallback is allowed: its row alone decides
 abbrev pub is_settled : Contents → PackageLocator → List ℕ → Bool

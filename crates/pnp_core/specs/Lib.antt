@@ -6,6 +6,7 @@ pub mod Payload
 pub mod Manifest
 pub mod ManifestReading
 pub mod Owner
+pub mod Ownership
 pub mod Trie
 pub mod Located
 pub mod Binding

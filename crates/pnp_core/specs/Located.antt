@@ -20,4 +20,6 @@ contents_of m = record {
 
 -- once a manifest has its folder, its trie has the last row's locator at each location of its rows, and no other location
 abbrev pub HoldsLocations : Inside → Type 0
-HoldsLocations m = IsTrue (is_absolute m.manifest_dir) → (l : Path) → IsPath l → value_at m.location_trie l ≡ last_at (rows (contents_of m).package_registry_data) l
+HoldsLocations m =
+    IsTrue (is_absolute m.manifest_dir) → (l : Path) → IsPath l
+    → value_at m.location_trie l ≡ last_at (rows (contents_of m).package_registry_data) l

@@ -49,7 +49,8 @@ has_row m l = is_some (package_at m.package_registry_data l)
 
 -- the location that a locator's row names
 abbrev pub location_of : Contents → PackageLocator → Option (List ℕ)
-location_of m l = option_and_then (λ p. Some p.package_location) (package_at m.package_registry_data l)
+location_of m l =
+    option_and_then (λ p. Some p.package_location) (package_at m.package_registry_data l)
 
 -- a row: its locator, and what it says
 abbrev pub Row : Type 0

@@ -1,5 +1,5 @@
 -- The manifest that bytes are: the JSON of their payload, field by field.
-use Rattle.std.specs.Prelude.{ℕ, false, cond, List, [], Option, Some, None, Result, Ok, Err, map, filter, codes, bytes_eq, is_none, option_map, unwrap_or}
+use Rattle.std.specs.Prelude.{ℕ, false, if◌then◌else◌, List, [], Option, Some, None, Result, Ok, Err, map, filter, codes, bytes_eq, is_none, option_map, unwrap_or}
 use Rattle.std.specs.Option.{option_or}
 use Rattle.std.specs.Str.{is_utf8}
 use Rattle.serde_json.specs.Data.{Data}
@@ -33,7 +33,9 @@ named pair = (unwrap_or pair.0 [], pair.1)
 
 -- a text is a reference of the package of the bound name, and two texts are a name and a reference
 abbrev pub dependency_in : Data → Option PackageDependency
-dependency_in d = option_or (option_map Reference (as_str d)) (option_map (λ pair. Alias pair.0 pair.1) (pair_by as_str as_str d))
+dependency_in d =
+    option_or (option_map Reference (as_str d))
+    (option_map (λ pair. Alias pair.0 pair.1) (pair_by as_str as_str d))
 
 abbrev pub dependencies_in : Data → Option Dependencies
 dependencies_in d = option_map entries_of (list_by (pair_by as_str (nullable_by dependency_in)) d)
@@ -49,13 +51,21 @@ package_in d = do
   location ← field_by (codes "packageLocation") as_str d
   discard ← field_or (codes "discardFromLookup") false as_bool d
   dependencies ← field_by (codes "packageDependencies") dependencies_in d
-  Some (record { package_location = location; discard_from_lookup = discard; package_dependencies = dependencies })
+  Some (record {
+    package_location = location;
+    discard_from_lookup = discard;
+    package_dependencies = dependencies;
+  })
 
 abbrev pub references_in : Data → Option (List (List ℕ × Package))
-references_in d = option_map (λ pairs. entries_of (map named pairs)) (list_by (pair_by (nullable_by as_str) package_in) d)
+references_in d =
+    option_map (λ pairs. entries_of (map named pairs))
+    (list_by (pair_by (nullable_by as_str) package_in) d)
 
 abbrev pub registry_in : Data → Option Registry
-registry_in d = option_map (λ pairs. entries_of (map named pairs)) (list_by (pair_by (nullable_by as_str) references_in) d)
+registry_in d =
+    option_map (λ pairs. entries_of (map named pairs))
+    (list_by (pair_by (nullable_by as_str) references_in) d)
 
 -- a repeated locator or reference counts once
 abbrev pub roots_in : Data → Option (List PackageLocator)
@@ -89,7 +99,7 @@ fields_in d = do
 
 -- a value with a float is no manifest
 abbrev pub manifest_in : Data → Option Contents
-manifest_in d = cond (has_float d) None (fields_in d)
+manifest_in d = if has_float d then None else fields_in d
 
 -- what a call tells that reads a manifest, by what a reader of its fields tells
 abbrev pub of_reading : FromJsonError → ReadManifestError
@@ -124,7 +134,7 @@ initialized p m = record m {
 }
 
 abbrev pub with_top_level : Path → Contents → Result Contents HydrationCause
-with_top_level p m = cond (has_row m top_level) (Ok (initialized p m)) (Err NoTopLevel)
+with_top_level p m = if has_row m top_level then Ok (initialized p m) else Err NoTopLevel
 
 abbrev pub from_fields : Path → Option Contents → Result Contents HydrationCause
 from_fields p None = Err BadJson
@@ -141,4 +151,4 @@ from_text p text = from_payload p (payload text)
 -- the manifest that the bytes of a file are, or the first cause why they are none
 abbrev pub reading : Option (List ℕ) → Path → Result Contents HydrationCause
 reading None p = Err NotText
-reading (Some bytes) p = cond (is_utf8 bytes) (from_text p bytes) (Err NotText)
+reading (Some bytes) p = if is_utf8 bytes then from_text p bytes else Err NotText

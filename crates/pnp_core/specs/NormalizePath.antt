@@ -1,5 +1,5 @@
 -- How a text of a manifest names a path: by parts between `/` and `\`.
-use Rattle.std.specs.Prelude.{ℕ, Bool, true, ◌==◌, ◌||◌, ◌&&◌, not, cond, List, [], ◌∷◌, ◌++◌, bytes_eq}
+use Rattle.std.specs.Prelude.{ℕ, Bool, true, ◌==◌, ◌||◌, ◌&&◌, not, if◌then◌else◌, List, [], ◌∷◌, ◌++◌, bytes_eq}
 use Rattle.std.specs.List.{slice_split}
 use Rattle.sugar_path.specs.Path.{Path, is_absolute, by_part, by_parts, ends_in_slash, text_of}
 
@@ -18,7 +18,8 @@ is_stuck (n ∷ p) = bytes_eq n (46 ∷ 46 ∷ [])
 
 -- a relative text read on by one part: as a path, but a `..` with no name before it stays
 abbrev pub by_relative_part : Path → List ℕ → Path
-by_relative_part p part = cond (bytes_eq part (46 ∷ 46 ∷ []) && is_stuck p) (part ∷ p) (by_part p part)
+by_relative_part p part =
+    if bytes_eq part (46 ∷ 46 ∷ []) && is_stuck p then part ∷ p else by_part p part
 
 abbrev pub by_relative_parts : Path → List (List ℕ) → Path
 by_relative_parts p [] = p
@@ -40,12 +41,12 @@ joined (n ∷ m ∷ p) = joined (m ∷ p) ++ 47 ∷ n
 
 -- the names of a text behind its root, if it has one
 abbrev pub normal_names : List ℕ → List ℕ
-normal_names t = cond (is_absolute t) (text_of (location_path t)) (joined (relative_names t))
+normal_names t = if is_absolute t then text_of (location_path t) else joined (relative_names t)
 
 -- a `/` at the end of a text is kept, where the names don't end in one
 abbrev pub with_end : List ℕ → List ℕ → List ℕ
-with_end t names = cond (ends_in_slash t && not (ends_in_slash names)) (names ++ 47 ∷ []) names
+with_end t names = if ends_in_slash t && not (ends_in_slash names) then names ++ 47 ∷ [] else names
 
 -- a text in its normal form; where no name is left and there is no root, `.`
 abbrev pub normalize_path : List ℕ → List ℕ
-normalize_path t = cond (bytes_eq (normal_names t) []) (46 ∷ []) (with_end t (normal_names t))
+normalize_path t = if bytes_eq (normal_names t) [] then 46 ∷ [] else with_end t (normal_names t)

@@ -1,5 +1,5 @@
 -- Which package owns a path.
-use Rattle.std.specs.Prelude.{◌≡◌, ℕ, Bool, not, ◌&&◌, cond, IsTrue, IsSome, List, [], ◌∷◌, Option, Some, None}
+use Rattle.std.specs.Prelude.{◌≡◌, ℕ, Bool, not, ◌&&◌, if◌then◌else◌, IsTrue, IsSome, List, [], ◌∷◌, Option, Some, None}
 use Rattle.std.specs.List.{AllByRecursion}
 use Rattle.sugar_path.specs.Path.{Path, IsCleanPath, is_absolute, path_eq, text_of}
 use Rattle.pnp_core.specs.declared.manifest.PackageLocator.{PackageLocator}
@@ -14,7 +14,7 @@ owns row l = not row.1.discard_from_lookup && path_eq (location_path row.1.packa
 -- the last of the rows that own a location
 abbrev pub last_at : List Row → Path → Option PackageLocator
 last_at [] l = None
-last_at (row ∷ rest) l = or_else (last_at rest l) (cond (owns row l) (Some row.0) None)
+last_at (row ∷ rest) l = or_else (last_at rest l) (if owns row l then Some row.0 else None)
 
 -- the nearest of a path and the folders above it that is the location of rows; the last of them owns it
 abbrev pub nearest_owner : List Row → Path → Option PackageLocator
@@ -30,7 +30,9 @@ owner m p = owner_of_text m (text_of p)
 
 -- a row's location is an absolute text in normal form
 abbrev pub IsLocated : Row → Type 0
-IsLocated row = IsTrue (is_absolute row.1.package_location) × (normalize_path row.1.package_location ≡ row.1.package_location)
+IsLocated row =
+    IsTrue (is_absolute row.1.package_location)
+    × (normalize_path row.1.package_location ≡ row.1.package_location)
 
 -- A manifest that was loaded: its folder is clean and absolute, its rows are located, and the top-level package has a row.
 pub record IsReady (m : Contents) : Type 0 where

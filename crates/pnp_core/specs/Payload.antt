@@ -1,11 +1,11 @@
 -- The JSON text inside a manifest's program file.
-use Rattle.std.specs.Prelude.{ℕ, Bool, ◌==◌, ◌||◌, cond, List, [], ◌∷◌, Option, Some, None, option_map, option_and_then, codes}
+use Rattle.std.specs.Prelude.{ℕ, Bool, ◌==◌, ◌||◌, if◌then◌else◌, List, [], ◌∷◌, Option, Some, None, option_map, option_and_then, codes}
 
 -- what follows a front that is the word
 abbrev pub after_word : List ℕ → List ℕ → Option (List ℕ)
 after_word [] t = Some t
 after_word (w ∷ ws) [] = None
-after_word (w ∷ ws) (c ∷ cs) = cond (c == w) (after_word ws cs) None
+after_word (w ∷ ws) (c ∷ cs) = if c == w then after_word ws cs else None
 
 -- a space, a carriage return or a line feed
 abbrev pub is_blank : ℕ → Bool
@@ -13,12 +13,12 @@ is_blank c = c == 32 || c == 13 || c == 10
 
 abbrev pub after_blanks : List ℕ → List ℕ
 after_blanks [] = []
-after_blanks (c ∷ cs) = cond (is_blank c) (after_blanks cs) (c ∷ cs)
+after_blanks (c ∷ cs) = if is_blank c then after_blanks cs else c ∷ cs
 
 -- what follows a blank
 abbrev pub after_blank : List ℕ → Option (List ℕ)
 after_blank [] = None
-after_blank (c ∷ cs) = cond (is_blank c) (Some cs) None
+after_blank (c ∷ cs) = if is_blank c then Some cs else None
 
 -- one blank or more
 abbrev pub after_some_blanks : List ℕ → Option (List ℕ)
@@ -56,7 +56,7 @@ after_leftmost (c ∷ cs) = or_else (after_opening (c ∷ cs)) (after_leftmost c
 abbrev mutual
   pub quoted : List ℕ → List ℕ
   quoted [] = []
-  quoted (c ∷ cs) = cond (c == 39) [] (cond (c == 92) (kept cs) (c ∷ quoted cs))
+  quoted (c ∷ cs) = if c == 39 then [] else (if c == 92 then kept cs else c ∷ quoted cs)
 
   pub kept : List ℕ → List ℕ
   kept [] = []

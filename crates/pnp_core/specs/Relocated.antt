@@ -19,7 +19,8 @@ placed p location = record p { package_location = location }
 
 -- the location that each row has, read from a folder
 abbrev pub locations_of : List ℕ → List (List ℕ × Package) → List (List ℕ)
-locations_of dir references = map (λ row. normalize_path (join dir row.1.package_location)) references
+locations_of dir references =
+    map (λ row. normalize_path (join dir row.1.package_location)) references
 
 abbrev pub all_locations : List ℕ → Registry → List (List (List ℕ))
 all_locations dir registry = map (λ named. locations_of dir named.1) registry

@@ -1,5 +1,5 @@
 -- Values at locations.
-use Rattle.std.specs.Prelude.{◌≡◌, ℕ, cond, List, [], ◌∷◌, Option, Some, bytes_eq}
+use Rattle.std.specs.Prelude.{◌≡◌, ℕ, if◌then◌else◌, List, [], ◌∷◌, Option, Some, bytes_eq}
 use Rattle.std.specs.Map.{lookup}
 use Rattle.sugar_path.specs.Path.{Path, IsPath, path_eq, text_of}
 use Rattle.pnp_core.specs.Payload.{or_else}
@@ -18,4 +18,5 @@ nearest_value t (n ∷ p) = or_else (value_at t (n ∷ p)) (nearest_value t p)
 
 -- a location has a value now, and the others have what they had
 abbrev pub Puts : {T : Type 0} → Locations T → Locations T → Path → T → Type 0
-Puts old new l v = (p : Path) → IsPath p → value_at new p ≡ cond (path_eq l p) (Some v) (value_at old p)
+Puts old new l v =
+    (p : Path) → IsPath p → value_at new p ≡ (if path_eq l p then Some v else value_at old p)

@@ -1,5 +1,5 @@
 -- The messages, as texts.
-use Rattle.std.specs.Prelude.{ℕ, Bool, true, false, cond, List, [], ◌∷◌, ◌++◌, codes, bytes_eq}
+use Rattle.std.specs.Prelude.{ℕ, Bool, true, false, if◌then◌else◌, List, [], ◌∷◌, ◌++◌, codes, bytes_eq}
 use Rattle.sugar_path.specs.Path.{Path, text_of}
 use Rattle.tree_core.specs.Builtins.{is_builtin}
 use Rattle.pnp_core.specs.declared.error.BadSpecifier.{BadSpecifier}
@@ -21,11 +21,12 @@ cause_message BadJson = codes "We failed to parse the PnP data payload as proper
 cause_message NoTopLevel = codes "The PnP data payload has no top-level row."
 
 abbrev pub failed_hydration : HydrationCause → Path → FailedManifestHydration
-failed_hydration cause p = record { message = cause_message cause; manifest_path = text_of p; cause = cause }
+failed_hydration cause p =
+    record { message = cause_message cause; manifest_path = text_of p; cause = cause }
 
 -- the specifier, where it says more than the name
 unfoldable pub via : List ℕ → List ℕ → List ℕ
-via name specifier = cond (bytes_eq name specifier) [] (codes " (via \"" ++ specifier ++ codes "\")")
+via name specifier = if bytes_eq name specifier then [] else codes " (via \"" ++ specifier ++ codes "\")"
 
 -- why a builtin that isn't declared is refused
 unfoldable pub ambiguous_builtin : List ℕ → List ℕ → List ℕ → List ℕ

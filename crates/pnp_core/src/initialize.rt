@@ -9,7 +9,7 @@ ghost use Rattle.pnp_core.specs.Owner.{IsReady};
 ghost use Rattle.pnp_core.specs.Relocated.{changed, placed, locations_of, all_locations, overlaid, missing_of};
 ghost use Rattle.pnp_core.specs.Trie.{value_at};
 
-use crate::normalize::normalize_path;
+use crate::normalize::{location, normal_text};
 use crate::registry::package_of;
 use crate::{Manifest, PackageDependency, PackageInformation, PackageLocator, Trie};
 use indexmap::IndexMap;
@@ -29,12 +29,7 @@ pub fn init_pnp_manifest(alloc: Global, manifest: &mut Manifest, p: &str) -> Res
     let manifest_path = folder.to_text(alloc)?;
     let _ = folder.go_up();
     let manifest_dir = folder.to_text(alloc)?;
-    let locations = locations_from(
-        alloc,
-        manifest_dir.as_str(),
-        &manifest.package_registry_data,
-    )?;
-    let trie = located_trie(
+    let (locations, trie) = located(
         alloc,
         manifest_dir.as_str(),
         &manifest.package_registry_data,
@@ -50,35 +45,83 @@ pub fn init_pnp_manifest(alloc: Global, manifest: &mut Manifest, p: &str) -> Res
     Ok(())
 }
 
-// Where each row's package stands, by name.
-fn locations_from(
+// Where each row's package stands, by name, and the locator of the last row at each location, of those that aren't discarded.
+fn located(
     alloc: Global,
     folder: &str,
     registry: &IndexMap<Text, IndexMap<Text, PackageInformation>>,
-) -> Result<Vec<Vec<Text>>, AllocError>
-    ensures { IfOk result (λ found. map (λ locations. locations.items) found.items ≡ all_locations folder.now (map (λ named. (named.0, named.1.entries)) registry.now.entries)) }
+) -> Result<(Vec<Vec<Text>>, Trie<PackageLocator>), AllocError>
+    requires { IsTrue (is_absolute folder.now) }
+    ensures locations { IfOk result (λ made.
+        map (λ locations. locations.items) made.0.items
+        ≡ all_locations folder.now (map (λ named. (named.0, named.1.entries)) registry.now.entries)) }
+    ensures trie { IfOk result (λ made.
+        let rows_by_name = map (λ named. (named.0, named.1.entries)) registry.now.entries in
+        (l : Path) → IsPath l
+        → value_at made.1 l ≡ overlaid (rows (located_registry folder.now rows_by_name)) [] l) }
 {
     let mut found = Vec::new(alloc);
-    for (_name, references) in registry.iter() {
-        found.push(locations_under(alloc, folder, references)?)?;
+    let mut trie = Trie::new(alloc);
+    for (name, references) in registry.iter() {
+        found.push(locate_rows(alloc, &mut trie, folder, name, references)?)?;
+    }
+    Ok((found, trie))
+}
+
+// Puts the rows of one name at their locations, and says where they stand.
+fn locate_rows(
+    alloc: Global,
+    trie: &mut Trie<PackageLocator>,
+    folder: &str,
+    name: &Text,
+    references: &IndexMap<Text, PackageInformation>,
+) -> Result<Vec<Text>, AllocError>
+    requires { IsTrue (is_absolute folder.now) }
+    ensures locations { IfOk result (λ found.
+        found.items ≡ locations_of folder.now references.now.entries) }
+    ensures trie { OnOk result (
+        let located = located_rows folder.now references.now.entries in
+        (l : Path) → IsPath l
+        → value_at trie.new l ≡ overlaid (rows_under (name.now, located)) trie.old l) }
+{
+    let mut found = Vec::new(alloc);
+    for (reference, package) in references.iter() {
+        found.push(locate_row(alloc, trie, folder, name, reference, package)?)?;
     }
     Ok(found)
 }
 
-// Where the packages of one name stand.
-fn locations_under(
+// Puts a row at its location, unless it is discarded, and says where it stands. The location is cleaned once for both.
+fn locate_row(
     alloc: Global,
+    trie: &mut Trie<PackageLocator>,
     folder: &str,
-    references: &IndexMap<Text, PackageInformation>,
-) -> Result<Vec<Text>, AllocError>
-    ensures { IfOk result (λ found. found.items ≡ locations_of folder.now references.now.entries) }
+    name: &Text,
+    reference: &Text,
+    row: &PackageInformation,
+) -> Result<Text, AllocError>
+    requires { IsTrue (is_absolute folder.now) }
+    ensures location { IfOk result (λ text.
+        text ≡ normalize_path (join folder.now row.now.package_location)) }
+    ensures trie { OnOk result (
+        (l : Path) → IsPath l
+        → value_at trie.new l
+        ≡ overlaid ((locator name.now reference.now, located folder.now row.now) ∷ []) trie.old l) }
 {
-    let mut found = Vec::new(alloc);
-    for (_reference, package) in references.iter() {
-        let joined = joined_texts(alloc, folder, package.package_location.as_str())?;
-        found.push(normalize_path(alloc, joined.as_str())?)?;
+    let joined = joined_texts(alloc, folder, row.package_location.as_str())?;
+    let location = location(alloc, joined.as_str())?;
+    let text = normal_text(alloc, joined.as_str(), &location)?;
+    if row.discard_from_lookup {
+        return Ok(text);
     }
-    Ok(found)
+    let locator = PackageLocator {
+        name: name.try_clone(alloc)?,
+        reference: reference.try_clone(alloc)?,
+    };
+    match trie.insert_at(location, locator) {
+        Ok(()) => Ok(text),
+        Err((_, e)) => Err(e),
+    }
 }
 
 // One text behind another, as a path behind a folder.
@@ -109,65 +152,6 @@ fn with_slash(alloc: Global, folder: &str) -> Result<String, AllocError>
     Ok(text)
 }
 
-// The locator of the last row at each location, of those that aren't discarded.
-fn located_trie(
-    alloc: Global,
-    folder: &str,
-    registry: &IndexMap<Text, IndexMap<Text, PackageInformation>>,
-) -> Result<Trie<PackageLocator>, AllocError>
-    requires { IsTrue (is_absolute folder.now) }
-    ensures { IfOk result (λ trie. (l : Path) → IsPath l → value_at trie l ≡ overlaid (rows (located_registry folder.now (map (λ named. (named.0, named.1.entries)) registry.now.entries))) [] l) }
-{
-    let mut trie = Trie::new(alloc);
-    for (name, references) in registry.iter() {
-        put_rows(alloc, &mut trie, folder, name, references)?;
-    }
-    Ok(trie)
-}
-
-// Puts the rows of one name at their locations.
-fn put_rows(
-    alloc: Global,
-    trie: &mut Trie<PackageLocator>,
-    folder: &str,
-    name: &Text,
-    references: &IndexMap<Text, PackageInformation>,
-) -> Result<(), AllocError>
-    requires { IsTrue (is_absolute folder.now) }
-    ensures { OnOk result ((l : Path) → IsPath l → value_at trie.new l ≡ overlaid (rows_under (name.now, located_rows folder.now references.now.entries)) trie.old l) }
-{
-    for (reference, package) in references.iter() {
-        put_row(alloc, trie, folder, name, reference, package)?;
-    }
-    Ok(())
-}
-
-// Puts a row at its location, unless it is discarded.
-fn put_row(
-    alloc: Global,
-    trie: &mut Trie<PackageLocator>,
-    folder: &str,
-    name: &Text,
-    reference: &Text,
-    row: &PackageInformation,
-) -> Result<(), AllocError>
-    requires { IsTrue (is_absolute folder.now) }
-    ensures { OnOk result ((l : Path) → IsPath l → value_at trie.new l ≡ overlaid ((locator name.now reference.now, located folder.now row.now) ∷ []) trie.old l) }
-{
-    if row.discard_from_lookup {
-        return Ok(());
-    }
-    let location = joined_texts(alloc, folder, row.package_location.as_str())?;
-    let locator = PackageLocator {
-        name: name.try_clone(alloc)?,
-        reference: reference.try_clone(alloc)?,
-    };
-    match trie.insert(location.as_str(), locator) {
-        Ok(()) => Ok(()),
-        Err((_, e)) => Err(e),
-    }
-}
-
 // The top-level row's bindings of names that the pool lacks.
 fn missing_bindings(
     alloc: Global,
@@ -194,7 +178,8 @@ fn missing_from(
     pool: &IndexMap<Text, Option<PackageDependency>>,
     own: &IndexMap<Text, Option<PackageDependency>>,
 ) -> Result<Vec<(Text, Option<PackageDependency>)>, AllocError>
-    ensures { IfOk result (λ missing. missing.items ≡ filter (λ bound. is_none (at bound.0 pool.now.entries)) own.now.entries) }
+    ensures { IfOk result (λ missing.
+        missing.items ≡ filter (λ bound. is_none (at bound.0 pool.now.entries)) own.now.entries) }
 {
     let mut missing = Vec::new(alloc);
     for (name, dependency) in own.iter() {
@@ -247,7 +232,10 @@ fn place_all(
     registry: &mut IndexMap<Text, IndexMap<Text, PackageInformation>>,
     mut locations: Vec<Vec<Text>>,
 )
-    ensures { map (λ named. (named.0, named.1.entries)) registry.new.entries ≡ changed (changed placed) (map (λ named. (named.0, named.1.entries)) registry.old.entries) (map (λ found. found.items) locations.items) }
+    ensures { map (λ named. (named.0, named.1.entries)) registry.new.entries
+        ≡ changed (changed placed)
+        (map (λ named. (named.0, named.1.entries)) registry.old.entries)
+        (map (λ found. found.items) locations.items) }
 {
     while let Some(found) = locations.pop() {
         if let Some(references) = registry.get_index_mut(locations.len()) {

@@ -1,10 +1,17 @@
 // Laws, each proved for all texts and trees. The calls have them by their contracts.
 ghost use Rattle.pnp_core.specs.Laws.{NormalizesAsNormal};
-ghost use Rattle.pnp_core.specs.OnTree.{NearestOnTree, LoadedOnTree};
+ghost use Rattle.pnp_core.specs.OnTree.{NearestOnTree, NearestTextOnTree, LoadedOnTree, ToldOnTree};
+ghost use Rattle.pnp_core.specs.Ownership.{OwnerOwns};
 
 /// A text without `\` has the normal form that a path has, but for `./`: here that is `.`.
 pub fn normalizes_as_normal()
     ensures { NormalizesAsNormal }
+{}
+
+/// The owner of a path is the one locator that owns it by its rows: the longest location that is a component prefix of the path,
+/// and of equal ones the last.
+pub fn owner_owns()
+    ensures { OwnerOwns }
 {}
 
 /// The nearest manifest file, said as a function of the tree, with its questions.
@@ -12,7 +19,17 @@ pub fn nearest_on_tree()
     ensures { NearestOnTree }
 {}
 
+/// The text of the nearest manifest file, in the same way.
+pub fn nearest_text_on_tree()
+    ensures { NearestTextOnTree }
+{}
+
 /// The manifest that a file is, said as a function of the tree, with its question.
 pub fn loaded_on_tree()
     ensures { LoadedOnTree }
+{}
+
+/// The manifest that a file is, or its refusal in Yarn's words, in the same way.
+pub fn told_on_tree()
+    ensures { ToldOnTree }
 {}

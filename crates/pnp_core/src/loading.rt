@@ -29,7 +29,9 @@ pub fn load_pnp_manifest<'t, T: Tree>(
     p: &str,
 ) -> Result<Manifest, Error>
     requires { IsCleanPath p.now }
-    ensures asks { Asks (⟦<Recorder<'t, T> as Asker>⟧.asking tree.old) (⟦<Recorder<'t, T> as Asker>⟧.asking tree.new) (seen pnp result) (told_loading (path_in p.now)) }
+    ensures asks { Asks
+        (⟦<Recorder<'t, T> as Asker>⟧.asking tree.old) (⟦<Recorder<'t, T> as Asker>⟧.asking tree.new)
+        (seen pnp result) (told_loading (path_in p.now)) }
     ensures ready { IfOk result IsReady }
     ensures errors { IfErr result IsOfManifest }
 {

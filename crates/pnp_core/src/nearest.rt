@@ -17,7 +17,9 @@ pub fn find_closest_pnp_manifest_path<'t, T: Tree>(
     path: &str,
 ) -> Result<Option<Text>, Error>
     requires { IsCleanPath path.now }
-    ensures asks { Asks (⟦<Recorder<'t, T> as Asker>⟧.asking tree.old) (⟦<Recorder<'t, T> as Asker>⟧.asking tree.new) (seen pnp result) (nearest_text (path_in path.now)) }
+    ensures asks { Asks
+        (⟦<Recorder<'t, T> as Asker>⟧.asking tree.old) (⟦<Recorder<'t, T> as Asker>⟧.asking tree.new)
+        (seen pnp result) (nearest_text (path_in path.now)) }
     ensures errors { IfErr result IsOfTree }
 {
     let path = CleanPath::of(alloc, path)?;

@@ -1,6 +1,6 @@
 // The normal form of the paths in a manifest.
 ghost use Rattle.std.specs.Prelude.{◌≡◌, [], List, ℕ, IfOk, OnOk, IsTrue, string_bytes, map, reverse};
-ghost use Rattle.sugar_path.specs.Path.{parts};
+ghost use Rattle.sugar_path.specs.Path.{is_absolute, parts};
 ghost use Rattle.pnp_core.specs.NormalizePath.{normalize_path, normal_names, location_path, by_relative_part, by_relative_parts, relative_names, joined, with_end};
 ghost use Rattle.pnp_core.specs.Slashed.{slashed, names_of};
 
@@ -46,10 +46,29 @@ fn normal_names(alloc: Global, text: &str) -> Result<String, AllocError>
     Ok(names)
 }
 
+// The normal form of an absolute text, whose path is at hand.
+pub(crate) fn normal_text(
+    alloc: Global,
+    text: &str,
+    location: &CleanPath,
+) -> Result<Text, AllocError>
+    requires absolute { IsTrue (is_absolute text.now) }
+    requires names { location.now ≡ location_path text.now }
+    ensures { IfOk result (λ t. t ≡ normalize_path text.now) }
+{
+    let names = location.to_text(alloc)?;
+    let ended = with_end(text, String::from(names))?;
+    Ok(Text::from(ended))
+}
+
 // The path that an absolute text names.
 pub(crate) fn location(alloc: Global, text: &str) -> Result<CleanPath, AllocError>
     ensures { IfOk result (λ p. p ≡ location_path text.now) }
 {
+    let Some(_) = text.split_once('\\') else {
+        let clean = CleanPath::read(alloc, &CleanPath::root(alloc), text)?;
+        return Ok(clean);
+    };
     let slashed = with_slashes(alloc, text)?;
     let path = CleanPath::read(alloc, &CleanPath::root(alloc), slashed.as_str())?;
     Ok(path)
@@ -84,7 +103,8 @@ fn relative_text(alloc: Global, text: &str) -> Result<String, AllocError>
 
 // Goes on by one part of a relative text.
 fn follow_relative<'a>(names: &mut Vec<&'a str>, part: &'a str) -> Result<(), AllocError>
-    ensures { OnOk result (names_of names.new.items ≡ by_relative_part (names_of names.old.items) part.now) }
+    ensures { OnOk result (
+        names_of names.new.items ≡ by_relative_part (names_of names.old.items) part.now) }
 {
     if part == "" || part == "." {
         return Ok(());

@@ -2,6 +2,7 @@
 ghost use Rattle.std.specs.Prelude.{◌≡◌, IfOk, option_map, string_bytes};
 ghost use Rattle.pnp_core.specs.Payload.{payload, quoted, after_leftmost, after_opening, after_constant, after_call, after_word, is_blank, after_blank, after_blanks};
 
+use memchr::memchr2;
 use std::alloc::{AllocError, Global};
 use sugar_path::Text;
 
@@ -94,24 +95,24 @@ fn is_blank(c: char) -> bool
     c == ' ' || c == '\r' || c == '\n'
 }
 
-// What stands up to the closing quote, with each escaped character in place of its escape.
+// What stands up to the closing quote, with each escaped character in place of its escape. It is taken in runs between the escapes.
 fn quoted(alloc: Global, text: &str) -> Result<String, AllocError>
     ensures { IfOk result (λ s. string_bytes s ≡ quoted text.now) }
 {
     let mut made = String::new(alloc);
-    let mut chars = text.chars();
-    while let Some(c) = chars.next() {
-        if c == '\'' {
+    let mut rest = text;
+    while let Some(at) = memchr2(b'\'', b'\\', rest.as_bytes()) {
+        made.push_str(&rest[..at])?;
+        if rest.as_bytes()[at] == b'\'' {
             return Ok(made);
         }
-        if c == '\\' {
-            match chars.next() {
-                None => return Ok(made),
-                Some(escaped) => made.push(escaped)?,
-            }
-        } else {
-            made.push(c)?;
+        let mut chars = rest[at + 1..].chars();
+        match chars.next() {
+            None => return Ok(made),
+            Some(escaped) => made.push(escaped)?,
         }
+        rest = chars.as_str();
     }
+    made.push_str(rest)?;
     Ok(made)
 }

@@ -3,6 +3,8 @@ use crate::{Error, Trie, normalize_path, parse_bare_identifier, payload_of};
 use std::test::Fail;
 
 mod manifests;
+mod packages;
+mod wordings;
 
 #[test]
 fn paths_have_a_normal_form(rt: HostRuntime) -> Result<(), Fail> {

@@ -1,7 +1,7 @@
 // Values at locations, found by the nearest location above a path.
 ghost use Rattle.std.specs.Prelude.{◌≡◌, [], IsTrue, IfOk, IfErr, OnOk, OnErr, string_bytes};
 ghost use Rattle.std.specs.Option.{option_copied};
-ghost use Rattle.sugar_path.specs.Path.{is_absolute, text_of};
+ghost use Rattle.sugar_path.specs.Path.{IsPath, is_absolute};
 ghost use Rattle.pnp_core.specs.NormalizePath.{location_path};
 ghost use Rattle.pnp_core.specs.Trie.{Puts, nearest_value};
 
@@ -9,6 +9,7 @@ use crate::normalize::location;
 use std::alloc::{AllocError, Global};
 use std::collections::BTreeMap;
 use std::marker::Model;
+use sugar_path::CleanPath;
 
 /// Values at locations. A location is an absolute path, and two texts that name one path are one location.
 #[derive(Drop)]
@@ -45,8 +46,21 @@ impl<T: Drop> Trie<T> {
         ensures err { OnErr result (self.new ≡ self.old) }
         ensures back { IfErr result (λ e. e.0 ≡ value) }
     {
-        let location = match location_text(self.alloc, key) {
-            Ok(location) => location,
+        match location(self.alloc, key) {
+            Ok(location) => self.insert_at(location, value),
+            Err(e) => Err((value, e)),
+        }
+    }
+
+    // The same at a path.
+    pub(crate) fn insert_at(&mut self, location: CleanPath, value: T) -> Result<(), (T, AllocError)>
+        requires { IsPath location }
+        ensures ok { OnOk result (Puts self.old self.new location value) }
+        ensures err { OnErr result (self.new ≡ self.old) }
+        ensures back { IfErr result (λ e. e.0 ≡ value) }
+    {
+        let location = match location.into_text() {
+            Ok(text) => String::from(text),
             Err(e) => return Err((value, e)),
         };
         match self.locations.insert(location, value) {
@@ -61,7 +75,8 @@ impl<T: Drop> Trie<T> {
     /// The value of the nearest location that a path is or lies below.
     pub fn get_ancestor_value(&self, alloc: Global, key: &str) -> Result<Option<&T>, AllocError>
         requires { IsTrue (is_absolute key.now) }
-        ensures { IfOk result (λ found. option_copied found ≡ nearest_value self.now (location_path key.now)) }
+        ensures { IfOk result (λ found.
+            option_copied found ≡ nearest_value self.now (location_path key.now)) }
     {
         let mut path = location(alloc, key)?;
         loop {
@@ -73,12 +88,4 @@ impl<T: Drop> Trie<T> {
             }
         }
     }
-}
-
-// The text of the path that a text names.
-fn location_text(alloc: Global, text: &str) -> Result<String, AllocError>
-    ensures { IfOk result (λ s. string_bytes s ≡ text_of (location_path text.now)) }
-{
-    let location = location(alloc, text)?.into_text()?;
-    Ok(String::from(location))
 }

@@ -17,7 +17,8 @@ pub fn undeclared_of(
     name: &str,
     issuer_path: &str,
 ) -> Result<UndeclaredDependency, AllocError>
-    ensures { IfOk result (λ told. told ≡ undeclared manifest.now owner.now specifier.now name.now issuer_path.now) }
+    ensures { IfOk result (λ told.
+        told ≡ undeclared manifest.now owner.now specifier.now name.now issuer_path.now) }
 {
     let is_root = is_dependency_tree_root(manifest, owner);
     let is_builtin = is_node_builtin(specifier);
@@ -50,7 +51,8 @@ fn undeclared_message(
     name: &str,
     issuer_path: &str,
 ) -> Result<String, AllocError>
-    ensures { IfOk result (λ s. string_bytes s ≡ undeclared_message is_builtin is_root owner.now specifier.now name.now issuer_path.now) }
+    ensures { IfOk result (λ s. string_bytes s
+        ≡ undeclared_message is_builtin is_root owner.now specifier.now name.now issuer_path.now) }
 {
     let required = required(alloc, name, specifier)?;
     let issuer = owner.name.as_str();
@@ -77,7 +79,8 @@ fn undeclared_message(
 
 // A builtin's name that isn't declared, asked by a package.
 fn ambiguous_builtin_of(alloc: Global, issuer: &str, name: &str) -> Result<String, AllocError>
-    ensures { IfOk result (λ s. string_bytes s ≡ ambiguous_builtin issuer.now name.now (issuer.now ++ codes "'s")) }
+    ensures { IfOk result (λ s.
+        string_bytes s ≡ ambiguous_builtin issuer.now name.now (issuer.now ++ codes "'s")) }
 {
     let whose = format!(in alloc; "{issuer}'s")?;
     ambiguous_builtin(alloc, issuer, name, whose.as_str())

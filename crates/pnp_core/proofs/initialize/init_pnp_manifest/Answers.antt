@@ -7,17 +7,17 @@ use Rattle.pnp_core.proofs.Slashes.{clean-is_absolute}
 use Rattle.pnp_core.proofs.Relocations.{changed-all, overlaid-nil, located-all, some-located, filled_by-missing, initialized-is}
 use Rattle.pnp_core.proofs.initialize.init_pnp_manifest.Goals as goal
 
-pub located_trie-requires : goal.located_trie-requires
-located_trie-requires c = rw c.as_str-2.ensures (clean-is_absolute c.in_ok-manifest_dir.manifest_dir c.in_ok-manifest_dir.ensures.clean)
+pub located-requires : goal.located-requires
+located-requires c = rw c.as_str.ensures (clean-is_absolute c.in_ok-manifest_dir.manifest_dir c.in_ok-manifest_dir.ensures.clean)
 
 pub invariant_of-manifest-2 : goal.invariant_of-manifest-2
 invariant_of-manifest-2 c = λ folder l path.
-    let registry = (rw (c.in_ok-locations.ensures, c.as_str.ensures) at c.place_all.ensures) ∙ changed-all c.in_ok-manifest_dir.manifest_dir (contents_of c.manifest.inside).package_registry_data in
-    rw registry ((rw c.as_str-2.ensures at (c.in_ok-trie.ensures l path)) ∙ overlaid-nil (rows (located_registry c.in_ok-manifest_dir.manifest_dir (contents_of c.manifest.inside).package_registry_data)) l)
+    let registry = (rw (c.in_ok-locations.ensures.locations, c.as_str.ensures) at c.place_all.ensures) ∙ changed-all c.in_ok-manifest_dir.manifest_dir (contents_of c.manifest.inside).package_registry_data in
+    rw registry ((rw c.as_str.ensures at (c.in_ok-locations.ensures.trie l path)) ∙ overlaid-nil (rows (located_registry c.in_ok-manifest_dir.manifest_dir (contents_of c.manifest.inside).package_registry_data)) l)
 
 pub returns-clause-ok : goal.returns-clause-ok
 returns-clause-ok c =
-    let registry = (rw (c.in_ok-locations.ensures, c.as_str.ensures) at c.place_all.ensures) ∙ changed-all c.in_ok-manifest_dir.manifest_dir (contents_of c.manifest.inside).package_registry_data in
+    let registry = (rw (c.in_ok-locations.ensures.locations, c.as_str.ensures) at c.place_all.ensures) ∙ changed-all c.in_ok-manifest_dir.manifest_dir (contents_of c.manifest.inside).package_registry_data in
     let dir : c.in_ok-manifest_dir.manifest_dir ≡ text_of (parent (path_in c.args.p.now)) = rw (c.go_up.ensures.up, c.in_ok-folder.ensures) at c.in_ok-manifest_dir.ensures.text in
     let path : c.in_ok-manifest_path.manifest_path ≡ text_of (path_in c.args.p.now) = rw c.in_ok-folder.ensures at c.in_ok-manifest_path.ensures.text in
     let pool = rw (c.reserve.ensures.entries, c.in_ok-missing.ensures, ← c.manifest.view_is, filled_by-missing) at c.fill.ensures in
@@ -25,7 +25,7 @@ returns-clause-ok c =
 
 pub returns-clause-ready : goal.returns-clause-ready
 returns-clause-ready c =
-    let registry = (rw (c.in_ok-locations.ensures, c.as_str.ensures) at c.place_all.ensures) ∙ changed-all c.in_ok-manifest_dir.manifest_dir (contents_of c.manifest.inside).package_registry_data in
+    let registry = (rw (c.in_ok-locations.ensures.locations, c.as_str.ensures) at c.place_all.ensures) ∙ changed-all c.in_ok-manifest_dir.manifest_dir (contents_of c.manifest.inside).package_registry_data in
     let there = rw (← c.manifest.view_is) at c.requires.top_level_row in
     record {
       folder = c.in_ok-manifest_dir.ensures.clean;

@@ -1,4 +1,4 @@
-use Rattle.std.proofs.Common.{◌≡◌, ◌++◌, ◌∷◌, [], length, map, sym, ap, ◌∙◌, rules}
+use Rattle.std.proofs.Common.{◌≡◌, length, map, sym, ◌∙◌, rules}
 use Rattle.std.proofs.lemmas.List.{map-append, length-map}
 use Rattle.pnp_core.proofs.Relocations.{changed-rows, changed-rows-past}
 use Rattle.pnp_core.proofs.initialize.place_all.Goals as goal

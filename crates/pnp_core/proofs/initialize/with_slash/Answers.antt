@@ -1,5 +1,4 @@
 use Rattle.std.proofs.Common.{◌≡◌, [], true, false, bytes_eq, sym, ◌∙◌, rules}
-use Rattle.sugar_path.specs.Path.{ends_in_slash}
 use Rattle.pnp_core.proofs.Slashes.{bytes_eq-nil, ends_in_slash-last}
 use Rattle.pnp_core.proofs.initialize.with_slash.Goals as goal
 

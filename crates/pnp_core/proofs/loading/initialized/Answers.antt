@@ -1,4 +1,4 @@
-use Rattle.std.proofs.Common.{◌≡◌, Ok, sym, ap, ◌∙◌}
+use Rattle.std.proofs.Common.{Ok, sym, ap, ◌∙◌}
 use Rattle.sugar_path.proofs.Parts.{path_in-text_of}
 use Rattle.pnp_core.proofs.loading.initialized.Goals as goal
 

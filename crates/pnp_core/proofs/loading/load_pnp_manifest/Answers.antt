@@ -1,4 +1,4 @@
-use Rattle.std.proofs.Common.{Ok, Err, refl, ap, ◌∙◌}
+use Rattle.std.proofs.Common.{Err, refl, ap}
 use Rattle.tree_core.proofs.Asking.{asks_then, asks_done, asks_fails, asks_starved_in}
 use Rattle.pnp_core.specs.Loading.{told_loading}
 use Rattle.pnp_core.specs.Refusal.{pnp, NoManifest}

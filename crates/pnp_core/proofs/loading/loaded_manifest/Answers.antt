@@ -1,4 +1,3 @@
-use Rattle.std.proofs.Common.{refl}
 use Rattle.tree_core.proofs.Asking.{asks_then, asks_fails_in, asks_decided}
 use Rattle.tree_core.specs.Resolving.{resolving}
 use Rattle.pnp_core.specs.Loading.{loading}

@@ -1,4 +1,4 @@
-use Rattle.std.proofs.Common.{◌≡◌, IsUtf8, ◌∙◌, sym}
+use Rattle.std.proofs.Common.{◌∙◌}
 use Rattle.pnp_core.proofs.Hydrations.{reading-text, reading-other}
 use Rattle.pnp_core.proofs.loading.manifest_of_content.Goals as goal
 
