@@ -3,7 +3,7 @@ use Rattle.std.proofs.Common.{◌≡◌, ℕ, Bool, true, false, cond, List, [],
 use Rattle.sugar_path.specs.Path.{Path}
 use Rattle.tree_core.specs.declared.question.Question.{Question}
 use Rattle.tree_core.specs.Tree.{Files}
-use Rattle.tree_core.specs.Plan.{Plan, Done, answer, asked, ◌>>=◌}
+use Rattle.tree_core.specs.Plan.{Plan, Done, answer, asked, ◌>>=◌, ◌>>=?◌}
 use Rattle.tree_core.specs.Asks.{raised, widened}
 use Rattle.tree_core.specs.Rows.{Going, end_of, order, or_refused, refuses_by, ends_by}
 use Rattle.tree_core.specs.Results.{asks_after}
@@ -43,15 +43,15 @@ asked-node_rows t project request = asked-raised t of_node (node project.node re
 answer-ends : {A : Type 0} (t : Files) (project : ProjectSettings) (request : Request) → answer t (ends_by {A = A} (node_rows_of project request)) ≡ by_node_rows_on t project request
 answer-ends t project request = answer-ends_by t (node_rows_of project request) ∙ ap (λ r. Err r) (answer-node_rows t project request)
 
-asked-ends : {A : Type 0} (t : Files) (project : ProjectSettings) (request : Request) → asked t (ends_by {A = A} (node_rows_of project request)) ≡ node_rows_asks t project request
-asked-ends t project request = asked-ends_by _ t (node_rows_of project request) ∙ asked-node_rows t project request
+asked-ends : (A : Type 0) (t : Files) (project : ProjectSettings) (request : Request) → asked t (ends_by {A = A} (node_rows_of project request)) ≡ node_rows_asks t project request
+asked-ends A t project request = asked-ends_by A t (node_rows_of project request) ∙ asked-node_rows t project request
 
 answer-or_node_rows : {A : Type 0} (t : Files) (project : ProjectSettings) (request : Request) (o : Option A) → answer t (or_node_rows project request o) ≡ or_node_rows_on t project request o
 answer-or_node_rows t project request None = answer-ends t project request
 answer-or_node_rows t project request (Some a) = answer-done t _
 
 asked-or_node_rows : {A : Type 0} (t : Files) (project : ProjectSettings) (request : Request) (o : Option A) → asked t (or_node_rows project request o) ≡ or_node_rows_asks t project request o
-asked-or_node_rows t project request None = asked-ends t project request
+asked-or_node_rows t project request None = asked-ends _ t project request
 asked-or_node_rows t project request (Some a) = asked-done t _
 
 answer-read : (t : Files) (file : Path) → answer t (read_manifest file) ≡ readable file (loaded_on t file)
@@ -67,7 +67,7 @@ answer-manifest_in t project request None = answer-ends t project request
 answer-manifest_in t project request (Some file) = answer-refuses_by t (read_manifest file) ∙ ap (λ r. or_refused r) (answer-read t file)
 
 asked-manifest_in : (t : Files) (project : ProjectSettings) (request : Request) (file : Option Path) → asked t (manifest_in project request file) ≡ reading_asks t project request file
-asked-manifest_in t project request None = asked-ends t project request
+asked-manifest_in t project request None = asked-ends _ t project request
 asked-manifest_in t project request (Some file) = asked-refuses_by _ t (read_manifest file) ∙ asked-read t file
 
 answer-manifest : (t : Files) (project : ProjectSettings) (request : Request) (base : List ℕ) → answer t (nearest_manifest project request base) ≡ manifest_on t project request base
@@ -125,6 +125,11 @@ answer-rows t project request = ap end_of (
     row t _ _ (λ file.
     answer-refuses_by t (answered_through project _ file found.1) ∙ ap (λ r. or_refused r) (answer-through t project _ file found.1)))))))))))))))
 
+-- a row that goes on at once
+goes_on_asks : {A B X : Type 0} {questions : List Question} (t : Files) (a : A) (k : A → Plan (Result B X)) → asked t (k a) ≡ questions → asked t (Done (Ok a) >>=? k) ≡ questions
+unfolding ◌>>=◌
+goes_on_asks t a k rest = rest
+
 asked-rows : (t : Files) (project : ProjectSettings) (request : Request) → asked t (join_rows project request) ≡ join_asks t project request
 asked-rows t project request =
     step_asks t _ _ (answer-or_node_rows t project request (bare_base request)) (asked-or_node_rows t project request (bare_base request)) (λ base.
@@ -132,7 +137,7 @@ asked-rows t project request =
     step_asks t _ _ (answer-or_node_rows t project request _) (asked-or_node_rows t project request _) (λ owner.
     step_asks t _ _ (answer-target t _) (asked-target _ t _) (λ target.
     step_asks t _ _ (answer-bare t project base target) (asked-bare t project base target) (λ named.
-    decided_asks t _ _ (λ identifier. decided_asks t _ _ (λ locator. decided_asks t _ _ (λ location. decided_asks t _ _ (λ bound. decided_asks t _ _ (λ folder.
+    decided_asks t _ _ (λ identifier. decided_asks t _ _ (λ locator. decided_asks t _ _ (λ location. goes_on_asks t locator _ (decided_asks t _ _ (λ folder.
     refusing_asks t _ _ (answer-found_at t project folder identifier.1) (asked-found_at t project folder identifier.1) (λ placed.
     step_asks t _ _ (answer-unless_ignored t placed) (asked-unless_ignored t placed) (λ found.
     decided_asks t _ _ (λ file.
