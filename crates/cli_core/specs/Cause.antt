@@ -24,11 +24,6 @@ Meets (Ok a) wanted = wanted ≡ Ok a
 Meets (Err (Refused cause)) wanted = wanted ≡ Err cause
 Meets (Err NoMemory) wanted = Unit {0}
 
--- a call's answer, seen by what it stands for
-abbrev pub answer_seen : {A B : Type 0} → (A → B) → Result A DocumentError → Result B DocumentError
-answer_seen seen (Ok a) = Ok (seen a)
-answer_seen seen (Err e) = Err e
-
 -- one step behind the other: the first cause ends all
 infixl 10 ◌>>=◌
 abbrev pub ◌>>=◌ : {A B : Type 0} → Result A Cause → (A → Result B Cause) → Result B Cause

@@ -1,14 +1,10 @@
--- Which bytes are JSON (RFC 8259), and the value that they are.
-use Rattle.std.specs.Prelude.{◌==◌, ℕ, List, length, Option, None, ok_or, Result, if◌then◌else◌}
-use Rattle.std.specs.Str.Lossy.{utf8_valid_len}
+-- The value of a document's bytes.
+use Rattle.std.specs.Prelude.{ℕ, List, ok_or, Result}
 use Rattle.serde_json.specs.Data.{Data}
-use Rattle.serde_json.specs.Read.{read}
+use Rattle.json_reading.specs.Bytes.{json_of}
 use Rattle.cli_core.specs.declared.cause.Cause.{Cause}
 use Rattle.cli_core.specs.declared.cause.Cause.TheVariants.{NotJson}
 
--- the value of bytes that are all UTF-8 and read as JSON of at most 127 levels; a repeated key has its last value
-unfoldable pub json_of : List ℕ → Option Data
-json_of bytes = if utf8_valid_len bytes == length bytes then read bytes else None
-
+-- the value that the bytes are, or that they aren't JSON
 abbrev pub json_value : List ℕ → Result Data Cause
 json_value bytes = ok_or (json_of bytes) NotJson

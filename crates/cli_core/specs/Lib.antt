@@ -1,3 +1,4 @@
+pub use Rattle.json_reading.specs.Bytes as Bytes
 pub use Rattle.json_reading.specs.Reading as Readers
 pub mod Command
 pub mod Cause

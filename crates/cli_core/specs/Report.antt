@@ -9,7 +9,7 @@ use Rattle.swc_loader.specs.declared.resolution.Found.{Found}
 use Rattle.pnp_core.specs.declared.error.HydrationCause.{HydrationCause}
 use Rattle.pnp_core.specs.declared.error.HydrationCause.TheVariants.{NotText, NoPayload, BadJson, NoTopLevel}
 use Rattle.resolve_stack.specs.declared.verdict.JoinRefusal.{JoinRefusal}
-use Rattle.resolve_stack.specs.declared.verdict.JoinRefusal.TheVariants.{FailedManifestHydration, UndeclaredDependency, Outside, NotFound, NotBuilt}
+use Rattle.resolve_stack.specs.declared.verdict.JoinRefusal.TheVariants.{FailedManifestHydration, UndeclaredDependency, Outside, NotFound, BaseNotAFile, MalformedPackage, NotBuilt}
 use Rattle.pnp_core.specs.declared.manifest.PackageLocator.{PackageLocator}
 use Rattle.swc_loader.specs.declared.resolution.Resolution.{Resolution}
 use Rattle.resolve_stack.specs.declared.verdict.Verdict.{Verdict}
@@ -81,6 +81,10 @@ refusal_value (Outside file location) = object
 refusal_value (NotFound text) = object
     (member (codes "kind") (string (codes "NotFound"))
     (member (codes "text") (string text) no_members))
+refusal_value BaseNotAFile = object (member (codes "kind") (string (codes "BaseNotAFile")) no_members)
+refusal_value (MalformedPackage path) = object
+    (member (codes "kind") (string (codes "MalformedPackage"))
+    (member (codes "path") (string path) no_members))
 refusal_value NotBuilt = object (member (codes "kind") (string (codes "NotBuilt")) no_members)
 
 abbrev pub verdict_value : Verdict → Data

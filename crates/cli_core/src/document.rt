@@ -1,7 +1,8 @@
 // What a document asks, and the report on it.
 ghost use Rattle.std.specs.Prelude.{◌≡◌, ◌++◌, IfOk, OnErr, string_bytes};
 ghost use Rattle.std.specs.FinMap as finite;
-ghost use Rattle.cli_core.specs.Cause.{Meets, answer_seen};
+ghost use Rattle.json_reading.specs.Bytes.{answer_seen};
+ghost use Rattle.cli_core.specs.Cause.{Meets};
 ghost use Rattle.cli_core.specs.Document.{lines_of, project_of, put_file, put_files, report, verdict_on};
 ghost use Rattle.cli_core.specs.Report.{verdict_line};
 
@@ -12,7 +13,6 @@ use crate::json_text::read_json;
 use crate::report::line_of_verdict;
 use resolve_stack::{ImportError, Project, ProjectError, Settings, Verdict, resolve_import};
 use std::alloc::{AllocError, Global};
-use sugar_path::Text;
 use tree_core::{MemoryTree, PutError};
 
 /// The report on a document's bytes: the lines of the verdicts on its requests, in order; or the first cause against it.
@@ -23,11 +23,20 @@ pub fn report_for(alloc: Global, bytes: &[u8]) -> Result<String, DocumentError>
     let value = read_json(alloc, bytes)?;
     let Document {
         cwd,
+        preserve_symlinks,
+        node_modules,
+        alias,
         files,
         requests,
     } = read_fields(alloc, &value)?;
     let tree = tree_of(alloc, files.as_slice())?;
-    let project = project_in(alloc, cwd)?;
+    let settings = Settings {
+        cwd,
+        preserve_symlinks,
+        node_modules,
+        alias: alias.map,
+    };
+    let project = project_in(alloc, settings)?;
     Ok(lines_on(alloc, tree, &project, requests.as_slice())?)
 }
 
@@ -62,11 +71,12 @@ fn put(alloc: Global, tree: &mut MemoryTree, file: &GivenFile) -> Result<(), Doc
     Err(DocumentError::Refused(Cause::BadTree { path, other }))
 }
 
-// The project of a working folder.
-fn project_in(alloc: Global, cwd: Text) -> Result<Project, DocumentError>
-    ensures { Meets result (project_of cwd) }
+// The project of a document's settings.
+fn project_in(alloc: Global, settings: Settings) -> Result<Project, DocumentError>
+    ensures { Meets result (project_of settings.cwd settings.alias.entries
+        settings.preserve_symlinks settings.node_modules) }
 {
-    match Project::new(alloc, Settings { cwd }) {
+    match Project::new(alloc, settings) {
         Ok(project) => Ok(project),
         Err(ProjectError::SettingsFault { field }) => {
             Err(DocumentError::Refused(Cause::SettingsFault { field }))

@@ -1,14 +1,17 @@
 // Reads the fields of a document from its JSON value.
-ghost use Rattle.std.specs.Prelude.{◌≡◌, Option, option_map};
+ghost use Rattle.std.specs.Prelude.{◌≡◌, codes, Option, option_map};
 ghost use Rattle.serde_json.specs.View.{view};
 ghost use Rattle.json_reading.specs.Reading.{field_by};
 ghost use Rattle.json_reading.specs.Reading as reading;
 ghost use Rattle.cli_core.specs.Cause.{Meets, name_of};
-ghost use Rattle.cli_core.specs.Fields.{fields_of, is_empty, is_flag, is_nothing, required, unbuilt};
+ghost use Rattle.cli_core.specs.Fields.{fields_of, is_nothing, required, target_of, unbuilt};
+ghost use Rattle.cli_core.specs.declared.cause.Field.TheVariants.{Target};
+ghost use Rattle.swc_loader.specs.declared.target.TargetEnv.TheVariants.{Browser};
 
 use crate::cause::{Cause, DocumentError, Field};
 use crate::given::{GivenFile, Request};
-use json_reading::{FromJson, FromJsonError};
+use json_reading::{FromJson, FromJsonError, Object};
+use resolve_stack::TargetEnv;
 use serde_json::Value;
 use std::alloc::Global;
 use sugar_path::{List, Text};
@@ -17,15 +20,11 @@ use sugar_path::{List, Text};
 #[derive(Drop)]
 pub(crate) struct Document {
     pub(crate) cwd: Text,
+    pub(crate) preserve_symlinks: bool,
+    pub(crate) node_modules: bool,
+    pub(crate) alias: Object<Text>,
     pub(crate) files: List<GivenFile>,
     pub(crate) requests: List<Request>,
-}
-
-// For what the files are resolved.
-#[derive(Clone, Copy, Debug, PartialEq, Eq)]
-pub(crate) enum Target {
-    Browser,
-    Node,
 }
 
 // The document that a JSON value gives.
@@ -34,7 +33,10 @@ pub(crate) fn read_fields(alloc: Global, value: &Value) -> Result<Document, Docu
     ensures { Meets result (fields_of (view value.now)) }
 {
     let cwd: Text = field(alloc, value, Field::Cwd)?;
-    let target = field_or(alloc, value, Field::Target, Target::Browser)?;
+    let target = target_in(value)?;
+    let preserve_symlinks = field_or(alloc, value, Field::PreserveSymlinks, false)?;
+    let node_modules = field_or(alloc, value, Field::NodeModules, true)?;
+    let alias = field_or(alloc, value, Field::Alias, Object::<Text>::new(alloc))?;
     let files: List<GivenFile> = field(alloc, value, Field::Files)?;
     let requests: List<Request> = field(alloc, value, Field::Requests)?;
     if let Some(field) = first_unbuilt(target, value) {
@@ -42,6 +44,9 @@ pub(crate) fn read_fields(alloc: Global, value: &Value) -> Result<Document, Docu
     }
     Ok(Document {
         cwd,
+        preserve_symlinks,
+        node_modules,
+        alias,
         files,
         requests,
     })
@@ -75,35 +80,27 @@ fn field_or<T: FromJson>(
     }
 }
 
-impl FromJson for Target {
-    ghost use Rattle.cli_core.specs.Fields.{target_in};
-
-    ghost reads = { target_in };
-
-    fn from_json(_alloc: Global, value: &Value) -> Result<Self, FromJsonError> {
-        match value.as_str() {
-            Some("browser") => Ok(Target::Browser),
-            Some("node") => Ok(Target::Node),
-            _ => Err(FromJsonError::OtherKind),
-        }
+// For what modules are resolved, by default for browsers.
+fn target_in(value: &Value) -> Result<TargetEnv, DocumentError>
+    ensures { Meets result (required Target
+        (reading.field_or (codes "target") Browser target_of (view value.now))) }
+{
+    let Some(target) = value.get("target") else {
+        return Ok(TargetEnv::Browser);
+    };
+    match target.as_str() {
+        Some("browser") => Ok(TargetEnv::Browser),
+        Some("node") => Ok(TargetEnv::Node),
+        _ => Err(DocumentError::Refused(Cause::BadField(Field::Target))),
     }
 }
 
 // The first setting that asks for more than is built.
-fn first_unbuilt(target: Target, value: &Value) -> Option<Field>
+fn first_unbuilt(target: TargetEnv, value: &Value) -> Option<Field>
     ensures { result ≡ unbuilt target (view value.now) }
 {
-    if target != Target::Node {
+    if target != TargetEnv::Node {
         return Some(Field::Target);
-    }
-    if !has_flag(false, value.get("preserve_symlinks")) {
-        return Some(Field::PreserveSymlinks);
-    }
-    if !has_flag(true, value.get("node_modules")) {
-        return Some(Field::NodeModules);
-    }
-    if !has_no_members(value.get("alias")) {
-        return Some(Field::Alias);
     }
     if !has_nothing(value.get("ts")) {
         return Some(Field::Ts);
@@ -112,30 +109,6 @@ fn first_unbuilt(target: Target, value: &Value) -> Option<Field>
         return Some(Field::Lock);
     }
     None
-}
-
-// Whether a flag is missing or has its default.
-fn has_flag(default: bool, value: Option<&Value>) -> bool
-    ensures { result ≡ is_flag default (option_map (λ v. view v.now) value.entry) }
-{
-    match value {
-        None => true,
-        Some(Value::Bool(flag)) => *flag == default,
-        Some(_) => false,
-    }
-}
-
-// Whether an object is missing or empty.
-fn has_no_members(value: Option<&Value>) -> bool
-    ensures { result ≡ is_empty (option_map (λ v. view v.now) value.entry) }
-{
-    match value {
-        None => true,
-        Some(value) => match value.as_object() {
-            Some(members) => members.is_empty(),
-            None => false,
-        },
-    }
 }
 
 // Whether a value is missing or null.

@@ -109,6 +109,10 @@ fn value_of_refusal(alloc: Global, refusal: &JoinRefusal) -> Result<Value, Alloc
         JoinRefusal::NotFound { text } => {
             json!(in alloc; {"kind": "NotFound", "text": text.as_str()})
         }
+        JoinRefusal::BaseNotAFile => json!(in alloc; {"kind": "BaseNotAFile"}),
+        JoinRefusal::MalformedPackage { path } => {
+            json!(in alloc; {"kind": "MalformedPackage", "path": path.as_str()})
+        }
         JoinRefusal::NotBuilt => json!(in alloc; {"kind": "NotBuilt"}),
     }
 }

@@ -9,6 +9,7 @@ use std::test::Fail;
 use sugar_path::{Bytes, List};
 use tree_core::MemoryTree;
 
+mod node_search;
 mod refusals;
 mod trail;
 
@@ -27,24 +28,32 @@ fn documents() -> &'static str {
     r#"|refused: not-json
 {"cwd":"/w"}x|refused: not-json
 []|refused: bad-field cwd
-{"cwd":"/w","target":"deno"}|refused: bad-field target
+{"cwd":"/w","target":"deno","preserve_symlinks":1}|refused: bad-field target
+{"cwd":"/w","target":null}|refused: bad-field target
+{"cwd":"/w","preserve_symlinks":"true","node_modules":0}|refused: bad-field preserve_symlinks
+{"cwd":"/w","preserve_symlinks":null}|refused: bad-field preserve_symlinks
+{"cwd":"/w","node_modules":1,"alias":[]}|refused: bad-field node_modules
+{"cwd":"/w","node_modules":null}|refused: bad-field node_modules
+{"cwd":"/w","alias":{"a":"b","c":1},"files":1}|refused: bad-field alias
+{"cwd":"/w","alias":null}|refused: bad-field alias
+{"cwd":"/w","alias":{"a":"b"},"files":null,"requests":null}|refused: bad-field files
 {"cwd":"/w","target":"node"}|refused: bad-field files
 {"cwd":"/w","files":[{"path":"/w/a","hex":"0A"}],"requests":[]}|refused: bad-field files
 {"cwd":"/w","files":[{"path":"/w/a","text":"","hex":""}],"requests":[]}|refused: bad-field files
 {"cwd":"/w","files":[],"requests":[{"specifier":"a"}]}|refused: bad-field requests
-{"cwd":"/w","files":[],"requests":[]}|refused: not-built target
-{"cwd":"/w","target":"node","preserve_symlinks":true,"files":[],"requests":[]}|refused: not-built preserve_symlinks
-{"cwd":"/w","target":"node","node_modules":false,"files":[],"requests":[]}|refused: not-built node_modules
-{"cwd":"/w","target":"node","alias":{"a":"b"},"files":[],"requests":[]}|refused: not-built alias
+{"cwd":"/w","ts":{},"files":[],"requests":null}|refused: bad-field requests
+{"cwd":"/w","ts":{},"files":[],"requests":[]}|refused: not-built target
+{"cwd":"/w","target":"browser","files":[],"requests":[]}|refused: not-built target
 {"cwd":"/w","target":"node","ts":{"base_url":"/w","paths":[]},"files":[],"requests":[]}|refused: not-built ts
+{"cwd":"/w","target":"node","ts":{},"lock":"","files":[],"requests":[]}|refused: not-built ts
 {"cwd":"/w","target":"node","lock":"","files":[],"requests":[]}|refused: not-built lock
 {"cwd":"/w","target":"node","lock":"","files":[{"path":"a","text":""}],"requests":[]}|refused: not-built lock
 {"cwd":"w","target":"node","files":[{"path":"a","text":""}],"requests":[]}|refused: bad-tree "a"
 {"cwd":"w","target":"node","files":[{"path":"/a","text":"","canonical":"/"}],"requests":[]}|refused: bad-tree "/a"
 {"cwd":"w","target":"node","files":[{"path":"/a/b","text":""},{"path":"/a","text":""}],"requests":[]}|refused: bad-tree "/a" "/a/b"
 {"cwd":"w","target":"node","files":[{"path":"/a","text":""}],"requests":[]}|refused: bad-project SettingsFault cwd
-{"cwd":"/w","target":"node","files":[{"path":"/a","text":""},{"path":"/a","hex":"0a"}],"requests":[]}|
-{"cwd":"/w","target":"node","files":[],"requests":[{"from":null,"specifier":"./a"}]}|{"refused":{"kind":"NotBuilt"}}"#
+{"cwd":"/w","target":"node","preserve_symlinks":true,"node_modules":false,"alias":{"a":"b"},"ts":null,"lock":null,"files":[],"requests":[]}|
+{"cwd":"/w","target":"node","files":[{"path":"/a","text":""},{"path":"/a","hex":"0a"}],"requests":[]}|"#
 }
 
 // The status of a run on some words.
@@ -107,7 +116,7 @@ fn each_cause_has_its_line(rt: HostRuntime) -> Result<(), Fail> {
         assert!(rt; came, "at {document}");
         tried = tried.saturating_add(1);
     }
-    assert_eq!(rt; tried, 21);
+    assert_eq!(rt; tried, 29);
     Ok(())
 }
 

@@ -1,2 +1,4 @@
-pub mod Readings
 pub mod JsonBytes
+pub mod MemberReadings
+pub mod Readings
+pub mod RisingNames

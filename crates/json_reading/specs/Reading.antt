@@ -1,8 +1,8 @@
 -- What a JSON value (RFC 8259) reads as: a reader takes a value to what it says, and to nothing where the value is of another kind.
 use Rattle.std.specs.Prelude.{◌≡◌, ℕ, List, [], ◌∷◌, Option, Some, None, Result, Ok, Err, option_map}
 pub use Rattle.sugar_path.specs.Front.{◌>>=◌}
-use Rattle.serde_json.specs.Data.{Data, null, boolean, number, string, array, object, Items, no_items, item}
-use Rattle.serde_json.specs.Find.{get, as_array}
+use Rattle.serde_json.specs.Data.{Data, null, boolean, number, string, array, object, Items, no_items, item, Members, no_members, member}
+use Rattle.serde_json.specs.Find.{get, as_array, as_object}
 use Rattle.json_reading.specs.declared.error.FromJsonError.{FromJsonError}
 use Rattle.json_reading.specs.declared.error.FromJsonError.TheVariants.{OtherKind, NoMemory}
 
@@ -35,6 +35,18 @@ two_by f g (item a (item b (item c rest))) = None
 
 abbrev pub pair_by : {A B : Type 0} → (Data → Option A) → (Data → Option B) → Data → Option (A × B)
 pair_by f g d = as_array d >>= two_by f g
+
+-- each member of an object, read in order under its name
+abbrev pub members_by : {A : Type 0} → (Data → Option A) → Members → Option (List (List ℕ × A))
+members_by f no_members = Some []
+members_by f (member name d ms) = do
+  a ← f d
+  rest ← members_by f ms
+  Some ((name, a) ∷ rest)
+
+-- the members of an object in the byte order of their names, each with what it reads as
+abbrev pub object_by : {A : Type 0} → (Data → Option A) → Data → Option (List (List ℕ × A))
+object_by f d = as_object d >>= members_by f
 
 -- a value that may be null
 abbrev pub nullable_by : {A : Type 0} → (Data → Option A) → Data → Option (Option A)

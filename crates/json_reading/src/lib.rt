@@ -6,12 +6,14 @@ mod error;
 mod fields;
 mod floats;
 mod from_json;
+mod objects;
 
 pub use bytes::read_json;
 pub use error::FromJsonError;
 pub use fields::{field, field_or};
 pub use floats::holds_float;
 pub use from_json::FromJson;
+pub use objects::Object;
 
 #[cfg(test)]
 mod tests;

@@ -1,5 +1,5 @@
 // Values of each kind, read.
-use crate::{FromJson, FromJsonError, field_or, holds_float};
+use crate::{FromJson, FromJsonError, Object, field_or, holds_float};
 use serde_json::Value;
 use std::test::Fail;
 use sugar_path::{List, Text};
@@ -53,5 +53,32 @@ fn only_an_absent_field_has_a_default(rt: HostRuntime) -> Result<(), Fail> {
         let value = Value::from_str(rt.alloc(), text)?;
         assert_eq!(rt; field_or(rt.alloc(), &value, "a", true), told, "in {text}");
     }
+    Ok(())
+}
+
+// How many flags by name a value is read as.
+#[test]
+fn an_object_is_read_or_refused(rt: HostRuntime) -> Result<(), Fail> {
+    for (text, read) in [
+        ("{}", Ok(0)),
+        (r#"{"b": true, "a": false, "b": false}"#, Ok(2)),
+        (r#"{"a": true, "b": 1}"#, Err(FromJsonError::OtherKind)),
+        ("[]", Err(FromJsonError::OtherKind)),
+        ("null", Err(FromJsonError::OtherKind)),
+    ] {
+        let value = Value::from_str(rt.alloc(), text)?;
+        let flags = Object::<bool>::from_json(rt.alloc(), &value);
+        assert_eq!(rt; flags.map(|flags| flags.map.len()), read, "{text}");
+    }
+    Ok(())
+}
+
+// The members stand in the byte order of their names.
+#[test]
+fn members_stand_by_name(rt: HostRuntime) -> Result<(), Fail> {
+    let value = Value::from_str(rt.alloc(), r#"{"b": true, "a": false}"#)?;
+    let flags = Object::<bool>::from_json(rt.alloc(), &value)?;
+    let (name, flag) = flags.map.get_index(0).ok_or("a member")?;
+    assert_eq!(rt; (name.as_str(), *flag), ("a", false));
     Ok(())
 }

@@ -52,6 +52,26 @@ fn each_refusal_has_its_line(rt: HostRuntime) -> Result<(), Fail> {
     Ok(())
 }
 
+#[test]
+fn a_refusal_of_the_node_rows_has_its_line(rt: HostRuntime) -> Result<(), Fail> {
+    let nowhere = Verdict::Refused(JoinRefusal::BaseNotAFile);
+    let line = line_of_verdict(rt.alloc(), &nowhere)?;
+    assert!(rt;
+        line.as_str() == "{\"refused\":{\"kind\":\"BaseNotAFile\"}}\n",
+        "{line}"
+    );
+    let path = Text::of(rt.alloc(), "/w/package.json")?;
+    let malformed = Verdict::Refused(JoinRefusal::MalformedPackage { path });
+    let line = line_of_verdict(rt.alloc(), &malformed)?;
+    assert!(rt; line.as_str() == malformed_line(), "{line}");
+    Ok(())
+}
+
+fn malformed_line() -> &'static str {
+    r#"{"refused":{"kind":"MalformedPackage","path":"/w/package.json"}}
+"#
+}
+
 // The line for the builtin `fs`, which a package doesn't declare. No request comes to it yet.
 fn line_of_builtin(alloc: Global, manifest: &Manifest, name: &str) -> Result<String, AllocError> {
     let owner = PackageLocator {

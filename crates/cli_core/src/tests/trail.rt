@@ -3,6 +3,7 @@ use super::bare_name;
 use crate::document::tree_of;
 use crate::fields::read_fields;
 use crate::json_text::read_json;
+use json_reading::Object;
 use resolve_stack::{FileName, ImportError, Outcome, Project, Settings, Verdict, resolve_import};
 use std::alloc::{AllocError, Global};
 use std::process::Abort;
@@ -23,8 +24,13 @@ fn its_tree(alloc: Global) -> Result<MemoryTree, Fail> {
 
 // What the bare name comes to, or nothing where the tree refused a question.
 fn its_outcome<T: Tree>(alloc: Global, tree: &mut T) -> Result<Option<Outcome>, Fail> {
-    let cwd = Text::of(alloc, "/w")?;
-    let project = Project::new(alloc, Settings { cwd })?;
+    let settings = Settings {
+        cwd: Text::of(alloc, "/w")?,
+        preserve_symlinks: false,
+        node_modules: true,
+        alias: Object::new(alloc).map,
+    };
+    let project = Project::new(alloc, settings)?;
     let importer = FileName::Real(Text::of(alloc, "/w/a.js")?);
     match resolve_import(alloc, tree, &project, &importer, "foo") {
         Ok(outcome) => Ok(Some(outcome)),

@@ -1,0 +1,11 @@
+use Rattle.std.proofs.Common.{◌≡◌}
+use Rattle.serde_json.specs.View.{members_view}
+use Rattle.json_reading.specs.Reading.{members_by}
+use Rattle.json_reading.proofs.MemberReadings.{read_into}
+use Rattle.json_reading.proofs.objects.each_member.Given as goal
+
+-- what is left to read, put into what is read, is the whole
+abbrev pub invariant-loop-name : goal.invariant-loop-name
+invariant-loop-name g l =
+    (goal.iterator-loop-name g).can_next l.name-iterator × (goal.iterator-loop-name g).is_finite l.name-iterator
+    × (read_into g.T.FromJson.reads l.read.entries l.name-iterator ≡ members_by g.T.FromJson.reads (members_view l.members.entries))
