@@ -259,3 +259,15 @@ fn clean_paths_are_walked(rt: HostRuntime) -> Result<(), Fail> {
     assert_eq!(rt; path.as_str(), "/a/c");
     Ok(())
 }
+
+#[test]
+fn clean_paths_are_told_from_a_base(rt: HostRuntime) -> Result<(), Fail> {
+    let root = CleanPath::root(rt.alloc());
+    let base = CleanPath::read(rt.alloc(), &root, "/a/b/c")?;
+    let path = CleanPath::read(rt.alloc(), &root, "/a/d/e")?;
+    assert_eq!(rt; path.relative_to(rt.alloc(), &base)?.as_str(), "../../d/e");
+    assert_eq!(rt; path.relative_to(rt.alloc(), &root)?.as_str(), "a/d/e");
+    assert_eq!(rt; root.relative_to(rt.alloc(), &path)?.as_str(), "../../..");
+    assert_eq!(rt; path.relative_to(rt.alloc(), &path)?.as_str(), "");
+    Ok(())
+}
