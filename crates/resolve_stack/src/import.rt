@@ -54,7 +54,7 @@ pub fn resolve_import<T: Tree>(
         (verdict project.now (asked_for importer.now specifier.now))) }
     // Each tree that the object stands for agrees with the trail.
     ensures agree { IfOk result (λ o. AgreeWith (T.state tree.old).stands_for o.trail) }
-    // A file found through a row lies below the location of the row that binds the name asked for.
+    // A file found through a row lies below the location of the row that binds the name asked for, or that of its alias.
     ensures found { IfOk result (λ o. (t : Files) → Agrees t o.trail →
         IsFound t project.now (asked_for importer.now specifier.now) o.verdict) }
     ensures stands { (T.state tree.new).stands_for ≡ (T.state tree.old).stands_for }

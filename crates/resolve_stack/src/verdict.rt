@@ -29,7 +29,8 @@ pub enum JoinRefusal {
     /// The search found no file.
     #[error("nothing is found at {text}")]
     NotFound {
-        /// The text that was searched: the target, or the text behind a package's location.
+        /// The text that was searched: the target, or the text behind a package's location, and for the whole package that
+        /// location's clean path.
         text: Text,
     },
     /// What asks is no path, and the specifier needs one.
