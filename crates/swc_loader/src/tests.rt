@@ -1,4 +1,6 @@
 // Searches and entries, worked out by hand from docs/ORDER.md.
+mod node_orders;
+
 use crate::entry::entry_of;
 use crate::search::{folder, place};
 use crate::{Conventions, PackageEntry, Searched, TargetEnv};
