@@ -530,7 +530,12 @@ fn specifiers_and_paths_are_read(rt: HostRuntime) -> Result<(), Fail> {
     if !is_clean(cwd) {
         return Err(Fail::from("a clean working folder"));
     }
-    for (path, wanted) in [("./a//b", "/w/a/b"), ("../x/.", "/x"), ("/y", "/y")] {
+    for (path, wanted) in [
+        ("./a//b", "/w/a/b"),
+        ("a/../b/", "/w/b"),
+        ("../x/.", "/x"),
+        ("/y", "/y"),
+    ] {
         let read = to_absolute_path(rt.alloc(), cwd, path)?;
         assert_eq!(rt; read.as_str(), wanted, "{path}");
     }
