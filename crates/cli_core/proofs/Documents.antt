@@ -9,7 +9,7 @@ use Rattle.tree_core.specs.declared.question.Question.{Question}
 use Rattle.tree_core.specs.declared.question.Reply.{Reply}
 use Rattle.tree_core.specs.Memory.{same_files}
 use Rattle.swc_loader.specs.Settings.{settings_of}
-use Rattle.swc_loader.specs.declared.target.TargetEnv.TheVariants.{Node}
+use Rattle.swc_loader.specs.declared.target.TargetEnv.{TargetEnv}
 use Rattle.resolve_stack.specs.Settings.{ProjectSettings}
 use Rattle.tree_core.proofs.Entries.{same_files-is, same_files-refl}
 use Rattle.resolve_stack.specs.Request.{asked_for}
@@ -31,14 +31,14 @@ unclean_path_tested : (t : List ℕ) → ¬ (IsCleanPath t) → is_clean_path t 
 unclean_path_tested t unclean = by_test (is_clean_path t) (λ h. unclean (path_in t, IsPath-path_in t, (bytes_eq-Decides t (text_of (path_in t))).0 h))
 
 -- a clean working folder makes a project
-pub project_of-clean : (cwd : List ℕ) (alias : List (List ℕ × List ℕ)) (preserved modules : Bool) (project : ProjectSettings) → IsCleanPath cwd → project.node ≡ settings_of (path_in cwd) Node alias preserved modules → project_of cwd alias preserved modules ≡ Ok project
+pub project_of-clean : (cwd : List ℕ) (target : TargetEnv) (alias : List (List ℕ × List ℕ)) (preserved modules : Bool) (project : ProjectSettings) → IsCleanPath cwd → project.node ≡ settings_of (path_in cwd) target alias preserved modules → project_of cwd target alias preserved modules ≡ Ok project
 unfolding project_of
-project_of-clean cwd alias preserved modules project clean is = rw (clean_path_tested cwd clean) (ap (λ s. Ok (record { node = s })) (sym is))
+project_of-clean cwd target alias preserved modules project clean is = rw (clean_path_tested cwd clean) (ap (λ s. Ok (record { node = s })) (sym is))
 
 -- any other is a fault
-pub project_of-unclean : (cwd field : List ℕ) (alias : List (List ℕ × List ℕ)) (preserved modules : Bool) → field ≡ codes "cwd" → ¬ (IsCleanPath cwd) → project_of cwd alias preserved modules ≡ Err (SettingsFault field)
+pub project_of-unclean : (cwd field : List ℕ) (target : TargetEnv) (alias : List (List ℕ × List ℕ)) (preserved modules : Bool) → field ≡ codes "cwd" → ¬ (IsCleanPath cwd) → project_of cwd target alias preserved modules ≡ Err (SettingsFault field)
 unfolding project_of
-project_of-unclean cwd field alias preserved modules is unclean = rw (unclean_path_tested cwd unclean) (ap (λ f. Err (SettingsFault f)) (sym is))
+project_of-unclean cwd field target alias preserved modules is unclean = rw (unclean_path_tested cwd unclean) (ap (λ f. Err (SettingsFault f)) (sym is))
 
 -- a verdict that a trail settles is that of a tree in memory whose trees agree with the trail
 pub settled_here : (files : Files) (project : ProjectSettings) (request : Request) (v : Verdict) (steps : List (Question × Reply)) → Settles v steps (verdict project (asked_for request.from request.specifier)) → AgreeWith (λ t. same_files files t) steps → v ≡ verdict_on files project request

@@ -6,7 +6,7 @@ use Rattle.tree_core.specs.Plan.{answer}
 use Rattle.tree_core.specs.Tree.{Files, is_clean_path}
 use Rattle.tree_core.specs.Memory.{refusal, with_file}
 use Rattle.swc_loader.specs.Settings.{settings_of}
-use Rattle.swc_loader.specs.declared.target.TargetEnv.TheVariants.{Node}
+use Rattle.swc_loader.specs.declared.target.TargetEnv.{TargetEnv}
 use Rattle.resolve_stack.specs.Settings.{ProjectSettings}
 use Rattle.resolve_stack.specs.Request.{asked_for}
 use Rattle.resolve_stack.specs.Verdict.{verdict}
@@ -43,10 +43,11 @@ put_files t (file ∷ files) = do
   more ← put_file t file
   put_files more files
 
--- the project of a working folder, aliases, and the settings `preserve_symlinks` and `node_modules`
-unfoldable pub project_of : List ℕ → List (List ℕ × List ℕ) → Bool → Bool → Result ProjectSettings Cause
-project_of cwd alias preserve_symlinks node_modules =
-    if is_clean_path cwd then Ok (record { node = settings_of (path_in cwd) Node alias preserve_symlinks node_modules })
+-- the project of a working folder, a target, aliases, and the settings `preserve_symlinks` and `node_modules`
+unfoldable pub project_of : List ℕ → TargetEnv → List (List ℕ × List ℕ) → Bool → Bool → Result ProjectSettings Cause
+project_of cwd target alias preserve_symlinks node_modules =
+    if is_clean_path cwd
+    then Ok (record { node = settings_of (path_in cwd) target alias preserve_symlinks node_modules })
     else Err (SettingsFault (codes "cwd"))
 
 -- what is asked: a tree, a project and requests
@@ -61,7 +62,7 @@ document bytes = do
   value ← json_value bytes
   fields ← fields_of value
   files ← put_files finite.empty fields.files
-  project ← project_of fields.cwd fields.alias fields.preserve_symlinks fields.node_modules
+  project ← project_of fields.cwd fields.target fields.alias fields.preserve_symlinks fields.node_modules
   Ok (record { files = files; project = project; requests = fields.requests })
 
 -- the verdict on a request, on a tree

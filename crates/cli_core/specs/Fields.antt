@@ -33,15 +33,10 @@ is_nothing (Some (string s)) = false
 is_nothing (Some (array ds)) = false
 is_nothing (Some (object ms)) = false
 
-abbrev pub is_node : TargetEnv → Bool
-is_node Browser = false
-is_node Node = true
-
 -- the first setting that asks for more than is built
-abbrev pub unbuilt : TargetEnv → Data → Option Field
-unbuilt target d =
-    if not (is_node target) then Some field.Target
-    else if not (is_nothing (get (codes "ts") d)) then Some field.Ts
+abbrev pub unbuilt : Data → Option Field
+unbuilt d =
+    if not (is_nothing (get (codes "ts") d)) then Some field.Ts
     else if not (is_nothing (get (codes "lock") d)) then Some field.Lock
     else None
 
@@ -64,8 +59,9 @@ fields_of d = do
   alias ← required field.Alias (field_or (codes "alias") [] (object_by as_str) d)
   files ← required field.Files (field_by (codes "files") (list_by file_of) d)
   requests ← required field.Requests (field_by (codes "requests") (list_by request_of) d)
-  built (unbuilt target d) (record {
+  built (unbuilt d) (record {
     cwd = cwd;
+    target = target;
     preserve_symlinks = preserve_symlinks;
     node_modules = node_modules;
     alias = alias;

@@ -23,6 +23,7 @@ pub fn report_for(alloc: Global, bytes: &[u8]) -> Result<String, DocumentError>
     let value = read_json(alloc, bytes)?;
     let Document {
         cwd,
+        target,
         preserve_symlinks,
         node_modules,
         alias,
@@ -32,6 +33,7 @@ pub fn report_for(alloc: Global, bytes: &[u8]) -> Result<String, DocumentError>
     let tree = tree_of(alloc, files.as_slice())?;
     let settings = Settings {
         cwd,
+        target,
         preserve_symlinks,
         node_modules,
         alias: alias.map,
@@ -73,7 +75,7 @@ fn put(alloc: Global, tree: &mut MemoryTree, file: &GivenFile) -> Result<(), Doc
 
 // The project of a document's settings.
 fn project_in(alloc: Global, settings: Settings) -> Result<Project, DocumentError>
-    ensures { Meets result (project_of settings.cwd settings.alias.entries
+    ensures { Meets result (project_of settings.cwd settings.target settings.alias.entries
         settings.preserve_symlinks settings.node_modules) }
 {
     match Project::new(alloc, settings) {

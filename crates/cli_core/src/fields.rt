@@ -20,6 +20,7 @@ use sugar_path::{List, Text};
 #[derive(Drop)]
 pub(crate) struct Document {
     pub(crate) cwd: Text,
+    pub(crate) target: TargetEnv,
     pub(crate) preserve_symlinks: bool,
     pub(crate) node_modules: bool,
     pub(crate) alias: Object<Text>,
@@ -39,11 +40,12 @@ pub(crate) fn read_fields(alloc: Global, value: &Value) -> Result<Document, Docu
     let alias = field_or(alloc, value, Field::Alias, Object::<Text>::new(alloc))?;
     let files: List<GivenFile> = field(alloc, value, Field::Files)?;
     let requests: List<Request> = field(alloc, value, Field::Requests)?;
-    if let Some(field) = first_unbuilt(target, value) {
+    if let Some(field) = first_unbuilt(value) {
         return Err(DocumentError::Refused(Cause::NotBuilt(field)));
     }
     Ok(Document {
         cwd,
+        target,
         preserve_symlinks,
         node_modules,
         alias,
@@ -96,12 +98,9 @@ fn target_in(value: &Value) -> Result<TargetEnv, DocumentError>
 }
 
 // The first setting that asks for more than is built.
-fn first_unbuilt(target: TargetEnv, value: &Value) -> Option<Field>
-    ensures { result ≡ unbuilt target (view value.now) }
+fn first_unbuilt(value: &Value) -> Option<Field>
+    ensures { result ≡ unbuilt (view value.now) }
 {
-    if target != TargetEnv::Node {
-        return Some(Field::Target);
-    }
     if !has_nothing(value.get("ts")) {
         return Some(Field::Ts);
     }

@@ -42,8 +42,8 @@ fn documents() -> &'static str {
 {"cwd":"/w","files":[{"path":"/w/a","text":"","hex":""}],"requests":[]}|refused: bad-field files
 {"cwd":"/w","files":[],"requests":[{"specifier":"a"}]}|refused: bad-field requests
 {"cwd":"/w","ts":{},"files":[],"requests":null}|refused: bad-field requests
-{"cwd":"/w","ts":{},"files":[],"requests":[]}|refused: not-built target
-{"cwd":"/w","target":"browser","files":[],"requests":[]}|refused: not-built target
+{"cwd":"/w","ts":{},"files":[],"requests":[]}|refused: not-built ts
+{"cwd":"/w","target":"browser","files":[],"requests":[]}|
 {"cwd":"/w","target":"node","ts":{"base_url":"/w","paths":[]},"files":[],"requests":[]}|refused: not-built ts
 {"cwd":"/w","target":"node","ts":{},"lock":"","files":[],"requests":[]}|refused: not-built ts
 {"cwd":"/w","target":"node","lock":"","files":[],"requests":[]}|refused: not-built lock

@@ -117,7 +117,7 @@ answer-rows t project request = ap end_of (
     step t _ _ (answer-or_node_rows t project request (bare_base request)) (λ base.
     step t _ _ (answer-manifest t project request base) (λ manifest.
     step t _ _ (answer-or_node_rows t project request _) (λ owner.
-    step t _ _ (answer-target t _) (λ target.
+    step t _ _ (answer-target t project.node (path_of project base) request.specifier) (λ target.
     step t _ _ (answer-bare t project base target) (λ named.
     row t _ _ (λ identifier. row t _ _ (λ locator. row t _ _ (λ location. row t _ _ (λ bound. row t _ _ (λ folder.
     step t _ _ (answer-refuses_by t (found_at project folder identifier.1) ∙ ap (λ r. or_refused r) (answer-found_at t project folder identifier.1)) (λ placed.
@@ -135,7 +135,7 @@ asked-rows t project request =
     step_asks t _ _ (answer-or_node_rows t project request (bare_base request)) (asked-or_node_rows t project request (bare_base request)) (λ base.
     step_asks t _ _ (answer-manifest t project request base) (asked-manifest t project request base) (λ manifest.
     step_asks t _ _ (answer-or_node_rows t project request _) (asked-or_node_rows t project request _) (λ owner.
-    step_asks t _ _ (answer-target t _) (asked-target _ t _) (λ target.
+    step_asks t _ _ (answer-target t project.node (path_of project base) request.specifier) (asked-target _ t project.node (path_of project base) request.specifier) (λ target.
     step_asks t _ _ (answer-bare t project base target) (asked-bare t project base target) (λ named.
     decided_asks t _ _ (λ identifier. decided_asks t _ _ (λ locator. decided_asks t _ _ (λ location. goes_on_asks t locator _ (decided_asks t _ _ (λ folder.
     refusing_asks t _ _ (answer-found_at t project folder identifier.1) (asked-found_at t project folder identifier.1) (λ placed.

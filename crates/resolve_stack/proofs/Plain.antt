@@ -1,7 +1,8 @@
 -- What the node rows answer was found without a row of a manifest.
 use Rattle.std.proofs.Common.{◌≡◌, ℕ, Bool, true, false, cond, List, ◌++◌, Option, Some, None, Result, Ok, Err, refl, not}
 use Rattle.std.specs.Prelude.{codes}
-use Rattle.sugar_path.specs.Path.{Path, is_absolute}
+use Rattle.std.specs.Option.{option_or}
+use Rattle.sugar_path.specs.Path.{Path, clean, is_absolute}
 use Rattle.tree_core.specs.Tree.{Files}
 use Rattle.tree_core.specs.Asks.{widened}
 use Rattle.tree_core.specs.Builtins.{is_builtin}
@@ -13,15 +14,22 @@ use Rattle.swc_loader.specs.declared.refusal.NodeRefusal.{NodeRefusal}
 use Rattle.swc_loader.specs.declared.refusal.NodeRefusal.TheVariants.{NotFound}
 use Rattle.swc_loader.specs.declared.before.Before.{Before}
 use Rattle.swc_loader.specs.declared.before.Before.TheVariants.{Decided, Target}
+use Rattle.swc_loader.specs.declared.browser_rules.ModuleRule.{ModuleRule}
+use Rattle.swc_loader.specs.declared.browser_rules.ModuleRule.TheVariants as rule
+use Rattle.swc_loader.specs.declared.located.Placed.{Placed}
+use Rattle.swc_loader.specs.declared.located.Placed.TheVariants as placed
+use Rattle.swc_loader.specs.declared.target.TargetEnv.{TargetEnv}
+use Rattle.swc_loader.specs.declared.target.TargetEnv.TheVariants.{Browser, Node}
 use Rattle.swc_loader.specs.declared.search.Searched.{Searched}
 use Rattle.swc_loader.specs.declared.search.Searched.TheVariants.{File, Nothing, Malformed}
 use Rattle.tree_core.specs.Rows.{end_of, or_refused}
 use Rattle.tree_core.specs.Results.{◌>>=◌}
-use Rattle.swc_loader.specs.Settings.{NodeSettings, alias_of}
+use Rattle.swc_loader.specs.Settings.{NodeSettings}
 use Rattle.swc_loader.specs.Specifier.{is_relative, has_node_scheme}
 use Rattle.swc_loader.specs.Spelling.{custom}
-use Rattle.swc_loader.specs.NodeRows.{path_text, core_module, decided_or_target, before_search}
-use Rattle.swc_loader.specs.NodeOnTree.{probe_on, unless_probed_on, target_or_answer, told_on, at_root_on, relative_on, walked_on, search_on, node_on}
+use Rattle.swc_loader.specs.BrowserRulesOnTree.{ruled_file_on}
+use Rattle.swc_loader.specs.NodeRows.{path_text, core_module_for, decided_or_target, target_or_answer}
+use Rattle.swc_loader.specs.NodeOnTree.{probe_on, unless_probed_on, module_rule_on, by_rule_on, ruled_specifier_on, before_on, answer_placed_on, told_on, at_root_on, behind_base_on, walked_on, search_on, node_on}
 
 -- a file that was found, without a row
 abbrev pub IsPlain : Option Found → Type 0
@@ -32,8 +40,12 @@ abbrev pub IsPlainResult : {X : Type 0} → Result Resolution X → Type 0
 IsPlainResult (Ok resolution) = IsPlain resolution.found
 IsPlainResult (Err refusal) = Unit {0}
 
+placed-plain : (t : Files) (s : NodeSettings) (relative : Bool) (found : Placed) → IsPlain (answer_placed_on t s relative found).found
+placed-plain t s relative (placed.File f rewritten) = refl
+placed-plain t s relative (placed.Ignored name) = tt
+
 told-plain : (t : Files) (s : NodeSettings) (target : List ℕ) (relative : Bool) (found : Searched) → IsPlainResult (told_on t s target relative found)
-told-plain t s target relative (File f) = refl
+told-plain t s target relative (File f) = placed-plain t s relative (ruled_file_on t s f)
 told-plain t s target relative Nothing = tt
 told-plain t s target relative (Malformed p) = tt
 
@@ -44,11 +56,11 @@ search-plain t s base target = by_absolute (is_absolute target)
     by_modules true = told-plain t s target true (walked_on t s base target)
     by_modules false = tt
 
-    by_relative : (b : Bool) → IsPlainResult (cond b (told_on t s target (not (is_absolute base)) (relative_on t s base target)) (cond s.node_modules (told_on t s target true (walked_on t s base target)) (Err (NotFound target))))
-    by_relative true = told-plain t s target (not (is_absolute base)) (relative_on t s base target)
+    by_relative : (b : Bool) → IsPlainResult (cond b (told_on t s target (not (is_absolute base)) (behind_base_on t s base target)) (cond s.node_modules (told_on t s target true (walked_on t s base target)) (Err (NotFound target))))
+    by_relative true = told-plain t s target (not (is_absolute base)) (behind_base_on t s base target)
     by_relative false = by_modules s.node_modules
 
-    by_absolute : (b : Bool) → IsPlainResult (cond b (told_on t s target false (at_root_on t s target)) (cond (is_relative target) (told_on t s target (not (is_absolute base)) (relative_on t s base target)) (cond s.node_modules (told_on t s target true (walked_on t s base target)) (Err (NotFound target)))))
+    by_absolute : (b : Bool) → IsPlainResult (cond b (told_on t s target false (at_root_on t s target)) (cond (is_relative target) (told_on t s target (not (is_absolute base)) (behind_base_on t s base target)) (cond s.node_modules (told_on t s target true (walked_on t s base target)) (Err (NotFound target)))))
     by_absolute true = told-plain t s target false (at_root_on t s target)
     by_absolute false = by_relative (is_relative target)
 
@@ -57,16 +69,35 @@ abbrev pub IsPlainBefore : Before → Type 0
 IsPlainBefore (Decided resolution) = IsPlain resolution.found
 IsPlainBefore (Target target) = Unit {0}
 
-pub before-plain : (s : NodeSettings) (specifier : List ℕ) → IsPlainBefore (before_search s specifier)
-before-plain s specifier = by_scheme (has_node_scheme specifier)
+abbrev IsPlainIfDecided : Option Resolution → Type 0
+IsPlainIfDecided None = Unit {0}
+IsPlainIfDecided (Some resolution) = IsPlain resolution.found
+
+decided-plain : (s : NodeSettings) (specifier : List ℕ) (ruled core : Option Resolution) → IsPlainIfDecided ruled → IsPlainIfDecided core → IsPlainBefore (decided_or_target s specifier (option_or ruled core))
+decided-plain s specifier (Some resolution) core plain other = plain
+decided-plain s specifier None (Some resolution) plain other = other
+decided-plain s specifier None None plain other = tt
+
+core-plain : (env : TargetEnv) (specifier : List ℕ) → IsPlainIfDecided (core_module_for env specifier)
+core-plain Browser specifier = tt
+core-plain Node specifier = by_scheme (has_node_scheme specifier)
   where
-    by_builtin : (b : Bool) → IsPlainBefore (decided_or_target s specifier (cond b (Some (custom (codes "node:" ++ specifier))) None))
+    by_builtin : (b : Bool) → IsPlainIfDecided (cond b (Some (custom (codes "node:" ++ specifier))) None)
     by_builtin true = tt
     by_builtin false = tt
 
-    by_scheme : (b : Bool) → IsPlainBefore (decided_or_target s specifier (cond b (Some (custom specifier)) (cond (is_builtin specifier) (Some (custom (codes "node:" ++ specifier))) None)))
+    by_scheme : (b : Bool) → IsPlainIfDecided (cond b (Some (custom specifier)) (cond (is_builtin specifier) (Some (custom (codes "node:" ++ specifier))) None))
     by_scheme true = tt
     by_scheme false = by_builtin (is_builtin specifier)
+
+ruled-plain : (t : Files) (s : NodeSettings) (specifier : List ℕ) (said : ModuleRule) → IsPlainIfDecided (by_rule_on t s specifier said)
+ruled-plain t s specifier rule.NoRule = tt
+ruled-plain t s specifier rule.Ignored = tt
+ruled-plain t s specifier (rule.File f) = refl
+
+pub before-plain : (t : Files) (s : NodeSettings) (importer : Path) (specifier : List ℕ) → IsPlainBefore (before_on t s importer specifier)
+before-plain t s importer specifier =
+    decided-plain s specifier (ruled_specifier_on t s importer specifier) (core_module_for s.target specifier) (ruled-plain t s specifier (module_rule_on t s importer specifier)) (core-plain s.target specifier)
 
 pub node-plain : (t : Files) (s : NodeSettings) (base : FileName) (specifier : List ℕ) → IsPlainResult (node_on t s base specifier)
 node-plain t s base specifier = by_probe (probe_on t s specifier)
@@ -79,11 +110,11 @@ node-plain t s base specifier = by_probe (probe_on t s specifier)
         by_result (Ok resolution) plain = plain
         by_result (Err refusal) plain = tt
 
-    by_base : (base : FileName) → IsPlainResult (end_of (or_refused (path_text base) >>= λ importer. target_or_answer (before_search s specifier) >>= λ target. or_refused (search_on t s importer target)))
-    by_base (Real text) = by_before text (before_search s specifier) (before-plain s specifier)
+    by_base : (base : FileName) → IsPlainResult (end_of (or_refused (path_text base) >>= λ importer. target_or_answer (before_on t s (clean s.cwd importer) specifier) >>= λ target. or_refused (search_on t s importer target)))
+    by_base (Real text) = by_before text (before_on t s (clean s.cwd text) specifier) (before-plain t s (clean s.cwd text) specifier)
     by_base (Custom name) = tt
     by_base Anon = tt
 
-    by_probe : (found : Option Path) → IsPlainResult (end_of (unless_probed_on t s specifier found >>= λ unanswered. or_refused (path_text base) >>= λ importer. target_or_answer (before_search s unanswered) >>= λ target. or_refused (search_on t s importer target)))
+    by_probe : (found : Option Path) → IsPlainResult (end_of (unless_probed_on t s specifier found >>= λ unanswered. or_refused (path_text base) >>= λ importer. target_or_answer (before_on t s (clean s.cwd importer) unanswered) >>= λ target. or_refused (search_on t s importer target)))
     by_probe (Some f) = refl
     by_probe None = by_base base

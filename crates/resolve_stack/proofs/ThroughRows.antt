@@ -1,11 +1,10 @@
 -- An answer of the order was found through the row that binds the name asked for.
 use Rattle.std.proofs.Common.{◌≡◌, ℕ, Bool, true, false, cond, List, [], Option, Some, None, is_some, Result, Ok, Err, refl, sym, ap, ◌∙◌, subst, ◌++◌}
-use Rattle.std.specs.Prelude.{codes}
+use Rattle.std.specs.Option.{option_or}
 use Rattle.sugar_path.specs.Path.{Path, clean, below, text_of}
 use Rattle.tree_core.specs.Tree.{Files}
 use Rattle.tree_core.specs.Plan.{answer}
 use Rattle.tree_core.specs.Asks.{widened}
-use Rattle.tree_core.specs.Builtins.{is_builtin}
 use Rattle.tree_core.specs.Rows.{Going, end_of, or_refused}
 use Rattle.tree_core.specs.Results.{◌>>=◌}
 use Rattle.pnp_core.specs.declared.error.HydrationCause.{HydrationCause}
@@ -28,11 +27,11 @@ use Rattle.swc_loader.specs.declared.located.Placed.TheVariants.{File, Ignored}
 use Rattle.swc_loader.specs.declared.refusal.NodeRefusal.{NodeRefusal}
 use Rattle.swc_loader.specs.declared.before.Before.{Before}
 use Rattle.swc_loader.specs.declared.before.Before.TheVariants.{Decided, Target}
-use Rattle.swc_loader.specs.Specifier.{is_bare, has_node_scheme}
+use Rattle.swc_loader.specs.Specifier.{is_bare}
 use Rattle.swc_loader.specs.Settings.{NodeSettings, alias_of}
 use Rattle.swc_loader.specs.Spelling.{custom}
-use Rattle.swc_loader.specs.NodeRows.{decided_or_target, before_search}
-use Rattle.swc_loader.specs.NodeOnTree.{target_or_answer, search_on, node_on}
+use Rattle.swc_loader.specs.NodeRows.{core_module_for, decided_or_target, target_or_answer}
+use Rattle.swc_loader.specs.NodeOnTree.{ruled_specifier_on, before_on, search_on, node_on}
 use Rattle.resolve_stack.specs.declared.verdict.JoinRefusal.{JoinRefusal}
 use Rattle.resolve_stack.specs.declared.verdict.JoinRefusal.TheVariants.{NotBuilt, Outside}
 use Rattle.resolve_stack.specs.declared.verdict.Verdict.{Verdict}
@@ -154,19 +153,15 @@ manifest_end t project request base e h = by_near (nearest_on t (path_of project
     by_near (Some file) h = refused_end t project request (readable file (loaded_on t file)) e h
 
 -- a target that is searched is the specifier's alias
-aliased : (s : NodeSettings) (specifier target : List ℕ) → target_or_answer {X = JoinRefusal} (before_search s specifier) ≡ Ok target → alias_of s specifier ≡ target
-aliased s specifier target h = by_scheme (has_node_scheme specifier) h
+aliased : (t : Files) (s : NodeSettings) (importer : Path) (specifier target : List ℕ) → target_or_answer {X = JoinRefusal} (before_on t s importer specifier) ≡ Ok target → alias_of s specifier ≡ target
+aliased t s importer specifier target h = by_decided (option_or (ruled_specifier_on t s importer specifier) (core_module_for s.target specifier)) h
   where
-    by_builtin : (b : Bool) → target_or_answer {X = JoinRefusal} (decided_or_target s specifier (cond b (Some (custom (codes "node:" ++ specifier))) None)) ≡ Ok target → alias_of s specifier ≡ target
-    by_builtin true h = cc
-    by_builtin false h = cc
+    by_decided : (o : Option Resolution) → target_or_answer {X = JoinRefusal} (decided_or_target s specifier o) ≡ Ok target → alias_of s specifier ≡ target
+    by_decided (Some resolution) h = cc
+    by_decided None h = cc
 
-    by_scheme : (b : Bool) → target_or_answer {X = JoinRefusal} (decided_or_target s specifier (cond b (Some (custom specifier)) (cond (is_builtin specifier) (Some (custom (codes "node:" ++ specifier))) None))) ≡ Ok target → alias_of s specifier ≡ target
-    by_scheme true h = cc
-    by_scheme false h = by_builtin (is_builtin specifier) h
-
-before_end : (t : Files) (project : ProjectSettings) (request : Request) (e : Result Resolution JoinRefusal) → target_or_answer (before_search project.node request.specifier) ≡ Err e → IsFoundEnd t project request e
-before_end t project request e h = by_before (before_search project.node request.specifier) (before-plain project.node request.specifier) h
+before_end : (t : Files) (project : ProjectSettings) (request : Request) (importer : Path) (e : Result Resolution JoinRefusal) → target_or_answer (before_on t project.node importer request.specifier) ≡ Err e → IsFoundEnd t project request e
+before_end t project request importer e h = by_before (before_on t project.node importer request.specifier) (before-plain t project.node importer request.specifier) h
   where
     by_before : (b : Before) → IsPlainBefore b → target_or_answer b ≡ Err e → IsFoundEnd t project request e
     by_before (Target target) plain h = cc
@@ -255,7 +250,7 @@ target_end t project request base manifest asking named through =
 -- the rows behind the owner, on a tree
 abbrev behind_owner : Files → ProjectSettings → Request → List ℕ → Contents → PackageLocator → Going Resolution Resolution JoinRefusal
 behind_owner t project request base manifest asking =
-    target_or_answer (before_search project.node request.specifier) >>= λ target. bare_target_on t project base target >>= λ named. behind_target t project base manifest asking named
+    target_or_answer (before_on t project.node (path_of project base) request.specifier) >>= λ target. bare_target_on t project base target >>= λ named. behind_target t project base manifest asking named
 
 -- what the rows gave, one after the other
 pub found_end : (t : Files) (project : ProjectSettings) (request : Request) → IsFoundEnd t project request (join_on t project request)
@@ -263,7 +258,7 @@ found_end t project request =
     goes t project request (or_node_rows_on t project request (bare_base request)) (λ base. manifest_on t project request base >>= λ manifest. or_node_rows_on t project request (asking_package project manifest base) >>= λ asking. behind_owner t project request base manifest asking) (or_node_end t project request (bare_base request)) (λ base from.
     goes t project request (manifest_on t project request base) (λ manifest. or_node_rows_on t project request (asking_package project manifest base) >>= λ asking. behind_owner t project request base manifest asking) (manifest_end t project request base) (λ manifest read.
     goes t project request (or_node_rows_on t project request (asking_package project manifest base)) (λ asking. behind_owner t project request base manifest asking) (or_node_end t project request (asking_package project manifest base)) (λ asking owns.
-    goes t project request (target_or_answer (before_search project.node request.specifier)) (λ target. bare_target_on t project base target >>= λ named. behind_target t project base manifest asking named) (before_end t project request) (λ target alias.
+    goes t project request (target_or_answer (before_on t project.node (path_of project base) request.specifier)) (λ target. bare_target_on t project base target >>= λ named. behind_target t project base manifest asking named) (before_end t project request (path_of project base)) (λ target alias.
     goes t project request (bare_target_on t project base target) (λ named. behind_target t project base manifest asking named) (bare_end t project request base target) (λ named bare.
     let reading = read_from t project request base manifest read in
     target_end t project request base manifest asking named (λ identifier locator split binds location folder f row place within. record {
@@ -279,7 +274,7 @@ found_end t project request =
       reads = reading.reads;
       no_pattern = reading.no_pattern;
       owns = or_node_value t project request (asking_package project manifest base) asking owns;
-      names = ap split_bare (aliased project.node request.specifier target alias ∙ bare_value t project base target named bare) ∙ split;
+      names = ap split_bare (aliased t project.node (path_of project base) request.specifier target alias ∙ bare_value t project base target named bare) ∙ split;
       binds = binds;
       row = row;
       place = ap text_of (sym place);

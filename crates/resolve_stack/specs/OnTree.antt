@@ -18,8 +18,8 @@ use Rattle.swc_loader.specs.declared.located.Placed.TheVariants.{File, Ignored}
 use Rattle.swc_loader.specs.Specifier.{is_bare}
 use Rattle.swc_loader.specs.Spelling.{custom}
 use Rattle.swc_loader.specs.Located.{located_on, located_asks}
-use Rattle.swc_loader.specs.NodeRows.{before_search}
-use Rattle.swc_loader.specs.NodeOnTree.{node_on, node_asks, search_on, search_asks, target_or_answer, answer_on, answer_asks}
+use Rattle.swc_loader.specs.NodeRows.{target_or_answer}
+use Rattle.swc_loader.specs.NodeOnTree.{node_on, node_asks, search_on, search_asks, before_on, before_asks, answer_on, answer_asks}
 use Rattle.resolve_stack.specs.declared.verdict.JoinRefusal.{JoinRefusal}
 use Rattle.resolve_stack.specs.Settings.{ProjectSettings, path_of}
 use Rattle.resolve_stack.specs.Request.{Request}
@@ -96,7 +96,7 @@ join_on t project request = end_of (do
   base ← or_node_rows_on t project request (bare_base request)
   manifest ← manifest_on t project request base
   owner ← or_node_rows_on t project request (asking_package project manifest base)
-  target ← target_or_answer (before_search project.node request.specifier)
+  target ← target_or_answer (before_on t project.node (path_of project base) request.specifier)
   named ← bare_target_on t project base target
   identifier ← or_refused (identifier_of named)
   locator ← or_refused (bound_of manifest owner (path_of project base) named identifier.0)
@@ -117,7 +117,8 @@ join_asks t project request =
     asks_after (manifest_on t project request base) (λ manifest.
     or_node_rows_asks t project request (asking_package project manifest base) ++
     asks_after (or_node_rows_on t project request (asking_package project manifest base)) (λ owner.
-    asks_after (target_or_answer {X = JoinRefusal} (before_search project.node request.specifier)) (λ target.
+    before_asks t project.node (path_of project base) request.specifier ++
+    asks_after (target_or_answer {X = JoinRefusal} (before_on t project.node (path_of project base) request.specifier)) (λ target.
     bare_target_asks t project base target ++
     asks_after (bare_target_on t project base target) (λ named.
     asks_after (identifier_of named) (λ identifier.

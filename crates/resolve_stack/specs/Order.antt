@@ -15,7 +15,7 @@ join_rows project request = do
   base ← or_node_rows project request (bare_base request)
   manifest ← nearest_manifest project request base
   owner ← owner_of project request manifest base
-  target ← target_before_search project.node request.specifier
+  target ← target_before_search project.node (path_of project base) request.specifier
   named ← bare_target project base target
   identifier ← decided (identifier_of named)
   locator ← decided (bound_of manifest owner (path_of project base) named identifier.0)

@@ -42,7 +42,7 @@ bare_rows project manifest owner importer target = do
 -- behind the owner: what is known before a search, and then the target
 abbrev pub owned_rows : ProjectSettings → Request → List ℕ → Contents → PackageLocator → Row Resolution Resolution JoinRefusal
 owned_rows project request base manifest owner = do
-  target ← target_before_search project.node request.specifier
+  target ← target_before_search project.node (path_of project base) request.specifier
   named ← bare_target project base target
   bare_rows project manifest owner (path_of project base) named
 

@@ -19,7 +19,7 @@ use crate::{JoinRefusal, Project};
 use pnp_core::{Manifest, PackageLocator, closest_manifest, find_locator};
 use std::alloc::Global;
 use sugar_path::{CleanPath, Text};
-use swc_loader::{Before, FileName, Placed, Resolution, Via, is_bare};
+use swc_loader::{Before, Placed, Resolution, Via, is_bare};
 use tree_core::{Asker, ResolveError};
 
 // What a request comes to: the join rows, one after the other.
@@ -169,13 +169,7 @@ fn join_in_folder<R: Asker>(
 {
     let (file, rewritten) = match found_at(alloc, tree, project, folder, subpath)? {
         Placed::File { path, rewritten } => (path, rewritten),
-        Placed::Ignored(name) => {
-            return Ok(Resolution {
-                filename: FileName::Custom(name),
-                slug: None,
-                found: None,
-            });
-        }
+        Placed::Ignored(name) => return Ok(Resolution::custom(name)),
     };
     let file = contained(alloc, folder, file)?;
     let location = folder.to_text(alloc)?;

@@ -1,7 +1,6 @@
 // A project: the settings that stay the same for all its requests.
 ghost use Rattle.std.specs.Prelude.{◌≡◌, IfOk, OnOk, IfErr};
 ghost use Rattle.sugar_path.specs.Path.{IsCleanPath, path_in};
-ghost use Rattle.swc_loader.specs.declared.target.TargetEnv.TheVariants.{Node};
 ghost use Rattle.swc_loader.specs.Settings.{settings_of};
 ghost use Rattle.resolve_stack.specs.Settings.{IsFaultOf};
 
@@ -12,11 +11,13 @@ use sugar_path::{CleanPath, Text, is_clean};
 use swc_loader::{NodeModulesResolver, TargetEnv};
 use thiserror::Error;
 
-/// The settings of a project. Modules are resolved for the target Node.
+/// The settings of a project.
 #[derive(Drop)]
 pub struct Settings {
     /// The working folder, a clean absolute path: relative texts are read from it.
     pub cwd: Text,
+    /// For what modules are resolved: browsers have rules of their own.
+    pub target: TargetEnv,
     /// Files are answered by their own paths, and not by their canonical names.
     pub preserve_symlinks: bool,
     /// Packages are looked for in `node_modules`.
@@ -53,13 +54,14 @@ impl Model for Project {
 impl Project {
     /// A project of these settings.
     pub fn new(alloc: Global, settings: Settings) -> Result<Project, ProjectError>
-        ensures ok { IfOk result (λ p. p.node ≡ settings_of (path_in settings.cwd) Node
-            settings.alias.entries settings.preserve_symlinks settings.node_modules) }
+        ensures ok { IfOk result (λ p. p.node ≡ settings_of (path_in settings.cwd)
+            settings.target settings.alias.entries settings.preserve_symlinks settings.node_modules) }
         ensures clean { OnOk result (IsCleanPath settings.cwd) }
         ensures fault { IfErr result (IsFaultOf settings.cwd) }
     {
         let Settings {
             cwd,
+            target,
             preserve_symlinks,
             node_modules,
             alias,
@@ -70,11 +72,11 @@ impl Project {
             });
         }
         let node = if node_modules {
-            NodeModulesResolver::new(cwd, TargetEnv::Node, alias, preserve_symlinks)
+            NodeModulesResolver::new(cwd, target, alias, preserve_symlinks)
         } else {
             NodeModulesResolver::without_node_modules(
                 cwd,
-                TargetEnv::Node,
+                target,
                 alias,
                 preserve_symlinks,
             )

@@ -1,5 +1,5 @@
 // What no clause says: that calls with ample memory answer.
-use crate::{FileName, Outcome, Project, ProjectError, Settings, Verdict, resolve_import};
+use crate::{FileName, Outcome, Project, ProjectError, Settings, TargetEnv, Verdict, resolve_import};
 use indexmap::IndexMap;
 use std::alloc::Global;
 use std::test::Fail;
@@ -18,6 +18,7 @@ fn project(alloc: Global, cwd: &str) -> Result<Project, ProjectError> {
         alloc,
         Settings {
             cwd: Text::of(alloc, cwd)?,
+            target: TargetEnv::Node,
             preserve_symlinks: false,
             node_modules: true,
             alias: IndexMap::new(alloc),

@@ -5,6 +5,8 @@ pub mod Searches
 pub mod Places
 pub mod Walks
 pub mod WalkLaws
+pub mod BrowserLaws
+pub mod BrowserRuling
 pub mod Locations
 pub mod NodeOrders
 pub mod NodeLaws

@@ -1,10 +1,11 @@
 -- How the order for Node's modules goes on behind its first row.
 use Rattle.std.proofs.Common.{◌≡◌, ℕ, Bool, true, not, if◌then◌else◌, List, Option, Some, None, Result, Ok, Err, refl, sym, ap, ◌∙◌, subst}
-use Rattle.sugar_path.specs.Path.{Path, is_absolute}
+use Rattle.sugar_path.specs.Path.{Path, clean, is_absolute}
 use Rattle.tree_core.specs.declared.tree.ReadError.{ReadError}
 use Rattle.tree_core.specs.Asks.{Asking, Asks}
 use Rattle.tree_core.specs.Plan.{Plan, Done, ◌>>=◌, ◌>>=?◌, on_ok}
 use Rattle.tree_core.specs.Rows.{Row, order, decided, refuses_by, never_refuses, end_of}
+use Rattle.tree_core.proofs.RowCalls.{order-then, order-end}
 use Rattle.tree_core.proofs.RowOrders.{then-then, then_alike, order-ends_by, order-goes_on, order-last}
 use Rattle.swc_loader.specs.declared.resolution.FileName.{FileName}
 use Rattle.swc_loader.specs.declared.resolution.FileName.TheVariants.{Real, Custom, Anon}
@@ -15,7 +16,7 @@ use Rattle.swc_loader.specs.declared.before.Before.{Before}
 use Rattle.swc_loader.specs.declared.before.Before.TheVariants.{Decided, Target}
 use Rattle.swc_loader.specs.Settings.{NodeSettings}
 use Rattle.swc_loader.specs.Spelling.{answered}
-use Rattle.swc_loader.specs.NodeRows.{probe, or_unanswered, unless_probed, path_text, before_search, target_or_end, target_before_search, walked, by_modules, search}
+use Rattle.swc_loader.specs.NodeRows.{probe, or_unanswered, unless_probed, path_text, before_search, target_or_answer, target_before_search, walked, by_modules, search}
 use Rattle.swc_loader.specs.NodeOrder.{node}
 
 -- from what is known before a search
@@ -25,7 +26,7 @@ by_target s importer (Target target) = search s importer target
 
 -- from the base
 abbrev pub by_base : NodeSettings → FileName → List ℕ → Plan (Result Resolution NodeRefusal)
-by_base s (Real importer) specifier = by_target s importer (before_search s specifier)
+by_base s (Real importer) specifier = before_search s (clean s.cwd importer) specifier >>= by_target s importer
 by_base s (Custom name) specifier = Done (Err BaseNotAFile)
 by_base s Anon specifier = Done (Err BaseNotAFile)
 
@@ -36,19 +37,25 @@ by_probe s base specifier None = by_base s base specifier
 
 -- the rows behind the base
 abbrev target_rows : NodeSettings → List ℕ → List ℕ → Row Resolution Resolution NodeRefusal
-target_rows s specifier importer = target_before_search s specifier >>=? λ target. refuses_by (search s importer target)
+target_rows s specifier importer =
+    target_before_search s (clean s.cwd importer) specifier >>=? λ target. refuses_by (search s importer target)
 
 -- the rows behind the first one
 abbrev base_rows : NodeSettings → FileName → List ℕ → Row Resolution Resolution NodeRefusal
 base_rows s base specifier = decided (path_text base) >>=? target_rows s specifier
 
-order-target : (s : NodeSettings) (specifier importer : List ℕ) → order (target_rows s specifier importer) ≡ by_target s importer (before_search s specifier)
-unfolding order ◌>>=◌
-order-target s specifier importer = by_before (before_search s specifier)
+order-target : (s : NodeSettings) (specifier importer : List ℕ) → order (target_rows s specifier importer) ≡ before_search s (clean s.cwd importer) specifier >>= by_target s importer
+unfolding target_before_search
+order-target s specifier importer =
+    order-then (before_search s (clean s.cwd importer) specifier) (λ before. Done (target_or_answer before)) rest
+    ∙ then_alike (before_search s (clean s.cwd importer) specifier) _ (by_target s importer) by_before
   where
-    by_before : (before : Before) → order (target_or_end before >>=? λ target. refuses_by (search s importer target)) ≡ by_target s importer before
-    by_before (Decided resolution) = refl
-    by_before (Target target) = order-goes_on target (λ target. refuses_by (search s importer target)) ∙ order-last (search s importer target)
+    rest : List ℕ → Row Resolution Resolution NodeRefusal
+    rest target = refuses_by (search s importer target)
+
+    by_before : (before : Before) → order (Done (target_or_answer before) >>=? rest) ≡ by_target s importer before
+    by_before (Decided resolution) = order-end (Ok resolution) rest
+    by_before (Target target) = order-goes_on target rest ∙ order-last (search s importer target)
 
 order-base : (s : NodeSettings) (base : FileName) (specifier : List ℕ) → order (base_rows s base specifier) ≡ by_base s base specifier
 unfolding order ◌>>=◌

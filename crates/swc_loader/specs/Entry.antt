@@ -1,5 +1,6 @@
 -- The entry that a package.json names, as bundlers read its fields `module`, `main` and `browser`.
 use Rattle.std.specs.Prelude.{ℕ, Bool, true, false, not, ◌&&◌, if◌then◌else◌, List, [], ◌∷◌, codes, Option, Some, None, option_and_then}
+use Rattle.std.specs.Option.{option_or}
 use Rattle.std.specs.List.{list_all}
 use Rattle.serde_json.specs.Data.{Data, null, boolean, number, string, array, object, Members, no_members, member}
 use Rattle.serde_json.specs.Find.{get, as_str}
@@ -63,14 +64,10 @@ is_readable c d =
 abbrev pub text_at : List ℕ → Data → Option (List ℕ)
 text_at field d = option_and_then as_str (get field d)
 
-abbrev pub or_text : Option (List ℕ) → Option (List ℕ) → Option (List ℕ)
-or_text (Some t) other = Some t
-or_text None other = other
-
 -- the first of these fields that is a text
 abbrev pub first_text : List (List ℕ) → Data → Option (List ℕ)
 first_text [] d = None
-first_text (field ∷ fields) d = or_text (text_at field d) (first_text fields d)
+first_text (field ∷ fields) d = option_or (text_at field d) (first_text fields d)
 
 -- the entry text: for a browser a textual `browser` goes before the main fields
 abbrev pub entry_text : Conventions → TargetEnv → Data → Option (List ℕ)
@@ -81,10 +78,17 @@ abbrev pub named_by : Option (List ℕ) → PackageEntry
 named_by None = Missing
 named_by (Some text) = At text
 
+abbrev pub if_readable : Conventions → Data → Option Data
+if_readable c d = if is_readable c d then Some d else None
+
+-- the package.json that bytes are: none where they are no JSON or are malformed, or where the file can't be read
+abbrev pub package_in : Conventions → Option (List ℕ) → Option Data
+package_in c content = option_and_then (if_readable c) (option_and_then json_of content)
+
 abbrev pub entry_in : Conventions → TargetEnv → Option Data → PackageEntry
 entry_in c env None = Malformed
-entry_in c env (Some d) = if is_readable c d then named_by (entry_text c env d) else Malformed
+entry_in c env (Some d) = named_by (entry_text c env d)
 
--- the entry that the bytes of a package.json name; bytes that are no JSON are malformed, as is a file that can't be read
+-- the entry that the bytes of a package.json name
 abbrev pub entry : Conventions → TargetEnv → Option (List ℕ) → PackageEntry
-entry c env content = entry_in c env (option_and_then json_of content)
+entry c env content = entry_in c env (package_in c content)

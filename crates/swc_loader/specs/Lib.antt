@@ -9,7 +9,9 @@ pub mod Walk
 pub mod Specifier
 pub mod Settings
 pub mod Spelling
+pub mod BrowserRules
+pub mod BrowserRulesOnTree
+pub mod Located
 pub mod NodeRows
 pub mod NodeOrder
-pub mod Located
 pub mod NodeOnTree

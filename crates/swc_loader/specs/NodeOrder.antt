@@ -6,15 +6,16 @@ use Rattle.tree_core.specs.Resolving.{◌>>=◌}
 use Rattle.swc_loader.specs.declared.resolution.FileName.{FileName}
 use Rattle.swc_loader.specs.declared.resolution.Resolution.{Resolution}
 use Rattle.swc_loader.specs.declared.refusal.NodeRefusal.{NodeRefusal}
+use Rattle.sugar_path.specs.Path.{clean}
 use Rattle.swc_loader.specs.Settings.{NodeSettings}
 use Rattle.swc_loader.specs.NodeRows.{unless_probed, path_text, target_before_search, search}
 
--- A line for each step: row 1, row 2, rows 3 to 5, and rows 6 to 10.
+-- A line for each step: the first look, the base, what is decided before a search, and the search.
 abbrev pub node_rows : NodeSettings → FileName → List ℕ → Row Resolution Resolution NodeRefusal
 node_rows s base specifier = do
   unanswered ← unless_probed s specifier
   importer ← decided (path_text base)
-  target ← target_before_search s unanswered
+  target ← target_before_search s (clean s.cwd importer) unanswered
   refuses_by (search s importer target)
 
 -- what a specifier comes to, asked from a base

@@ -1,10 +1,10 @@
 // The entry that a package.json names.
-ghost use Rattle.std.specs.Prelude.{◌≡◌, IfOk, Some, map, option_map};
+ghost use Rattle.std.specs.Prelude.{◌≡◌, IfOk, map, option_map};
 ghost use Rattle.std.specs.List.{list_all};
 ghost use Rattle.std.specs.Option.{option_copied};
 ghost use Rattle.serde_json.specs.View.{view, members_view};
 ghost use Rattle.serde_json.specs.Find.{get};
-ghost use Rattle.swc_loader.specs.Entry.{entry, is_readable, is_text_or_nothing, is_browser_field, text_at, first_text, entry_text};
+ghost use Rattle.swc_loader.specs.Entry.{entry, package_in, if_readable, is_readable, is_text_or_nothing, is_browser_field, text_at, first_text, entry_text};
 ghost use Rattle.swc_loader.specs.Entry as of;
 
 use crate::{Conventions, TargetEnv};
@@ -33,31 +33,41 @@ pub(crate) fn entry_of(
 ) -> Result<PackageEntry, AllocError>
     ensures { IfOk result (λ e. e ≡ entry conventions.now target content.now) }
 {
-    let Some(bytes) = content else {
+    let Some(package_json) = package_in(alloc, conventions, content)? else {
         return Ok(PackageEntry::Malformed);
     };
+    match entry_text(conventions, target, &package_json) {
+        Some(text) => Ok(PackageEntry::At(Text::of(alloc, text)?)),
+        None => Ok(PackageEntry::Missing),
+    }
+}
+
+// The package.json that a content is, where the order can read it.
+pub(crate) fn package_in(
+    alloc: Global,
+    conventions: &Conventions,
+    content: &Option<Bytes>,
+) -> Result<Option<Value>, AllocError>
+    ensures { IfOk result (λ v. option_map view v ≡ package_in conventions.now content.now) }
+{
+    let Some(bytes) = content else {
+        return Ok(None);
+    };
     match read_json(alloc, bytes.as_slice()) {
-        Ok(package_json) => entry_in(alloc, conventions, target, &package_json),
-        Err(FromJsonError::OtherKind) => Ok(PackageEntry::Malformed),
+        Ok(package_json) => Ok(if_readable(conventions, package_json)),
+        Err(FromJsonError::OtherKind) => Ok(None),
         Err(FromJsonError::NoMemory) => Err(AllocError),
     }
 }
 
-// The entry that a JSON value names.
-fn entry_in(
-    alloc: Global,
-    conventions: &Conventions,
-    target: TargetEnv,
-    package_json: &Value,
-) -> Result<PackageEntry, AllocError>
-    ensures { IfOk result (λ e. e ≡ of.entry_in conventions.now target (Some (view package_json.now))) }
+// A JSON value, where it is a package.json that the order can read.
+fn if_readable(conventions: &Conventions, package_json: Value) -> Option<Value>
+    ensures { option_map view result ≡ if_readable conventions.now (view package_json) }
 {
-    if !is_readable(conventions, package_json) {
-        return Ok(PackageEntry::Malformed);
-    }
-    match entry_text(conventions, target, package_json) {
-        Some(text) => Ok(PackageEntry::At(Text::of(alloc, text)?)),
-        None => Ok(PackageEntry::Missing),
+    if is_readable(conventions, &package_json) {
+        Some(package_json)
+    } else {
+        None
     }
 }
 

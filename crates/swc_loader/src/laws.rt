@@ -2,7 +2,8 @@
 ghost use Rattle.swc_loader.specs.SearchOnTree.{FolderOnTree, PlaceOnTree, PlainPlaceOnTree};
 ghost use Rattle.swc_loader.specs.Walk.{WalkOnTree};
 ghost use Rattle.swc_loader.specs.Located.{LocatedOnTree};
-ghost use Rattle.swc_loader.specs.NodeOnTree.{SearchOnTree, NodeOnTree};
+ghost use Rattle.swc_loader.specs.BrowserRulesOnTree.{RulesOnTree, RuleOnTree};
+ghost use Rattle.swc_loader.specs.NodeOnTree.{NodeSearchOnTree, NodeOnTree};
 
 /// The search of a folder, said as a function of the tree, with its questions.
 pub fn folder_on_tree()
@@ -24,6 +25,16 @@ pub fn walk_on_tree()
     ensures { WalkOnTree }
 {}
 
+/// The rules of a package.json, said as a function of the tree, with their questions.
+pub fn rules_on_tree()
+    ensures { RulesOnTree }
+{}
+
+/// What the rules for a path say of a source, said as a function of the tree, with its questions.
+pub fn rule_on_tree()
+    ensures { RuleOnTree }
+{}
+
 /// The search at the location of a package, said as a function of the tree, with its questions.
 pub fn located_on_tree()
     ensures { LocatedOnTree }
@@ -31,7 +42,7 @@ pub fn located_on_tree()
 
 /// The search by a target, said as a function of the tree, with its questions.
 pub fn search_on_tree()
-    ensures { SearchOnTree }
+    ensures { NodeSearchOnTree }
 {}
 
 /// The order of search for Node's modules, said as a function of the tree, with its questions.

@@ -2,6 +2,7 @@
 #![tactic(auto)]
 
 mod before;
+mod browser_rules;
 mod candidates;
 mod conventions;
 mod entry;
@@ -18,6 +19,7 @@ mod target;
 mod walk;
 
 pub use before::Before;
+pub use browser_rules::{ModuleRule, Rule, Source};
 pub use conventions::Conventions;
 pub use entry::PackageEntry;
 pub use located::Placed;

@@ -1,9 +1,10 @@
 // The search at the location of a package.
 ghost use Rattle.std.specs.Prelude.{◌≡◌, IfOk, string_bytes};
 ghost use Rattle.std.specs.Option.{option_copied};
-ghost use Rattle.tree_core.specs.Resolving.{Resolves, IsDecided};
+ghost use Rattle.tree_core.specs.Resolving.{Resolves};
 ghost use Rattle.swc_loader.specs.Located.{behind, searched, whole, inside, resolve_at, if_same};
 
+use crate::browser_rules::ruled_file;
 use crate::search::{folder, place};
 use crate::{NodeModulesResolver, NodeRefusal, Searched};
 use std::alloc::{AllocError, Global};
@@ -56,7 +57,7 @@ fn search_whole<R: Asker>(
         resolver.target(),
         location,
     )?;
-    placed_file(alloc, location.as_str(), found)
+    placed_file(alloc, tree, resolver, location.as_str(), found)
 }
 
 // The search by the text behind a location, which may mean the location itself.
@@ -82,22 +83,22 @@ fn search_behind<R: Asker>(
         text,
         &at,
     )?;
-    placed_file(alloc, text, found)
+    placed_file(alloc, tree, resolver, text, found)
 }
 
-// What a search by a text comes to.
-fn placed_file(
+// What a search by a text comes to: a file by the rules for it, or a refusal.
+pub(crate) fn placed_file<R: Asker>(
     alloc: Global,
+    tree: &mut R,
+    resolver: &NodeModulesResolver,
     text: &str,
     found: Searched,
 ) -> Result<Placed, ResolveError<NodeRefusal>>
-    ensures { IsDecided result (searched text.now found) }
+    ensures { Resolves (R.asking tree.old) (R.asking tree.new) result
+        (searched resolver.now text.now found) }
 {
     match found {
-        Searched::File(path) => Ok(Placed::File {
-            path,
-            rewritten: false,
-        }),
+        Searched::File(file) => Ok(ruled_file(alloc, tree, resolver, file)?),
         Searched::Nothing => {
             let text = Text::of(alloc, text)?;
             Err(ResolveError::Refused(NodeRefusal::NotFound { text }))

@@ -40,3 +40,19 @@ pub struct Resolution {
     /// None where the answer is no file.
     pub found: Option<Found>,
 }
+
+impl Resolution {
+    ghost use Rattle.std.specs.Prelude.{◌≡◌};
+    ghost use Rattle.swc_loader.specs.Spelling.{custom};
+
+    /// The answer by a name that no file has.
+    pub fn custom(name: Text) -> Resolution
+        ensures { result ≡ custom name }
+    {
+        Resolution {
+            filename: FileName::Custom(name),
+            slug: None,
+            found: None,
+        }
+    }
+}

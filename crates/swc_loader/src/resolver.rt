@@ -1,13 +1,17 @@
 // A resolver of Node's modules.
 mod node_rows;
 
+use crate::browser_rules::{rule_for, rules_at};
 use crate::located::search_at;
 use crate::spelling::spelled_name;
-use crate::{Conventions, FileName, Found, NodeRefusal, Placed, Resolution, TargetEnv, Via};
+use crate::{
+    Conventions, FileName, Found, ModuleRule, NodeRefusal, Placed, Resolution, Rule, Source,
+    TargetEnv, Via,
+};
 use indexmap::IndexMap;
 use std::alloc::{AllocError, Global};
 use std::marker::Model;
-use sugar_path::{CleanPath, Text};
+use sugar_path::{CleanPath, List, Text};
 use tree_core::{Asker, ReadError, ResolveError};
 
 /// A resolver of Node's modules: relative and absolute paths, Node's own modules, aliases, and packages in `node_modules`.
@@ -42,13 +46,13 @@ impl NodeModulesResolver {
     ghost use Rattle.sugar_path.specs.Path.{IsCleanPath, path_in};
     ghost use Rattle.tree_core.specs.Asks.{Asks};
     ghost use Rattle.tree_core.specs.Resolving.{Resolves};
-    ghost use Rattle.swc_loader.specs.declared.target.TargetEnv.TheVariants.{Node};
     ghost use Rattle.swc_loader.specs.Settings.{settings_of};
     ghost use Rattle.swc_loader.specs.Spelling.{spelled, answered};
     ghost use Rattle.swc_loader.specs.NodeOrder.{node};
+    ghost use Rattle.swc_loader.specs.BrowserRules.{module_rule, rules_at};
     ghost use Rattle.swc_loader.specs.Located.{resolve_at};
 
-    /// A resolver that reads relative texts from this working folder. The rules for browsers aren't built yet.
+    /// A resolver that reads relative texts from this working folder.
     pub fn new(
         cwd: Text,
         target: TargetEnv,
@@ -56,7 +60,6 @@ impl NodeModulesResolver {
         preserve_symlinks: bool,
     ) -> NodeModulesResolver
         requires clean { IsCleanPath cwd }
-        requires target { target ≡ Node }
         ensures { result ≡ settings_of (path_in cwd) target alias.entries preserve_symlinks true }
     {
         NodeModulesResolver {
@@ -77,7 +80,6 @@ impl NodeModulesResolver {
         preserve_symlinks: bool,
     ) -> NodeModulesResolver
         requires clean { IsCleanPath cwd }
-        requires target { target ≡ Node }
         ensures { result ≡ settings_of (path_in cwd) target alias.entries preserve_symlinks false }
     {
         NodeModulesResolver {
@@ -117,6 +119,34 @@ impl NodeModulesResolver {
             (resolve_at self.now location.now (option_copied subpath.entry)) }
     {
         search_at(alloc, tree, self, location, subpath)
+    }
+
+    /// What the `browser` rules for an importer say of a specifier. For the target Node there are none.
+    pub fn module_rule<R: Asker>(
+        &self,
+        alloc: Global,
+        tree: &mut R,
+        importer: &CleanPath,
+        specifier: &str,
+    ) -> Result<ModuleRule, ReadError>
+        ensures { Asks (R.asking tree.old) (R.asking tree.new) result
+            (module_rule self.now importer.now specifier.now) }
+    {
+        let about = Source::Specifier(Text::of(alloc, specifier)?);
+        rule_for(alloc, tree, self, importer, &about)
+    }
+
+    /// The rules of the `browser` map in a folder's package.json, in the byte order of their keys.
+    pub fn rules_at<R: Asker>(
+        &self,
+        alloc: Global,
+        tree: &mut R,
+        root: &CleanPath,
+    ) -> Result<List<Rule>, ReadError>
+        ensures { Asks (R.asking tree.old) (R.asking tree.new) result
+            (rules_at self.now.conventions root.now) }
+    {
+        rules_at(alloc, tree, &self.conventions, root)
     }
 
     /// The name that a file is answered by: its canonical name, or, where links are preserved, its path, from the working

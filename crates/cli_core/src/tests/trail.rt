@@ -4,7 +4,9 @@ use crate::document::tree_of;
 use crate::fields::read_fields;
 use crate::json_text::read_json;
 use json_reading::Object;
-use resolve_stack::{FileName, ImportError, Outcome, Project, Settings, Verdict, resolve_import};
+use resolve_stack::{
+    FileName, ImportError, Outcome, Project, Settings, TargetEnv, Verdict, resolve_import,
+};
 use std::alloc::{AllocError, Global};
 use std::process::Abort;
 use std::test::Fail;
@@ -26,6 +28,7 @@ fn its_tree(alloc: Global) -> Result<MemoryTree, Fail> {
 fn its_outcome<T: Tree>(alloc: Global, tree: &mut T) -> Result<Option<Outcome>, Fail> {
     let settings = Settings {
         cwd: Text::of(alloc, "/w")?,
+        target: TargetEnv::Node,
         preserve_symlinks: false,
         node_modules: true,
         alias: Object::new(alloc).map,

@@ -2,16 +2,19 @@
 ghost use Rattle.std.specs.Prelude.{◌≡◌, IfOk, option_map};
 ghost use Rattle.sugar_path.specs.Path.{clean};
 ghost use Rattle.tree_core.specs.Asks.{Asks};
-ghost use Rattle.tree_core.specs.Plan.{Done};
 ghost use Rattle.tree_core.specs.Resolving.{Resolves};
 ghost use Rattle.swc_loader.specs.Spelling.{custom};
 ghost use Rattle.swc_loader.specs.NodeOrder.{node};
 ghost use Rattle.swc_loader.specs.NodeRows as rows;
 
+use crate::located::placed_file;
 use crate::search::{joined, place, place_without_entry};
 use crate::specifier::is_relative;
 use crate::walk::walk;
-use crate::{Before, FileName, NodeModulesResolver, NodeRefusal, Resolution, Searched};
+use crate::{
+    Before, FileName, ModuleRule, NodeModulesResolver, NodeRefusal, Placed, Resolution, Searched,
+    TargetEnv,
+};
 use std::alloc::{AllocError, Global};
 use sugar_path::{CleanPath, Text};
 use tree_core::{Asker, ReadError, ResolveError, is_node_builtin};
@@ -35,7 +38,8 @@ impl NodeModulesResolver {
         let FileName::Real(importer) = base else {
             return Err(ResolveError::Refused(NodeRefusal::BaseNotAFile));
         };
-        match self.before(alloc, specifier)? {
+        let at = CleanPath::read(alloc, &self.cwd, importer.as_str())?;
+        match self.before_search(alloc, tree, &at, specifier)? {
             Before::Decided(resolution) => Ok(resolution),
             Before::Target(target) => self.search(alloc, tree, importer.as_str(), target.as_str()),
         }
@@ -65,31 +69,54 @@ impl NodeModulesResolver {
         self.conventions.probes_working_folder() && !specifier.starts_with('.')
     }
 
-    /// What is known of a specifier before a search: the answer for one of Node's own modules, else the target. It asks the
-    /// tree nothing until browsers have rules.
+    /// What is known of a specifier before a search: the answer by the rules for the importer, or for one of Node's own modules,
+    /// else the target.
     pub fn before_search<R: Asker>(
         &self,
         alloc: Global,
-        _tree: &mut R,
-        _importer: &CleanPath,
+        tree: &mut R,
+        importer: &CleanPath,
         specifier: &str,
     ) -> Result<Before, ReadError>
-        ensures { Asks (R.asking _tree.old) (R.asking _tree.new) result
-            (Done (rows.before_search self.now specifier.now)) }
+        ensures { Asks (R.asking tree.old) (R.asking tree.new) result
+            (rows.before_search self.now importer.now specifier.now) }
     {
-        Ok(self.before(alloc, specifier)?)
+        match self.ruled_specifier(alloc, tree, importer, specifier)? {
+            Some(resolution) => Ok(Before::Decided(resolution)),
+            None => Ok(self.core_module_or_target(alloc, specifier)?),
+        }
     }
 
-    // What the rows before a search come to.
-    fn before(&self, alloc: Global, specifier: &str) -> Result<Before, AllocError>
-        ensures { IfOk result (λ b. b ≡ rows.before_search self.now specifier.now) }
+    // What the rules for an importer decide of a specifier.
+    fn ruled_specifier<R: Asker>(
+        &self,
+        alloc: Global,
+        tree: &mut R,
+        importer: &CleanPath,
+        specifier: &str,
+    ) -> Result<Option<Resolution>, ReadError>
+        ensures { Asks (R.asking tree.old) (R.asking tree.new) result
+            (rows.ruled_specifier self.now importer.now specifier.now) }
     {
-        if let Some(name) = core_module(alloc, specifier)? {
-            return Ok(Before::Decided(Resolution {
-                filename: FileName::Custom(name),
-                slug: None,
-                found: None,
-            }));
+        match self.module_rule(alloc, tree, importer, specifier)? {
+            ModuleRule::NoRule => Ok(None),
+            ModuleRule::Ignored => Ok(Some(Resolution::custom(Text::of(alloc, specifier)?))),
+            ModuleRule::File(file) => {
+                let relative = file.is_below(&self.cwd);
+                Ok(Some(self.answer(alloc, tree, None, file, relative)?))
+            }
+        }
+    }
+
+    // What a specifier comes to where no rule decides it.
+    fn core_module_or_target(&self, alloc: Global, specifier: &str) -> Result<Before, AllocError>
+        ensures { IfOk result (λ b. b ≡ rows.decided_or_target self.now specifier.now
+            (rows.core_module_for self.now.target specifier.now)) }
+    {
+        if self.target == TargetEnv::Node {
+            if let Some(name) = core_module(alloc, specifier)? {
+                return Ok(Before::Decided(Resolution::custom(name)));
+            }
         }
         let specifier = Text::of(alloc, specifier)?;
         match self.alias.get(&specifier) {
@@ -199,7 +226,7 @@ impl NodeModulesResolver {
         Ok(folder)
     }
 
-    // What a search by a target comes to.
+    // What a search by a target comes to: a file by the rules for it.
     fn told<R: Asker>(
         &self,
         alloc: Global,
@@ -211,16 +238,16 @@ impl NodeModulesResolver {
         ensures { Resolves (R.asking tree.old) (R.asking tree.new) result
             (rows.told self.now target.now relative found) }
     {
-        match found {
-            Searched::File(file) => Ok(self.answer(alloc, tree, None, file, relative)?),
-            Searched::Nothing => {
-                let text = Text::of(alloc, target)?;
-                Err(ResolveError::Refused(NodeRefusal::NotFound { text }))
+        match placed_file(alloc, tree, self, target, found)? {
+            Placed::File { path, rewritten } => {
+                let relative = if rewritten {
+                    path.is_below(&self.cwd)
+                } else {
+                    relative
+                };
+                Ok(self.answer(alloc, tree, None, path, relative)?)
             }
-            Searched::Malformed(package) => {
-                let path = package.into_text()?;
-                Err(ResolveError::Refused(NodeRefusal::MalformedPackage { path }))
-            }
+            Placed::Ignored(name) => Ok(Resolution::custom(name)),
         }
     }
 }
