@@ -55,7 +55,7 @@ abbrev pub or_node_rows : {A : Type 0} → ProjectSettings → Request → Optio
 or_node_rows project request None = ends_by (node_rows_of project request)
 or_node_rows project request (Some a) = Done (Ok a)
 
--- Row 0: the path that a bare specifier is asked from, as it was written
+-- Join row 0: the path that a bare specifier is asked from, as it was written
 abbrev pub bare_from : FileName → List ℕ → Option (List ℕ)
 bare_from (Real base) specifier = if is_bare specifier then Some base else None
 bare_from (Custom name) specifier = None
@@ -83,25 +83,25 @@ abbrev pub manifest_in : ProjectSettings → Request → Option Path → Row Con
 manifest_in project request None = ends_by (node_rows_of project request)
 manifest_in project request (Some file) = refuses_by (read_manifest file)
 
--- Row 1: the manifest that is nearest to the importer
+-- Join row 1: the manifest that is nearest to the importer
 unfoldable pub nearest_manifest : ProjectSettings → Request → List ℕ → Row Contents Resolution JoinRefusal
 nearest_manifest project request base = do
   found ← nearest (path_of project base)
   manifest_in project request found
 
--- Row 2: the owner of the importer; without one the node rows hold
+-- Join row 2: the owner of the importer; without one the node rows hold
 abbrev pub owner_of : ProjectSettings → Request → Contents → List ℕ → Row PackageLocator Resolution JoinRefusal
 owner_of project request manifest base =
     or_node_rows project request (owner manifest (path_of project base))
 
--- Row 4: a target that isn't bare is searched as the node rows do
+-- Join row 4: a target that isn't bare is searched as the node rows do
 abbrev pub bare_target : ProjectSettings → List ℕ → List ℕ → Row (List ℕ) Resolution JoinRefusal
 bare_target project base target =
     if is_bare target
     then Done (Ok target)
     else ends_by (raised of_node (search project.node base target))
 
--- Row 5: the package name and the subpath. A scope alone names no package; its refusal isn't built.
+-- Join row 5: the package name and the subpath. A scope alone names no package; its refusal isn't built.
 abbrev pub identifier_of : List ℕ → Result (List ℕ × Option (List ℕ)) JoinRefusal
 identifier_of target = or_not_built (split_bare target)
 
@@ -111,35 +111,35 @@ bound_or_refused told (Bound locator) = Ok locator
 bound_or_refused told MissingPeer = Err NotBuilt
 bound_or_refused told Undeclared = Err (UndeclaredDependency told)
 
--- Row 6: the binding of the name in the owner's row. A name that only a fallback could serve isn't searched yet.
+-- Join row 6: the binding of the name in the owner's row. A name that only a fallback could serve isn't searched yet.
 abbrev pub bound_of : Contents → PackageLocator → Path → List ℕ → List ℕ → Result PackageLocator JoinRefusal
 bound_of manifest asking importer target name =
     if is_settled manifest asking name
     then bound_or_refused (undeclared manifest asking target name (text_of importer)) (bind manifest asking name)
     else Err NotBuilt
 
--- Row 7: the row of the bound package. Without one the refusal isn't built.
+-- Join row 7: the row of the bound package. Without one the refusal isn't built.
 abbrev pub row_of : Contents → PackageLocator → Result (List ℕ) JoinRefusal
 row_of manifest bound = or_not_built (location_of manifest bound)
 
--- Row 8: no project has a lock yet, so each binding passes.
+-- Join row 8: no project has a lock yet, so each binding passes.
 abbrev pub unlocked : PackageLocator → Result PackageLocator JoinRefusal
 unlocked bound = Ok bound
 
--- Row 9: the location of the row as a plain folder. One of a virtual package or inside an archive isn't searched yet.
+-- Join row 9: the location of the row as a plain folder. One of a virtual package or inside an archive isn't searched yet.
 abbrev pub folder_of : List ℕ → Result Path JoinRefusal
 folder_of location = if is_plain location then Ok (clean [] location) else Err NotBuilt
 
--- Row 11: a file, and whether a rule for browsers led to it. One that a rule ignores ends the order by its name.
+-- Join row 11: a file, and whether a rule for browsers led to it. One that a rule ignores ends the order by its name.
 abbrev pub unless_ignored : Placed → Row (Path × Bool) Resolution JoinRefusal
 unless_ignored (File f rewritten) = Done (Ok (f, rewritten))
 unless_ignored (Ignored name) = Done (Err (Ok (custom name)))
 
--- Row 10: what is found at the location
+-- Join row 10: what is found at the location
 abbrev pub found_at : ProjectSettings → Path → Option (List ℕ) → Plan (Result Placed JoinRefusal)
 found_at project folder subpath = raised of_node (resolve_at project.node folder subpath)
 
--- Row 12: a file that isn't below the location is refused.
+-- Join row 12: a file that isn't below the location is refused.
 abbrev pub contained : Path → Path → Result Path JoinRefusal
 contained folder f = if below f folder then Ok f else Err (Outside (text_of f) (text_of folder))
 
@@ -151,7 +151,7 @@ via_of bound location = record { name = bound.name; reference = bound.reference;
 abbrev pub is_told_relative : ProjectSettings → Path → Bool → Bool
 is_told_relative project f rewritten = rewritten && below f project.node.cwd
 
--- Row 13: the answer is the file, with the row through which it was found.
+-- Join row 13: the answer is the file, with the row through which it was found.
 abbrev pub answered_through : ProjectSettings → Via → Path → Bool → Plan (Result Resolution JoinRefusal)
 answered_through project via f rewritten =
     never_refuses (answered project.node (Some via) f (is_told_relative project f rewritten))

@@ -1,6 +1,7 @@
 -- Steps of the reading of rules for browsers, one folder, entry or rule at a time.
 use Rattle.std.proofs.Common.{◌≡◌, ◌<◌, ℕ, suc, ◌+◌, Bool, true, false, not, cond, if◌then◌else◌, List, [], ◌∷◌, ◌++◌, map, drop, get_or, length, Option, Some, None, option_map, Result, Bor, refl, sym, ap, ◌∙◌, subst, append_assoc, append-nil}
 use Rattle.serde_json.specs.Data.{Data, Members, no_members, member}
+use Rattle.serde_json.specs.Find.{as_str, as_bool}
 use Rattle.sugar_path.specs.Path.{Path, parent, is_root, up}
 use Rattle.tree_core.specs.declared.tree.ReadError.{ReadError}
 use Rattle.tree_core.specs.Asks.{Asking, Asks}
@@ -12,7 +13,7 @@ use Rattle.swc_loader.specs.declared.browser_rules.ModuleRule.{ModuleRule}
 use Rattle.swc_loader.specs.declared.browser_rules.ModuleRule.TheVariants.{NoRule, Ignored, File}
 use Rattle.swc_loader.specs.Conventions.{Conventions}
 use Rattle.swc_loader.specs.Search.{package_file}
-use Rattle.swc_loader.specs.BrowserRules.{rule_of, with_rule, rules_of, browser_entries, root, or_later}
+use Rattle.swc_loader.specs.BrowserRules.{rule_by, rule_of, with_rule, rules_of, browser_entries, root, or_later}
 
 -- a folder that has a package.json is the root, and else it is looked for further up
 abbrev pub or_above : Path → Bool → Plan (Option Path)
@@ -63,6 +64,17 @@ left_rules-step c r read key d ms =
     by_rule rule =
         then-then (rules_of c r ms) (λ rules. Done (with_rule rule rules)) (behind_rules read)
         ∙ then_alike (rules_of c r ms) _ (behind_rules (read ++ with_rule rule [])) (λ rules. ap (λ xs. Done xs) (joined rule rules))
+
+-- a call by the rule of a value whose text and truth are known
+pub by_value : {old new : Asking} {result : Result (Option Rule) ReadError} (c : Conventions) (r : Path) (key : List ℕ) (d : Data) {text : Option (List ℕ)} {truth : Option Bool} → as_str d ≡ text → as_bool d ≡ truth → Asks old new result (rule_by c r key text truth) → Asks old new result (rule_of c r key d)
+by_value {old = old} {new = new} {result = result} c r key d {text = text} texts truths h =
+    let T : Option (List ℕ) → Type 0 = λ x. Asks old new result (rule_by c r key x (as_bool d)) in
+    let B : Option Bool → Type 0 = λ x. Asks old new result (rule_by c r key text x) in
+    subst T (sym texts) (subst B (sym truths) h)
+
+-- a call by the rule of a value that is a text
+pub by_text : {old new : Asking} {result : Result (Option Rule) ReadError} (c : Conventions) (r : Path) (key : List ℕ) (d : Data) {text : List ℕ} → as_str d ≡ Some text → Asks old new result (rule_by c r key (Some text) (as_bool d)) → Asks old new result (rule_of c r key d)
+by_text c r key d texts h = by_value c r key d texts refl h
 
 -- a call by the rules of entries that are known
 pub by_entries : {old new : Asking} {result : Result (List Rule) ReadError} (c : Conventions) (r : Path) (content : Option (List ℕ)) {ms : Members} → browser_entries c content ≡ ms → Asks old new result (rules_of c r ms) → Asks old new result (rules_of c r (browser_entries c content))

@@ -1,7 +1,7 @@
 -- The rules that the `browser` map of a package.json gives, as bundlers read it: which files and modules something else stands for, and which are hidden.
-use Rattle.std.specs.Prelude.{ℕ, Bool, true, false, if◌then◌else◌, List, [], ◌∷◌, map, codes, bytes_eq, Option, Some, None, option_map}
-use Rattle.serde_json.specs.Data.{Data, null, boolean, number, string, array, object, Members, no_members, member}
-use Rattle.serde_json.specs.Find.{get}
+use Rattle.std.specs.Prelude.{ℕ, Bool, true, false, if◌then◌else◌, List, [], ◌∷◌, map, codes, bytes_eq, Option, Some, None, option_map, option_and_then, unwrap_or}
+use Rattle.serde_json.specs.Data.{Data, Members, no_members, member}
+use Rattle.serde_json.specs.Find.{get, as_str, as_bool, as_object}
 use Rattle.sugar_path.specs.Path.{Path, text_of, join, up, parent, path_eq}
 use Rattle.tree_core.specs.Plan.{Plan, Done, ◌>>=◌, read, first_file}
 use Rattle.swc_loader.specs.declared.browser_rules.Source.{Source}
@@ -43,18 +43,19 @@ hides about = Some (record { source = about; target = None })
 abbrev pub stands_for : Source → Option Path → Option Rule
 stands_for about target = option_map (λ f. record { source = about; target = Some f }) target
 
--- The rule of an entry: `false` hides the source, `true` says nothing, and the place of a text stands for the source, whatever the text begins with.
-abbrev pub rule_of : Conventions → Path → List ℕ → Data → Plan (Option Rule)
-rule_of c root key null = Done None
-rule_of c root key (boolean true) = Done None
-rule_of c root key (boolean false) = source_of c root key >>= λ about. Done (hides about)
-rule_of c root key (number n) = Done None
-rule_of c root key (string text) = do
+-- The rule of an entry with a text or a truth value: `false` hides the source, `true` says nothing, and the place of a text stands for the source, whatever the text begins with.
+abbrev pub rule_by : Conventions → Path → List ℕ → Option (List ℕ) → Option Bool → Plan (Option Rule)
+rule_by c root key (Some text) truth = do
   about ← source_of c root key
   target ← place_behind c root text
   Done (stands_for about target)
-rule_of c root key (array ds) = Done None
-rule_of c root key (object ms) = Done None
+rule_by c root key None (Some false) = source_of c root key >>= λ about. Done (hides about)
+rule_by c root key None (Some true) = Done None
+rule_by c root key None None = Done None
+
+-- the rule of an entry
+abbrev pub rule_of : Conventions → Path → List ℕ → Data → Plan (Option Rule)
+rule_of c root key value = rule_by c root key (as_str value) (as_bool value)
 
 abbrev pub with_rule : Option Rule → List Rule → List Rule
 with_rule None rules = rules
@@ -68,23 +69,13 @@ rules_of c root (member key value entries) = do
   rules ← rules_of c root entries
   Done (with_rule rule rules)
 
--- the entries of a map; a value of any other kind has none
-abbrev pub entries_of : Option Data → Members
-entries_of None = no_members
-entries_of (Some null) = no_members
-entries_of (Some (boolean b)) = no_members
-entries_of (Some (number n)) = no_members
-entries_of (Some (string s)) = no_members
-entries_of (Some (array ds)) = no_members
-entries_of (Some (object ms)) = ms
-
-abbrev pub entries_in : Option Data → Members
-entries_in None = no_members
-entries_in (Some d) = entries_of (get (codes "browser") d)
+-- the `browser` map of a package.json
+abbrev pub map_in : Data → Option Members
+map_in value = option_and_then as_object (get (codes "browser") value)
 
 -- The entries of a package.json's `browser` map, in the byte order of their keys, as objects keep them. A file that can't be read or is malformed has none, and so has one whose `browser` is a text.
 abbrev pub browser_entries : Conventions → Option (List ℕ) → Members
-browser_entries c content = entries_in (package_in c content)
+browser_entries c content = unwrap_or (option_and_then map_in (package_in c content)) no_members
 
 -- the rules of a folder's package.json
 unfoldable pub rules_at : Conventions → Path → Plan (List Rule)

@@ -1,6 +1,7 @@
 -- What the rules for browsers are on a tree, and which questions their reading puts, as plain functions of the tree: the laws by which a reader checks the plans.
 use Rattle.std.specs.Prelude.{◌≡◌, ℕ, Bool, true, false, if◌then◌else◌, List, [], ◌∷◌, ◌++◌, map, codes, Option, Some, None, option_map}
-use Rattle.serde_json.specs.Data.{Data, null, boolean, number, string, array, object, Members, no_members, member}
+use Rattle.serde_json.specs.Data.{Data, Members, no_members, member}
+use Rattle.serde_json.specs.Find.{as_str, as_bool}
 use Rattle.sugar_path.specs.Path.{Path, text_of, join, up, parent}
 use Rattle.tree_core.specs.declared.question.Question.{Question}
 use Rattle.tree_core.specs.declared.question.Question.TheVariants as question
@@ -33,15 +34,15 @@ source_on t c root key =
     else source.Specifier key
 
 -- the rule of an entry, on a tree
-abbrev pub rule_on : Files → Conventions → Path → List ℕ → Data → Option Rule
-rule_on t c root key null = None
-rule_on t c root key (boolean true) = None
-rule_on t c root key (boolean false) = hides (source_on t c root key)
-rule_on t c root key (number n) = None
-rule_on t c root key (string text) =
+abbrev pub rule_by_on : Files → Conventions → Path → List ℕ → Option (List ℕ) → Option Bool → Option Rule
+rule_by_on t c root key (Some text) truth =
     stands_for (source_on t c root key) (first_key t (places_behind c root text))
-rule_on t c root key (array ds) = None
-rule_on t c root key (object ms) = None
+rule_by_on t c root key None (Some false) = hides (source_on t c root key)
+rule_by_on t c root key None (Some true) = None
+rule_by_on t c root key None None = None
+
+abbrev pub rule_on : Files → Conventions → Path → List ℕ → Data → Option Rule
+rule_on t c root key value = rule_by_on t c root key (as_str value) (as_bool value)
 
 -- the rules of entries, on a tree
 abbrev pub rules_on : Files → Conventions → Path → Members → List Rule
@@ -55,15 +56,15 @@ source_asks t c root key =
     if begins_in key (codes ".") then up_to_first t (places_behind c root key) else []
 
 -- of an entry that isn't `true`, the place of its source, and then that of its text
-abbrev pub entry_asks : Files → Conventions → Path → List ℕ → Data → List Question
-entry_asks t c root key null = []
-entry_asks t c root key (boolean true) = []
-entry_asks t c root key (boolean false) = source_asks t c root key
-entry_asks t c root key (number n) = []
-entry_asks t c root key (string text) =
+abbrev pub asks_by : Files → Conventions → Path → List ℕ → Option (List ℕ) → Option Bool → List Question
+asks_by t c root key (Some text) truth =
     source_asks t c root key ++ up_to_first t (places_behind c root text)
-entry_asks t c root key (array ds) = []
-entry_asks t c root key (object ms) = []
+asks_by t c root key None (Some false) = source_asks t c root key
+asks_by t c root key None (Some true) = []
+asks_by t c root key None None = []
+
+abbrev pub entry_asks : Files → Conventions → Path → List ℕ → Data → List Question
+entry_asks t c root key value = asks_by t c root key (as_str value) (as_bool value)
 
 -- those of each entry, also where an earlier one would decide
 abbrev pub entries_asks : Files → Conventions → Path → Members → List Question

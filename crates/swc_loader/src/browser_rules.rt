@@ -3,7 +3,7 @@ ghost use Rattle.std.specs.Prelude.{◌≡◌, ◌++◌, ◌∷◌, [], IfOk, On
 ghost use Rattle.serde_json.specs.View.{view, members_view};
 ghost use Rattle.tree_core.specs.Asks.{Asks};
 ghost use Rattle.swc_loader.specs.BrowserRules as plan;
-ghost use Rattle.swc_loader.specs.BrowserRules.{is_source, ruled, place_behind, source_of, rule_of, rules_of};
+ghost use Rattle.swc_loader.specs.BrowserRules.{is_source, ruled, place_behind, source_of, map_in, rule_of, rules_of};
 
 use crate::entry::package_in;
 use crate::search::{joined, place_without_entry};
@@ -52,7 +52,8 @@ pub(crate) fn ruled_file<R: Asker>(
     ensures { Asks (R.asking tree.old) (R.asking tree.new) result
         (plan.ruled_file resolver.now file) }
 {
-    let about = Source::File(file.try_clone(alloc)?);
+    let copy = file.try_clone(alloc)?;
+    let about = Source::File(copy);
     match rule_for(alloc, tree, resolver, &file, &about)? {
         ModuleRule::NoRule => Ok(Placed::File {
             path: file,
@@ -168,10 +169,17 @@ pub(crate) fn rules_at<R: Asker>(
     let Some(package) = package_in(alloc, conventions, &content)? else {
         return Ok(List::new(alloc));
     };
-    match package.get("browser") {
-        Some(Value::Object(entries)) => each_rule(alloc, tree, conventions, root, entries),
-        _ => Ok(List::new(alloc)),
+    match browser_map(&package) {
+        Some(entries) => each_rule(alloc, tree, conventions, root, entries),
+        None => Ok(List::new(alloc)),
     }
+}
+
+// The `browser` map of a package.json.
+fn browser_map(package_json: &Value) -> Option<&Map<String, Value>>
+    ensures { option_map (λ m. members_view m.now.entries) result ≡ map_in (view package_json.now) }
+{
+    package_json.get("browser")?.as_object()
 }
 
 // The rules of entries, each read in full, in their order.
@@ -214,20 +222,20 @@ fn entry_rule<R: Asker>(
     ensures { Asks (R.asking tree.old) (R.asking tree.new) result
         (rule_of conventions.now root.now key.now (view value.now)) }
 {
-    match value {
-        Value::Bool(false) => {
+    if let Some(text) = value.as_str() {
+        let source = source_of(alloc, tree, conventions, root, key)?;
+        let target = place_behind(alloc, tree, conventions, root, text)?;
+        return Ok(standing_for(source, target));
+    }
+    match value.as_bool() {
+        Some(false) => {
             let source = source_of(alloc, tree, conventions, root, key)?;
             Ok(Some(Rule {
                 source,
                 target: None,
             }))
         }
-        Value::String(text) => {
-            let source = source_of(alloc, tree, conventions, root, key)?;
-            let target = place_behind(alloc, tree, conventions, root, text.as_str())?;
-            Ok(standing_for(source, target))
-        }
-        _ => Ok(None),
+        Some(true) | None => Ok(None),
     }
 }
 

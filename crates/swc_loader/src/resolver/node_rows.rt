@@ -38,7 +38,7 @@ impl NodeModulesResolver {
         let FileName::Real(importer) = base else {
             return Err(ResolveError::Refused(NodeRefusal::BaseNotAFile));
         };
-        let at = CleanPath::read(alloc, &self.cwd, importer.as_str())?;
+        let at = CleanPath::read(alloc, self.cwd(), importer.as_str())?;
         match self.before_search(alloc, tree, &at, specifier)? {
             Before::Decided(resolution) => Ok(resolution),
             Before::Target(target) => self.search(alloc, tree, importer.as_str(), target.as_str()),
@@ -102,7 +102,7 @@ impl NodeModulesResolver {
             ModuleRule::NoRule => Ok(None),
             ModuleRule::Ignored => Ok(Some(Resolution::custom(Text::of(alloc, specifier)?))),
             ModuleRule::File(file) => {
-                let relative = file.is_below(&self.cwd);
+                let relative = file.is_below(self.cwd());
                 Ok(Some(self.answer(alloc, tree, None, file, relative)?))
             }
         }
@@ -241,7 +241,7 @@ impl NodeModulesResolver {
         match placed_file(alloc, tree, self, target, found)? {
             Placed::File { path, rewritten } => {
                 let relative = if rewritten {
-                    path.is_below(&self.cwd)
+                    path.is_below(self.cwd())
                 } else {
                     relative
                 };

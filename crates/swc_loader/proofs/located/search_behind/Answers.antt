@@ -1,7 +1,7 @@
 use Rattle.std.proofs.Common.{refl, ap, sym, ◌∙◌}
 use Rattle.sugar_path.specs.Path.{path_eq}
 use Rattle.tree_core.specs.Resolving.{resolving}
-use Rattle.tree_core.proofs.Asking.{asks_then, asks_fails_in, asks_decided}
+use Rattle.tree_core.proofs.Asking.{asks_then, asks_fails_in}
 use Rattle.swc_loader.specs.Located.{inside}
 use Rattle.swc_loader.proofs.Places.{asks_place}
 use Rattle.swc_loader.proofs.located.search_behind.Goals as goal
@@ -23,4 +23,4 @@ unfolding inside
 returns g c =
     let other = ap (λ p. path_eq p c.args.location.now) (sym (rw c.root.ensures at c.in_ok-at.ensures)) ∙ sym c.eq.ensures ∙ c.if-eq.false in
     rw other
-    (asks_then _ (asks_place c.conventions.ensures c.target.ensures refl refl c.root.ensures c.in_ok-at.ensures c.in_ok-found.ensures) (asks_decided _ c.placed_file.ensures))
+    (asks_then _ (asks_place c.conventions.ensures c.target.ensures refl refl c.root.ensures c.in_ok-at.ensures c.in_ok-found.ensures) c.placed_file.ensures)

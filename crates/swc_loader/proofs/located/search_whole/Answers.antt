@@ -1,6 +1,6 @@
 use Rattle.std.proofs.Common.{ap, ◌∙◌}
 use Rattle.tree_core.specs.Resolving.{resolving}
-use Rattle.tree_core.proofs.Asking.{asks_then, asks_fails_in, asks_decided}
+use Rattle.tree_core.proofs.Asking.{asks_then, asks_fails_in}
 use Rattle.swc_loader.specs.Located.{whole}
 use Rattle.swc_loader.proofs.located.search_whole.Goals as goal
 
@@ -12,4 +12,4 @@ returns-in_err-found g c =
 pub returns : goal.returns
 unfolding whole
 returns g c =
-    asks_then _ (rw (c.conventions.ensures, c.target.ensures) at c.in_ok-found.ensures) (asks_decided _ (rw c.as_str.ensures.text at c.placed_file.ensures))
+    asks_then _ (rw (c.conventions.ensures, c.target.ensures) at c.in_ok-found.ensures) (rw c.as_str.ensures.text at c.placed_file.ensures)

@@ -1,5 +1,5 @@
 use Rattle.std.proofs.Common.{◌≡◌, ◌∙◌, Bool, refl, sym, ap, lit<}
-use Rattle.sugar_path.specs.Path.{is_absolute}
+use Rattle.sugar_path.specs.Path.{clean, is_absolute}
 use Rattle.tree_core.specs.Resolving.{resolving}
 use Rattle.tree_core.specs.Rows.{never_refuses}
 use Rattle.tree_core.proofs.Asking.{asks_then, asks_as, asks_done, asks_fails_in, asks_starved_in}
@@ -25,14 +25,24 @@ pub returns-in_default-base : goal.returns-in_default-base
 returns-in_default-base g c =
     asks_node _ _ _ (asks_as _ c.in_ok-file.ensures c.in_default.is (rw (no_path _ _ _ c.in_default-base.not-Real) (asks_done refl)))
 
+pub returns-in_err-at : goal.returns-in_err-at
+returns-in_err-at g c =
+    asks_node _ _ _ (asks_as _ c.in_ok-file.ensures c.in_default.is (asks_starved_in resolving _ c.from_residual-in_err-at.ensures.1))
+
 pub returns-in_err-resolution : goal.returns-in_err-resolution
 returns-in_err-resolution g c =
-    asks_node _ _ _ (asks_as _ c.in_ok-file.ensures c.in_default.is (asks_starved_in resolving _ c.from_residual-in_err-resolution.ensures.1))
+    let at : c.in_ok-at.at ≡ clean c.args.self.now.cwd c.in-Real.importer.now = rw (c.cwd.ensures, c.as_str.ensures) at c.in_ok-at.ensures in
+    asks_node _ _ _ (asks_as _ c.in_ok-file.ensures c.in_default.is
+    (rw c.in-Real.is (asks_fails_in resolving (by_target c.args.self.now c.in-Real.importer.now) _ c.from_residual-in_err-resolution.ensures.1 (rw at at c.in_err-resolution.ensures))))
 
 pub returns-in-Decided : goal.returns-in-Decided
 returns-in-Decided g c =
-    asks_node _ _ _ (asks_as _ c.in_ok-file.ensures c.in_default.is (rw (c.in-Real.is, sym c.in_ok-resolution.ensures ∙ c.in-Decided.is) (asks_done refl)))
+    let at : c.in_ok-at.at ≡ clean c.args.self.now.cwd c.in-Real.importer.now = rw (c.cwd.ensures, c.as_str.ensures) at c.in_ok-at.ensures in
+    asks_node _ _ _ (asks_as _ c.in_ok-file.ensures c.in_default.is
+    (rw c.in-Real.is (asks_as (by_target c.args.self.now c.in-Real.importer.now) (rw at at c.in_ok-resolution.ensures) c.in-Decided.is (asks_done refl))))
 
-pub returns-in-Target : goal.returns-in-Target
-returns-in-Target g c =
-    asks_node _ _ _ (asks_as _ c.in_ok-file.ensures c.in_default.is (rw (c.in-Real.is, sym c.in_ok-resolution.ensures ∙ c.in-Target.is, ← c.as_str.ensures, ← c.as_str-in-Target.ensures) c.search.ensures))
+pub returns : goal.returns
+returns g c =
+    let at : c.in_ok-at.at ≡ clean c.args.self.now.cwd c.in-Real.importer.now = rw (c.cwd.ensures, c.as_str.ensures) at c.in_ok-at.ensures in
+    asks_node _ _ _ (asks_as _ c.in_ok-file.ensures c.in_default.is
+    (rw c.in-Real.is (asks_as (by_target c.args.self.now c.in-Real.importer.now) (rw at at c.in_ok-resolution.ensures) c.in-Target.is (rw (c.as_str-in-Target.ensures, c.as_str-in-Target-2.ensures) at c.search.ensures))))

@@ -1,21 +1,38 @@
-use Rattle.std.proofs.Common.{refl, ap}
-use Rattle.std.specs.Prelude.{Err}
+use Rattle.std.proofs.Common.{◌≡◌, ◌∙◌, Ok, refl, ap}
+use Rattle.tree_core.specs.Plan.{Done, on_ok}
 use Rattle.tree_core.specs.Resolving.{resolving}
 use Rattle.tree_core.specs.Rows.{never_refuses}
-use Rattle.tree_core.proofs.Asking.{asks_then, asks_done, asks_fails_in}
-use Rattle.swc_loader.specs.declared.refusal.NodeRefusal.TheVariants.{NotFound, MalformedPackage}
+use Rattle.tree_core.proofs.Asking.{asks_then, asks_as, asks_done, asks_fails_in, asks_stops}
+use Rattle.swc_loader.specs.NodeRows.{is_told_relative, answered_placed, told}
 use Rattle.swc_loader.proofs.resolver.NodeModulesResolver.told.Goals as goal
+use Rattle.swc_loader.proofs.resolver.NodeModulesResolver.told.Goals.{then-rewritten, else-rewritten}
+
+pub returns-in_err-path : goal.returns-in_err-path
+unfolding told
+returns-in_err-path g c = asks_stops resolving _ _ _ c.from_residual.ensures.1 c.in_err-path.ensures
 
 pub returns-in_err-answer-in-File : goal.returns-in_err-answer-in-File
-unfolding never_refuses
-returns-in_err-answer-in-File g c = rw c.in-File.is (asks_fails_in resolving _ _ c.from_residual.ensures.1 c.in_err-answer-in-File.ensures)
+unfolding told never_refuses
+returns-in_err-answer-in-File g c =
+    let relative = elim c.if-rewritten.branch as (λ _. c.if-rewritten.relative ≡ is_told_relative c.args.self.now c.args.relative c.in-File.path c.in-File.rewritten) [
+      | then-rewritten w ↦ rw w.if-rewritten.true (w.relative-is ∙ (rw w.cwd.ensures at w.is_below-relative.ensures))
+      | else-rewritten w ↦ rw w.if-rewritten.false w.relative-is
+    ] in
+    asks_as (on_ok (λ placed. never_refuses (answered_placed c.args.self.now c.args.relative placed))) c.in_ok-path.ensures (ap (λ placed. Ok placed) c.in-File.is)
+    (asks_fails_in resolving (λ a. Done (Ok a)) _ c.from_residual-in_err-answer-in-File.ensures.1 (rw relative at c.in_err-answer-in-File.ensures))
 
 pub returns-in_ok-answer-in-File : goal.returns-in_ok-answer-in-File
-unfolding never_refuses
-returns-in_ok-answer-in-File g c = rw c.in-File.is (asks_then _ c.in_ok-answer-in-File.ensures (asks_done refl))
+unfolding told never_refuses
+returns-in_ok-answer-in-File g c =
+    let relative = elim c.if-rewritten.branch as (λ _. c.if-rewritten.relative ≡ is_told_relative c.args.self.now c.args.relative c.in-File.path c.in-File.rewritten) [
+      | then-rewritten w ↦ rw w.if-rewritten.true (w.relative-is ∙ (rw w.cwd.ensures at w.is_below-relative.ensures))
+      | else-rewritten w ↦ rw w.if-rewritten.false w.relative-is
+    ] in
+    asks_as (on_ok (λ placed. never_refuses (answered_placed c.args.self.now c.args.relative placed))) c.in_ok-path.ensures (ap (λ placed. Ok placed) c.in-File.is)
+    (asks_then (λ a. Done (Ok a)) (rw relative at c.in_ok-answer-in-File.ensures) (asks_done refl))
 
-pub returns-in_ok-text-in-Nothing : goal.returns-in_ok-text-in-Nothing
-returns-in_ok-text-in-Nothing g c = rw c.in-Nothing.is (asks_done (ap (λ text. Err (NotFound text)) c.in_ok-text-in-Nothing.ensures))
-
-pub returns-in_ok-path-in-Malformed : goal.returns-in_ok-path-in-Malformed
-returns-in_ok-path-in-Malformed g c = rw c.in-Malformed.is (asks_done (ap (λ path. Err (MalformedPackage path)) c.in_ok-path-in-Malformed.ensures.text))
+pub returns-in-Ignored : goal.returns-in-Ignored
+unfolding told never_refuses
+returns-in-Ignored g c =
+    asks_as (on_ok (λ placed. never_refuses (answered_placed c.args.self.now c.args.relative placed))) c.in_ok-path.ensures (ap (λ placed. Ok placed) c.in-Ignored.is)
+    (asks_then (λ a. Done (Ok a)) (asks_done c.custom.ensures) (asks_done refl))
