@@ -1,10 +1,14 @@
 -- Steps of the reading of rules for browsers, one folder, entry or rule at a time.
-use Rattle.std.proofs.Common.{◌≡◌, ◌<◌, ℕ, suc, ◌+◌, Bool, true, false, not, cond, if◌then◌else◌, List, [], ◌∷◌, ◌++◌, map, drop, get_or, length, Option, Some, None, option_map, Result, Bor, refl, sym, ap, ◌∙◌, subst, append_assoc, append-nil}
+use Rattle.std.proofs.Common.{◌≡◌, ◌<◌, ◌≤◌, ℕ, ◌+◌, Bool, true, false, not, cond, if◌then◌else◌, List, [], ◌∷◌, ◌++◌, map, drop, get_or, length, Option, Some, None, option_map, unwrap_or, Result, String, Global, string_bytes, refl, sym, ap, ◌∙◌, subst, append_assoc, append-nil}
+use Rattle.std.specs.Prelude.{option_and_then}
+use Rattle.std.proofs.lemmas.List.{drop_more, drop_all}
+use Rattle.serde_json.specs.View.{view, members_view}
+use Rattle.serde_json.specs.declared.value.Value.{Value}
 use Rattle.serde_json.specs.Data.{Data, Members, no_members, member}
-use Rattle.serde_json.specs.Find.{as_str, as_bool}
+use Rattle.serde_json.specs.Find.{as_str}
 use Rattle.sugar_path.specs.Path.{Path, parent, is_root, up}
 use Rattle.tree_core.specs.declared.tree.ReadError.{ReadError}
-use Rattle.tree_core.specs.Asks.{Asking, Asks}
+use Rattle.tree_core.specs.Asks.{Asking, Asks, Leads}
 use Rattle.tree_core.specs.Plan.{Plan, Done, ◌>>=◌, file, first_file}
 use Rattle.tree_core.proofs.RowOrders.{then-then, then-done, then_alike}
 use Rattle.swc_loader.specs.declared.browser_rules.Source.{Source}
@@ -12,8 +16,9 @@ use Rattle.swc_loader.specs.declared.browser_rules.Rule.{Rule}
 use Rattle.swc_loader.specs.declared.browser_rules.ModuleRule.{ModuleRule}
 use Rattle.swc_loader.specs.declared.browser_rules.ModuleRule.TheVariants.{NoRule, Ignored, File}
 use Rattle.swc_loader.specs.Conventions.{Conventions}
+use Rattle.swc_loader.specs.Entry.{package_in}
 use Rattle.swc_loader.specs.Search.{package_file}
-use Rattle.swc_loader.specs.BrowserRules.{rule_by, rule_of, with_rule, rules_of, browser_entries, root, or_later}
+use Rattle.swc_loader.specs.BrowserRules.{is_false, rule_by, rule_of, with_rule, rules_of, map_in, browser_entries, root, is_source, or_later, ruled}
 
 -- a folder that has a package.json is the root, and else it is looked for further up
 abbrev pub or_above : Path → Bool → Plan (Option Path)
@@ -65,16 +70,26 @@ left_rules-step c r read key d ms =
         then-then (rules_of c r ms) (λ rules. Done (with_rule rule rules)) (behind_rules read)
         ∙ then_alike (rules_of c r ms) _ (behind_rules (read ++ with_rule rule [])) (λ rules. ap (λ xs. Done xs) (joined rule rules))
 
--- a call by the rule of a value whose text and truth are known
-pub by_value : {old new : Asking} {result : Result (Option Rule) ReadError} (c : Conventions) (r : Path) (key : List ℕ) (d : Data) {text : Option (List ℕ)} {truth : Option Bool} → as_str d ≡ text → as_bool d ≡ truth → Asks old new result (rule_by c r key text truth) → Asks old new result (rule_of c r key d)
-by_value {old = old} {new = new} {result = result} c r key d {text = text} texts truths h =
-    let T : Option (List ℕ) → Type 0 = λ x. Asks old new result (rule_by c r key x (as_bool d)) in
-    let B : Option Bool → Type 0 = λ x. Asks old new result (rule_by c r key text x) in
-    subst T (sym texts) (subst B (sym truths) h)
+-- a call by the rule of a value of which it is known whether it is a text, and whether it is false
+pub by_value : {old new : Asking} {result : Result (Option Rule) ReadError} (c : Conventions) (r : Path) (key : List ℕ) (d : Data) {text : Option (List ℕ)} {hidden : Bool} → as_str d ≡ text → is_false d ≡ hidden → Asks old new result (rule_by c r key text hidden) → Asks old new result (rule_of c r key d)
+by_value {old = old} {new = new} {result = result} c r key d {text = text} texts hides h =
+    let T : Option (List ℕ) → Type 0 = λ x. Asks old new result (rule_by c r key x (is_false d)) in
+    let B : Bool → Type 0 = λ x. Asks old new result (rule_by c r key text x) in
+    subst T (sym texts) (subst B (sym hides) h)
 
 -- a call by the rule of a value that is a text
-pub by_text : {old new : Asking} {result : Result (Option Rule) ReadError} (c : Conventions) (r : Path) (key : List ℕ) (d : Data) {text : List ℕ} → as_str d ≡ Some text → Asks old new result (rule_by c r key (Some text) (as_bool d)) → Asks old new result (rule_of c r key d)
+pub by_text : {old new : Asking} {result : Result (Option Rule) ReadError} (c : Conventions) (r : Path) (key : List ℕ) (d : Data) {text : List ℕ} → as_str d ≡ Some text → Asks old new result (rule_by c r key (Some text) (is_false d)) → Asks old new result (rule_of c r key d)
 by_text c r key d texts h = by_value c r key d texts refl h
+
+-- the entries of a package.json with a map
+pub entries-map : (c : Conventions) (content : Option (List ℕ)) {d : Data} {ms : Members} → package_in c content ≡ Some d → map_in d ≡ Some ms → browser_entries c content ≡ ms
+entries-map c content is map = ap (λ p. unwrap_or (option_and_then map_in p) no_members) is ∙ ap (λ m. unwrap_or m no_members) map
+
+pub entries-no_map : (c : Conventions) (content : Option (List ℕ)) {d : Data} → package_in c content ≡ Some d → map_in d ≡ None → browser_entries c content ≡ no_members
+entries-no_map c content is map = ap (λ p. unwrap_or (option_and_then map_in p) no_members) is ∙ ap (λ m. unwrap_or m no_members) map
+
+pub entries-none : (c : Conventions) (content : Option (List ℕ)) → package_in c content ≡ None → browser_entries c content ≡ no_members
+entries-none c content is = ap (λ p. unwrap_or (option_and_then map_in p) no_members) is
 
 -- a call by the rules of entries that are known
 pub by_entries : {old new : Asking} {result : Result (List Rule) ReadError} (c : Conventions) (r : Path) (content : Option (List ℕ)) {ms : Members} → browser_entries c content ≡ ms → Asks old new result (rules_of c r ms) → Asks old new result (rules_of c r (browser_entries c content))
@@ -82,17 +97,62 @@ by_entries {old = old} {new = new} {result = result} c r content is h =
     let P : Members → Type 0 = λ ms. Asks old new result (rules_of c r ms) in
     subst P (sym is) h
 
--- the file that the last rule named, where later rules say something
-abbrev pub said_before : Option (Bor Path) → ModuleRule → ModuleRule
-said_before None later = later
-said_before (Some f) later = or_later (Some f.now) later
+-- in a loop over entries: at one of them, its rule comes first, and then those behind it
+pub leads_entry : {old mid : Asking} {whole : Plan (List Rule)} (c : Conventions) (r : Path) (read : List Rule) (all : List (String Global × Value)) (e : String Global × Value) (es : List (String Global × Value)) → all ≡ e ∷ es → Leads old mid whole (left_rules c r read (members_view all)) → Leads old mid whole (rule_of c r (string_bytes e.0) (view e.1) >>= λ rule. left_rules c r (read ++ with_rule rule []) (members_view es))
+leads_entry {old = old} {mid = mid} {whole = whole} c r read all e es is h =
+    let P : Plan (List Rule) → Type 0 = λ rest. Leads old mid whole rest in
+    subst P (ap (λ xs. left_rules c r read (members_view xs)) is ∙ left_rules-step c r read (string_bytes e.0) (view e.1) (members_view es)) h
 
-pub said_before-hidden : (last : Option (Bor Path)) → said_before last Ignored ≡ Ignored
+left_rules-none : (c : Conventions) (r : Path) (read : List Rule) → left_rules c r read no_members ≡ Done read
+unfolding ◌>>=◌
+left_rules-none c r read = ap (λ rules. Done rules) (append-nil read)
+
+-- and at the end the rules that were read are all
+pub leads_no_entry : {old mid : Asking} {whole : Plan (List Rule)} (c : Conventions) (r : Path) (read : List Rule) (all : List (String Global × Value)) → all ≡ [] → Leads old mid whole (left_rules c r read (members_view all)) → Leads old mid whole (Done read)
+leads_no_entry {old = old} {mid = mid} {whole = whole} c r read all is h =
+    let P : Plan (List Rule) → Type 0 = λ rest. Leads old mid whole rest in
+    subst P (ap (λ xs. left_rules c r read (members_view xs)) is ∙ left_rules-none c r read) h
+
+-- the file that the last rule named, where later rules say something
+abbrev pub said_before : Option Path → ModuleRule → ModuleRule
+said_before None later = later
+said_before (Some f) later = or_later (Some f) later
+
+said_before-hidden : (last : Option Path) → said_before last Ignored ≡ Ignored
 said_before-hidden None = refl
 said_before-hidden (Some f) = refl
 
-pub said_before-named : (last : Option (Bor Path)) (f : Path) (later : ModuleRule) → said_before last (or_later (Some f) later) ≡ or_later (Some f) later
+said_before-named : (last : Option Path) (f : Path) (later : ModuleRule) → said_before last (or_later (Some f) later) ≡ said_before (Some f) later
 said_before-named None f later = refl
 said_before-named (Some g) f NoRule = refl
 said_before-named (Some g) f Ignored = refl
 said_before-named (Some g) f (File h) = refl
+
+-- the rules from one of them on
+ruled-at : (rules : List Rule) (i : ℕ) (rule : Rule) (about : Source) → i < length rules → rule ≡ get_or rules i rule → ruled (drop i rules) about ≡ (if is_source rule.source about then or_later rule.target (ruled (drop (i + 1) rules) about) else ruled (drop (i + 1) rules) about)
+ruled-at rules i rule about lt is = ap (λ rs. ruled rs about) (drop_more rules i rule lt ∙ ap (λ r. r ∷ drop (i + 1) rules) (sym is))
+
+-- a rule on another source says nothing
+pub ruled-other : (last : Option Path) (rules : List Rule) (i : ℕ) (rule : Rule) (about : Source) → i < length rules → rule ≡ get_or rules i rule → is_source rule.source about ≡ false → ruled rules about ≡ said_before last (ruled (drop i rules) about) → ruled rules about ≡ said_before last (ruled (drop (i + 1) rules) about)
+ruled-other last rules i rule about lt is other h =
+    h ∙ ap (said_before last) (ruled-at rules i rule about lt is ∙ ap (λ b. if b then or_later rule.target (ruled (drop (i + 1) rules) about) else ruled (drop (i + 1) rules) about) other)
+
+-- a rule that names a file goes before those that named one before it
+pub ruled-named : (last : Option Path) (rules : List Rule) (i : ℕ) (rule : Rule) (about : Source) (f : Path) → i < length rules → rule ≡ get_or rules i rule → is_source rule.source about ≡ true → rule.target ≡ Some f → ruled rules about ≡ said_before last (ruled (drop i rules) about) → ruled rules about ≡ said_before (Some f) (ruled (drop (i + 1) rules) about)
+ruled-named last rules i rule about f lt is same target h =
+    let rest : ModuleRule = ruled (drop (i + 1) rules) about in
+    h
+    ∙ ap (said_before last) (ruled-at rules i rule about lt is ∙ ap (λ b. if b then or_later rule.target rest else rest) same ∙ ap (λ t. or_later t rest) target)
+    ∙ said_before-named last f rest
+
+-- a rule that hides its source decides
+pub ruled-hidden : (last : Option Path) (rules : List Rule) (i : ℕ) (rule : Rule) (about : Source) → i < length rules → rule ≡ get_or rules i rule → is_source rule.source about ≡ true → rule.target ≡ None → ruled rules about ≡ said_before last (ruled (drop i rules) about) → ruled rules about ≡ Ignored
+ruled-hidden last rules i rule about lt is same target h =
+    let rest : ModuleRule = ruled (drop (i + 1) rules) about in
+    h
+    ∙ ap (said_before last) (ruled-at rules i rule about lt is ∙ ap (λ b. if b then or_later rule.target rest else rest) same ∙ ap (λ t. or_later t rest) target)
+    ∙ said_before-hidden last
+
+-- at the end the last file that was named holds
+pub ruled-end : (last : Option Path) (rules : List Rule) (i : ℕ) (about : Source) → length rules ≤ i → ruled rules about ≡ said_before last (ruled (drop i rules) about) → ruled rules about ≡ said_before last NoRule
+ruled-end last rules i about le h = h ∙ ap (λ rs. said_before last (ruled rs about)) (drop_all i rules le)

@@ -1,7 +1,7 @@
 -- The rules that the `browser` map of a package.json gives, as bundlers read it: which files and modules something else stands for, and which are hidden.
-use Rattle.std.specs.Prelude.{ℕ, Bool, true, false, if◌then◌else◌, List, [], ◌∷◌, map, codes, bytes_eq, Option, Some, None, option_map, option_and_then, unwrap_or}
-use Rattle.serde_json.specs.Data.{Data, Members, no_members, member}
-use Rattle.serde_json.specs.Find.{get, as_str, as_bool, as_object}
+use Rattle.std.specs.Prelude.{ℕ, Bool, true, false, not, if◌then◌else◌, List, [], ◌∷◌, map, codes, bytes_eq, Option, Some, None, option_map, option_and_then, unwrap_or}
+use Rattle.serde_json.specs.Data.{Data, null, boolean, number, string, array, object, Members, no_members, member}
+use Rattle.serde_json.specs.Find.{get, as_str, as_object}
 use Rattle.sugar_path.specs.Path.{Path, text_of, join, up, parent, path_eq}
 use Rattle.tree_core.specs.Plan.{Plan, Done, ◌>>=◌, read, first_file}
 use Rattle.swc_loader.specs.declared.browser_rules.Source.{Source}
@@ -43,19 +43,26 @@ hides about = Some (record { source = about; target = None })
 abbrev pub stands_for : Source → Option Path → Option Rule
 stands_for about target = option_map (λ f. record { source = about; target = Some f }) target
 
--- The rule of an entry with a text or a truth value: `false` hides the source, `true` says nothing, and the place of a text stands for the source, whatever the text begins with.
-abbrev pub rule_by : Conventions → Path → List ℕ → Option (List ℕ) → Option Bool → Plan (Option Rule)
-rule_by c root key (Some text) truth = do
+abbrev pub is_false : Data → Bool
+is_false null = false
+is_false (boolean b) = not b
+is_false (number n) = false
+is_false (string s) = false
+is_false (array ds) = false
+is_false (object ms) = false
+
+-- The rule of an entry with a text, of one that is `false`, and of any other: the place of the text stands for the source, whatever the text begins with; `false` hides the source; `true` says nothing.
+abbrev pub rule_by : Conventions → Path → List ℕ → Option (List ℕ) → Bool → Plan (Option Rule)
+rule_by c root key (Some text) hidden = do
   about ← source_of c root key
   target ← place_behind c root text
   Done (stands_for about target)
-rule_by c root key None (Some false) = source_of c root key >>= λ about. Done (hides about)
-rule_by c root key None (Some true) = Done None
-rule_by c root key None None = Done None
+rule_by c root key None true = source_of c root key >>= λ about. Done (hides about)
+rule_by c root key None false = Done None
 
 -- the rule of an entry
 abbrev pub rule_of : Conventions → Path → List ℕ → Data → Plan (Option Rule)
-rule_of c root key value = rule_by c root key (as_str value) (as_bool value)
+rule_of c root key value = rule_by c root key (as_str value) (is_false value)
 
 abbrev pub with_rule : Option Rule → List Rule → List Rule
 with_rule None rules = rules

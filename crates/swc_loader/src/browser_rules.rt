@@ -3,7 +3,7 @@ ghost use Rattle.std.specs.Prelude.{◌≡◌, ◌++◌, ◌∷◌, [], IfOk, On
 ghost use Rattle.serde_json.specs.View.{view, members_view};
 ghost use Rattle.tree_core.specs.Asks.{Asks};
 ghost use Rattle.swc_loader.specs.BrowserRules as plan;
-ghost use Rattle.swc_loader.specs.BrowserRules.{is_source, ruled, place_behind, source_of, map_in, rule_of, rules_of};
+ghost use Rattle.swc_loader.specs.BrowserRules.{is_source, is_false, ruled, place_behind, source_of, map_in, rule_of, rules_of};
 
 use crate::entry::package_in;
 use crate::search::{joined, place_without_entry};
@@ -223,20 +223,25 @@ fn entry_rule<R: Asker>(
         (rule_of conventions.now root.now key.now (view value.now)) }
 {
     if let Some(text) = value.as_str() {
-        let source = source_of(alloc, tree, conventions, root, key)?;
+        let about = source_of(alloc, tree, conventions, root, key)?;
         let target = place_behind(alloc, tree, conventions, root, text)?;
-        return Ok(standing_for(source, target));
+        return Ok(standing_for(about, target));
     }
-    match value.as_bool() {
-        Some(false) => {
-            let source = source_of(alloc, tree, conventions, root, key)?;
-            Ok(Some(Rule {
-                source,
-                target: None,
-            }))
-        }
-        Some(true) | None => Ok(None),
+    if !is_false(value) {
+        return Ok(None);
     }
+    let source = source_of(alloc, tree, conventions, root, key)?;
+    Ok(Some(Rule {
+        source,
+        target: None,
+    }))
+}
+
+// Whether a value is `false`.
+fn is_false(value: &Value) -> bool
+    ensures { result ≡ is_false (view value.now) }
+{
+    matches!(value, Value::Bool(false))
 }
 
 // The rule by which a file stands for a source; without a file there is none.

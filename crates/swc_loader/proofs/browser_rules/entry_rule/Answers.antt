@@ -1,35 +1,36 @@
-use Rattle.std.proofs.Common.{◌≡◌, Some, None, option_map, true, false, refl, sym, ap, ◌∙◌}
-use Rattle.serde_json.specs.Find.{as_str, as_bool}
+use Rattle.std.proofs.Common.{◌≡◌, Some, None, option_map, refl, sym, ap, ◌∙◌}
+use Rattle.serde_json.specs.Find.{as_str}
 use Rattle.serde_json.specs.View.{view}
 use Rattle.tree_core.proofs.Asking.{asks_then, asks_done, asks_fails}
 use Rattle.swc_loader.proofs.BrowserRuling.{by_value, by_text}
 use Rattle.swc_loader.proofs.browser_rules.entry_rule.Goals as goal
-use Rattle.swc_loader.proofs.browser_rules.entry_rule.Goals.{in-Some-true, in-None}
 
-pub returns-in_err-source-in-Some : goal.returns-in_err-source-in-Some
-returns-in_err-source-in-Some g c =
+pub returns-in_err-about : goal.returns-in_err-about
+returns-in_err-about g c =
     let text : as_str (view c.args.value.now) ≡ Some c.in-Some.text.now = sym c.as_str.ensures ∙ ap (option_map (λ s. s.now)) c.in-Some.is in
-    by_text _ _ _ _ text (asks_fails _ _ c.from_residual.ensures.1 c.in_err-source-in-Some.ensures)
+    by_text c.args.conventions.now c.args.root.now c.args.key.now (view c.args.value.now) text (asks_fails _ _ c.from_residual.ensures.1 c.in_err-about.ensures)
 
-pub returns-in_err-target-in-Some : goal.returns-in_err-target-in-Some
-returns-in_err-target-in-Some g c =
+pub returns-in_err-target : goal.returns-in_err-target
+returns-in_err-target g c =
     let text : as_str (view c.args.value.now) ≡ Some c.in-Some.text.now = sym c.as_str.ensures ∙ ap (option_map (λ s. s.now)) c.in-Some.is in
-    by_text _ _ _ _ text (asks_then _ c.in_ok-source-in-Some.ensures (asks_fails _ _ c.from_residual-in_err-target-in-Some.ensures.1 c.in_err-target-in-Some.ensures))
+    by_text c.args.conventions.now c.args.root.now c.args.key.now (view c.args.value.now) text (asks_then _ c.in_ok-about.ensures (asks_fails _ _ c.from_residual-in_err-target.ensures.1 c.in_err-target.ensures))
 
 pub returns-in-Some : goal.returns-in-Some
 returns-in-Some g c =
     let text : as_str (view c.args.value.now) ≡ Some c.in-Some.text.now = sym c.as_str.ensures ∙ ap (option_map (λ s. s.now)) c.in-Some.is in
-    by_text _ _ _ _ text (asks_then _ c.in_ok-source-in-Some.ensures (asks_then _ c.in_ok-target-in-Some.ensures (asks_done c.standing_for.ensures)))
+    by_text c.args.conventions.now c.args.root.now c.args.key.now (view c.args.value.now) text (asks_then _ c.in_ok-about.ensures (asks_then _ c.in_ok-target.ensures (asks_done c.standing_for.ensures)))
 
-pub returns-in_err-source-in-Some-false : goal.returns-in_err-source-in-Some-false
-returns-in_err-source-in-Some-false g c =
+pub returns-then-not-is_false : goal.returns-then-not-is_false
+returns-then-not-is_false g c =
     let none : as_str (view c.args.value.now) ≡ None = sym c.as_str.ensures ∙ ap (option_map (λ s. s.now)) c.in_default.is in
-    by_value _ _ _ _ none (sym c.as_bool.ensures ∙ c.in-Some-false.is) (asks_fails _ _ c.from_residual-in_err-source-in-Some-false.ensures.1 c.in_err-source-in-Some-false.ensures)
+    by_value c.args.conventions.now c.args.root.now c.args.key.now (view c.args.value.now) none (sym c.is_false.ensures ∙ c.if-not-is_false.true) (asks_done refl)
 
-pub returns-in_ok-source-in-Some-false : goal.returns-in_ok-source-in-Some-false
-returns-in_ok-source-in-Some-false g c =
+pub returns-in_err-source : goal.returns-in_err-source
+returns-in_err-source g c =
     let none : as_str (view c.args.value.now) ≡ None = sym c.as_str.ensures ∙ ap (option_map (λ s. s.now)) c.in_default.is in
-    by_value _ _ _ _ none (sym c.as_bool.ensures ∙ c.in-Some-false.is) (asks_then _ c.in_ok-source-in-Some-false.ensures (asks_done refl))
+    by_value c.args.conventions.now c.args.root.now c.args.key.now (view c.args.value.now) none (sym c.is_false.ensures ∙ c.if-not-is_false.false) (asks_fails _ _ c.from_residual-in_err-source.ensures.1 c.in_err-source.ensures)
 
 pub returns : goal.returns
-returns g c = ?
+returns g c =
+    let none : as_str (view c.args.value.now) ≡ None = sym c.as_str.ensures ∙ ap (option_map (λ s. s.now)) c.in_default.is in
+    by_value c.args.conventions.now c.args.root.now c.args.key.now (view c.args.value.now) none (sym c.is_false.ensures ∙ c.if-not-is_false.false) (asks_then _ c.in_ok-source.ensures (asks_done refl))

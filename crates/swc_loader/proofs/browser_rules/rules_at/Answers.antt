@@ -1,10 +1,8 @@
-use Rattle.std.proofs.Common.{◌≡◌, refl, sym, ap, ◌∙◌, unwrap_or, option_map}
-use Rattle.serde_json.specs.Data.{Members, no_members}
-use Rattle.serde_json.specs.View.{view}
-use Rattle.std.specs.Prelude.{option_and_then}
+use Rattle.std.proofs.Common.{sym, ap, ◌∙◌, option_map}
+use Rattle.serde_json.specs.View.{view, members_view}
 use Rattle.tree_core.proofs.Asking.{asks_then, asks_done, asks_fails, asks_starved}
-use Rattle.swc_loader.specs.BrowserRules.{rules_at, map_in}
-use Rattle.swc_loader.proofs.BrowserRuling.{by_entries}
+use Rattle.swc_loader.specs.BrowserRules.{rules_at}
+use Rattle.swc_loader.proofs.BrowserRuling.{by_entries, entries-map, entries-no_map, entries-none}
 use Rattle.swc_loader.proofs.browser_rules.rules_at.Goals as goal
 
 pub returns-in_err-package_json : goal.returns-in_err-package_json
@@ -24,10 +22,20 @@ unfolding rules_at
 returns-in_default g c =
     let none = sym c.in_ok-package.ensures ∙ ap (option_map view) c.in_default.is in
     asks_then _ (rw c.in_ok-package_json.ensures at c.in_ok-content.ensures)
-    (by_entries _ _ _ (ap (λ d. unwrap_or (option_and_then map_in d) no_members) none) (asks_done c.new.ensures))
+    (by_entries c.args.conventions.now c.args.root.now c.in_ok-content.content (entries-none c.args.conventions.now c.in_ok-content.content none) (asks_done c.new.ensures))
 
-pub returns-in-Some : goal.returns-in-Some
-returns-in-Some g c = ?
+pub returns-in-Some-browser_map : goal.returns-in-Some-browser_map
+unfolding rules_at
+returns-in-Some-browser_map g c =
+    let is = sym c.in_ok-package.ensures ∙ ap (option_map view) c.in-Some.is in
+    let entries = sym c.browser_map.ensures ∙ ap (option_map (λ m. members_view m.now.entries)) c.in-Some-browser_map.is in
+    asks_then _ (rw c.in_ok-package_json.ensures at c.in_ok-content.ensures)
+    (by_entries c.args.conventions.now c.args.root.now c.in_ok-content.content (entries-map c.args.conventions.now c.in_ok-content.content is entries) c.each_rule.ensures)
 
-pub returns-in-None : goal.returns-in-None
-returns-in-None g c = ?
+pub returns : goal.returns
+unfolding rules_at
+returns g c =
+    let is = sym c.in_ok-package.ensures ∙ ap (option_map view) c.in-Some.is in
+    let none = sym c.browser_map.ensures ∙ ap (option_map (λ m. members_view m.now.entries)) c.in-None.is in
+    asks_then _ (rw c.in_ok-package_json.ensures at c.in_ok-content.ensures)
+    (by_entries c.args.conventions.now c.args.root.now c.in_ok-content.content (entries-no_map c.args.conventions.now c.in_ok-content.content is none) (asks_done c.new-in-None.ensures))

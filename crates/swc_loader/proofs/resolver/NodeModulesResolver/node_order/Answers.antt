@@ -31,18 +31,18 @@ returns-in_err-at g c =
 
 pub returns-in_err-resolution : goal.returns-in_err-resolution
 returns-in_err-resolution g c =
-    let at : c.in_ok-at.at ≡ clean c.args.self.now.cwd c.in-Real.importer.now = rw (c.cwd.ensures, c.as_str.ensures) at c.in_ok-at.ensures in
+    let at : c.in_ok-at.at ≡ clean c.args.self.now.cwd c.in-Real.importer = rw (c.cwd.ensures, c.as_str.ensures) at c.in_ok-at.ensures in
     asks_node _ _ _ (asks_as _ c.in_ok-file.ensures c.in_default.is
-    (rw c.in-Real.is (asks_fails_in resolving (by_target c.args.self.now c.in-Real.importer.now) _ c.from_residual-in_err-resolution.ensures.1 (rw at at c.in_err-resolution.ensures))))
+    (rw c.in-Real.is (asks_fails_in resolving (by_target c.args.self.now c.in-Real.importer) _ c.from_residual-in_err-resolution.ensures.1 (rw at at c.in_err-resolution.ensures))))
 
 pub returns-in-Decided : goal.returns-in-Decided
 returns-in-Decided g c =
-    let at : c.in_ok-at.at ≡ clean c.args.self.now.cwd c.in-Real.importer.now = rw (c.cwd.ensures, c.as_str.ensures) at c.in_ok-at.ensures in
+    let at : c.in_ok-at.at ≡ clean c.args.self.now.cwd c.in-Real.importer = rw (c.cwd.ensures, c.as_str.ensures) at c.in_ok-at.ensures in
     asks_node _ _ _ (asks_as _ c.in_ok-file.ensures c.in_default.is
-    (rw c.in-Real.is (asks_as (by_target c.args.self.now c.in-Real.importer.now) (rw at at c.in_ok-resolution.ensures) c.in-Decided.is (asks_done refl))))
+    (rw c.in-Real.is (asks_as (by_target c.args.self.now c.in-Real.importer) (rw at at c.in_ok-resolution.ensures) c.in-Decided.is (asks_done refl))))
 
 pub returns : goal.returns
 returns g c =
-    let at : c.in_ok-at.at ≡ clean c.args.self.now.cwd c.in-Real.importer.now = rw (c.cwd.ensures, c.as_str.ensures) at c.in_ok-at.ensures in
+    let at : c.in_ok-at.at ≡ clean c.args.self.now.cwd c.in-Real.importer = rw (c.cwd.ensures, c.as_str.ensures) at c.in_ok-at.ensures in
     asks_node _ _ _ (asks_as _ c.in_ok-file.ensures c.in_default.is
-    (rw c.in-Real.is (asks_as (by_target c.args.self.now c.in-Real.importer.now) (rw at at c.in_ok-resolution.ensures) c.in-Target.is (rw (c.as_str-in-Target.ensures, c.as_str-in-Target-2.ensures) at c.search.ensures))))
+    (rw c.in-Real.is (asks_as (by_target c.args.self.now c.in-Real.importer) (rw at at c.in_ok-resolution.ensures) c.in-Target.is (rw (c.as_str-in-Target.ensures, c.as_str-in-Target-2.ensures) at c.search.ensures))))
