@@ -74,12 +74,7 @@ impl Project {
         let node = if node_modules {
             NodeModulesResolver::new(cwd, target, alias, preserve_symlinks)
         } else {
-            NodeModulesResolver::without_node_modules(
-                cwd,
-                target,
-                alias,
-                preserve_symlinks,
-            )
+            NodeModulesResolver::without_node_modules(cwd, target, alias, preserve_symlinks)
         };
         Ok(Project { node })
     }

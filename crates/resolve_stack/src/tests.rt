@@ -1,5 +1,7 @@
 // What no clause says: that calls with ample memory answer.
-use crate::{FileName, Outcome, Project, ProjectError, Settings, TargetEnv, Verdict, resolve_import};
+use crate::{
+    FileName, Outcome, Project, ProjectError, Settings, TargetEnv, Verdict, resolve_import,
+};
 use indexmap::IndexMap;
 use std::alloc::Global;
 use std::test::Fail;

@@ -12,7 +12,7 @@ pub returns-in_err-path : goal.returns-in_err-path
 returns-in_err-path g c = stops_row _ _ _ c.from_residual.ensures.1 c.in_err-path.ensures
 
 pub returns-in-Ignored : goal.returns-in-Ignored
-returns-in-Ignored g c = after_row_as _ c.in_ok-path.ensures c.in-Ignored.is (end_row _)
+returns-in-Ignored g c = rw c.custom.ensures (after_row_as _ c.in_ok-path.ensures c.in-Ignored.is (end_row _))
 
 pub returns-in_err-file : goal.returns-in_err-file
 returns-in_err-file g c =
