@@ -31,7 +31,7 @@ struct Mapped {
     asked: &'static str,
 }
 
-const MAPS: [Mapped; 46] = [
+const MAPS: [Mapped; 47] = [
     // a file that another stands for
     Mapped {
         settings: Asked::Plain,
@@ -253,6 +253,18 @@ const MAPS: [Mapped; 46] = [
         came: "custom ../b.js",
         found: "",
         asked: " /w/p/package.json read:/w/p/package.json",
+    },
+    // so is a name that begins with a dot
+    Mapped {
+        settings: Asked::Plain,
+        alias: &[],
+        files: "/w/a.js",
+        packages: &[("/w/package.json", r#"{"browser": {".x": false}}"#)],
+        base: "/w/a.js",
+        specifier: ".x",
+        came: "custom .x",
+        found: "",
+        asked: " /w/package.json read:/w/package.json",
     },
     // a dot alone is the root as an open text, and means no entry
     Mapped {
