@@ -53,7 +53,13 @@ fn documents() -> &'static str {
 {"cwd":"w","target":"node","files":[{"path":"/a/b","text":""},{"path":"/a","text":""}],"requests":[]}|refused: bad-tree "/a" "/a/b"
 {"cwd":"w","target":"node","files":[{"path":"/a","text":""}],"requests":[]}|refused: bad-project SettingsFault cwd
 {"cwd":"/w","target":"node","preserve_symlinks":true,"node_modules":false,"alias":{"a":"b"},"ts":null,"lock":null,"files":[],"requests":[]}|
-{"cwd":"/w","target":"node","files":[{"path":"/a","text":""},{"path":"/a","hex":"0a"}],"requests":[]}|"#
+{"cwd":"/w","target":"node","files":[{"path":"/a","text":""},{"path":"/a","hex":"0a"}],"requests":[]}|
+{"cwd":"/w","preserve_symlinks":true,"files":[{"path":"/w/node_modules/q/package.json","text":"{\"main\":\"m.js\",\"browser\":\"b.js\"}"},{"path":"/w/node_modules/q/m.js","text":""},{"path":"/w/node_modules/q/b.js","text":""}],"requests":[{"from":"q","specifier":"q"}]}|{"answer":{"real":"node_modules/q/b.js"},"found":{"file":"/w/node_modules/q/b.js","via":null},"slug":null}
+{"cwd":"/w","target":"browser","files":[{"path":"/w/package.json","text":"{\"browser\":{\"fs\":false}}"}],"requests":[{"from":"/w/a.js","specifier":"fs"}]}|{"answer":{"custom":"fs"},"found":null,"slug":null}
+{"cwd":"/w","target":"browser","files":[{"path":"/w/a.js","text":""},{"path":"/w/package.json","text":"{\"browser\":{\"./b.js\":\"./gone.js\"}}"},{"path":"/w/b.js","text":""}],"requests":[{"from":"/w/a.js","specifier":"./b.js"}]}|{"answer":{"real":"/w/b.js"},"found":{"file":"/w/b.js","via":null},"slug":null}
+{"cwd":"/w","files":[{"path":"/w/.pnp.cjs","text":"hydrateRuntimeState(JSON.parse('{\"dependencyTreeRoots\":[],\"enableTopLevelFallback\":false,\"fallbackExclusionList\":[],\"fallbackPool\":[],\"packageRegistryData\":[[null,[[null,{\"packageLocation\":\"./\",\"packageDependencies\":[[\"q\",\"1\"]]}]]],[\"q\",[[\"1\",{\"packageLocation\":\"./q/\",\"packageDependencies\":[]}]]]]}'"},{"path":"/w/q/index.js","text":""},{"path":"/w/q/package.json","text":"{\"browser\":{\"./index.js\":\"../b.js\"}}"},{"path":"/w/b.js","text":""}],"requests":[{"from":"/w/a.js","specifier":"q"}]}|{"refused":{"file":"/w/b.js","kind":"Outside","location":"/w/q"}}
+{"cwd":"/w","preserve_symlinks":true,"files":[{"path":"/w/.pnp.cjs","text":"hydrateRuntimeState(JSON.parse('{\"dependencyTreeRoots\":[],\"enableTopLevelFallback\":false,\"fallbackExclusionList\":[],\"fallbackPool\":[],\"packageRegistryData\":[[null,[[null,{\"packageLocation\":\"./\",\"packageDependencies\":[[\"q\",\"1\"]]}]]],[\"q\",[[\"1\",{\"packageLocation\":\"./q/\",\"packageDependencies\":[]}]]]]}'"},{"path":"/w/q/index.js","text":""},{"path":"/w/q/package.json","text":"{\"browser\":{\"./index.js\":\"./c.js\"}}"},{"path":"/w/q/c.js","text":""}],"requests":[{"from":"/w/a.js","specifier":"q"}]}|{"answer":{"real":"q/c.js"},"found":{"file":"/w/q/c.js","via":{"location":"/w/q","name":"q","reference":"1"}},"slug":null}
+{"cwd":"/w","files":[{"path":"/w/.pnp.cjs","text":"hydrateRuntimeState(JSON.parse('{\"dependencyTreeRoots\":[],\"enableTopLevelFallback\":false,\"fallbackExclusionList\":[],\"fallbackPool\":[],\"packageRegistryData\":[[null,[[null,{\"packageLocation\":\"./\",\"packageDependencies\":[[\"q\",\"1\"]]}]]],[\"q\",[[\"1\",{\"packageLocation\":\"./q/\",\"packageDependencies\":[]}]]]]}'"},{"path":"/w/q/index.js","text":""},{"path":"/w/q/package.json","text":"{\"browser\":{\"./index.js\":false}}"}],"requests":[{"from":"/w/a.js","specifier":"q"}]}|{"answer":{"custom":"/w/q/index.js"},"found":null,"slug":null}"#
 }
 
 // The status of a run on some words.
@@ -116,7 +122,7 @@ fn each_cause_has_its_line(rt: HostRuntime) -> Result<(), Fail> {
         assert!(rt; came, "at {document}");
         tried = tried.saturating_add(1);
     }
-    assert_eq!(rt; tried, 29);
+    assert_eq!(rt; tried, 35);
     Ok(())
 }
 

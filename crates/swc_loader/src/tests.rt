@@ -1,4 +1,5 @@
 // Searches and entries, worked out by hand from docs/ORDER.md.
+mod browser_maps;
 mod node_orders;
 
 use crate::entry::entry_of;

@@ -414,7 +414,7 @@ fn resolver(
 }
 
 // A base: `-` is a source without a name, and what begins with `<` is no path.
-fn base_of(alloc: Global, base: &str) -> Result<FileName, Fail> {
+pub(super) fn base_of(alloc: Global, base: &str) -> Result<FileName, Fail> {
     if base == "-" {
         return Ok(FileName::Anon);
     }
@@ -434,7 +434,7 @@ fn name_told(alloc: Global, name: &FileName) -> Result<String, Fail> {
 }
 
 // What a request came to, in words.
-fn came_to(
+pub(super) fn came_to(
     alloc: Global,
     came: Result<Resolution, ResolveError<NodeRefusal>>,
 ) -> Result<String, Fail> {
