@@ -467,8 +467,8 @@ fn hostile_patterns_take_pattern_times_text(rt: HostRuntime) -> Result<(), Fail>
     let patterns = [
         format!(in alloc; "(?!b)c")?,
         format!(in alloc; "(a|a)*b")?,
-        format!(in alloc; "{}b", nested(alloc, "(?=", ")", 199)?)?,
-        format!(in alloc; "{}b", nested(alloc, "(?!", ")", 199)?)?,
+        format!(in alloc; "{}b", nested(alloc, "(?=", ")", 200)?)?,
+        format!(in alloc; "{}b", nested(alloc, "(?!", ")", 200)?)?,
         format!(in alloc; "{}b", nested(alloc, "(?:", ")+", 199)?)?,
         format!(in alloc; "{}b", nested(alloc, "(?:", "){1,}", 199)?)?,
         format!(in alloc; "{}b", nested(alloc, "(?:", "){2,}", 9)?)?,
@@ -478,6 +478,21 @@ fn hostile_patterns_take_pattern_times_text(rt: HostRuntime) -> Result<(), Fail>
     for pattern in &patterns {
         let parsed = Pattern::parse(alloc, pattern.as_str())?;
         assert!(rt; !parsed.is_found(alloc, text.as_str())?);
+    }
+    Ok(())
+}
+
+// Sixteen counts of two come to 65,536, and seventeen pass the limit.
+#[test]
+fn counts_nest_to_the_limit(rt: HostRuntime) -> Result<(), Fail> {
+    let alloc = rt.alloc();
+    let text = repeated(alloc, "a", 2_000)?;
+    let sixteen = Pattern::parse(alloc, nested(alloc, "(?:", "){2,}", 16)?.as_str())?;
+    assert!(rt; !sixteen.is_found(alloc, text.as_str())?);
+    for (times, place) in [(17, 133), (199, 679)] {
+        let deeper = nested(alloc, "(?:", "){2,}", times)?;
+        let fault = Pattern::parse(alloc, deeper.as_str()).err();
+        assert_eq!(rt; fault, Some(PatternError::CountTooLarge { place }));
     }
     Ok(())
 }
