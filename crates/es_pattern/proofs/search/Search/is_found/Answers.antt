@@ -1,4 +1,4 @@
-use Rattle.std.proofs.Common.{◌≡◌, ◌+◌, ◌-◌, ℕ, List, length, refl, ap, subst, ◌∙◌, arith}
+use Rattle.std.proofs.Common.{◌+◌, ◌-◌, ℕ, List, length, refl, ap, subst, ◌∙◌, arith}
 use Rattle.std.specs.Global.{Vec}
 use Rattle.std.proofs.lemmas.Bool.{false≢true}
 use Rattle.es_pattern.specs.declared.step.Step.{Step}
@@ -41,8 +41,15 @@ loop-place-preserved g c =
       within = omega (arith, next.1);
       arrives = passed.arrives;
       few = c.in_ok-pass.ensures.few (ap (λ (v : Vec ℕ). v.items) c.begin_at.ensures.next ∙ c.loop-place.invariant.arrives.none_next);
-      turned = omega (arith, c.in_ok-pass.ensures.turns, c.in_ok-begin_at.ensures.one, c.loop-place.invariant.few, c.loop-place.invariant.turned, untaken_most c.begin_at.new.alive.taken.words.items (length steps + 1),
-          one_place (length text + 1 - c.loop-place.from) (length text + 1 - (place + 1)) (length steps) (omega (arith, next.0, next.1)));
+      turned = omega (
+        arith,
+        c.in_ok-pass.ensures.turns,
+        c.in_ok-begin_at.ensures.one,
+        c.loop-place.invariant.few,
+        c.loop-place.invariant.turned,
+        untaken_most c.begin_at.new.alive.taken.words.items (length steps + 1),
+        one_place (length text + 1 - c.loop-place.from) (length text + 1 - (place + 1)) (length steps) (omega (arith, next.0, next.1)),
+      );
       none = none_further pieces text begins steps place arrived.1 (passed.ends_not c.if-branch.false);
     }
 
@@ -61,5 +68,12 @@ returns-then-branch-clause-turns g c =
     let text = c.args.self.now.text.now in
     let steps = c.args.self.now.program.now.steps.items in
     let next = rw c.in-Some.is at c.next_place.ensures in
-    omega (arith, c.in_ok-pass.ensures.turns, c.in_ok-begin_at.ensures.one, c.loop-place.invariant.few, c.loop-place.invariant.turned, untaken_most c.begin_at.new.alive.taken.words.items (length steps + 1),
-    one_place (length text + 1 - c.loop-place.from) (length text + 1 - (c.in-Some.place + 1)) (length steps) (omega (arith, next.0, next.1)))
+    omega (
+      arith,
+      c.in_ok-pass.ensures.turns,
+      c.in_ok-begin_at.ensures.one,
+      c.loop-place.invariant.few,
+      c.loop-place.invariant.turned,
+      untaken_most c.begin_at.new.alive.taken.words.items (length steps + 1),
+      one_place (length text + 1 - c.loop-place.from) (length text + 1 - (c.in-Some.place + 1)) (length steps) (omega (arith, next.0, next.1)),
+    )

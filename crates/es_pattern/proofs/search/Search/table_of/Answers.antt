@@ -68,8 +68,16 @@ loop-behind-preserved g c =
       room = omega (arith, c.go_on.ensures.room, c.settle.ensures.room, ap (λ (s : NumberSet). length s.words.items) c.in_ok-begin.ensures.taken, c.loop-behind.invariant.room);
       arrives = λ le. next_by Backward pieces text (in_text text) steps place (length text - (c.loop-behind.behind + 1)) c.settle.new.alive c.go_on.new.self (omega arith) c.go_on.ensures.waiting c.go_on.ensures.next c.go_on.ensures.taken settled;
       few = omega (arith, ap length same, none, most, c.in_ok-_asked.ensures.few, ap (λ (v : Vec ℕ). length v.items) c.go_on.ensures.waiting);
-      turned = omega (arith, ap length same, waits, most, c.in_ok-_asked.ensures.turns, c.loop-behind.invariant.few, c.loop-behind.invariant.turned,
-          one_place (length text + 1 - c.loop-behind.behind) (length text + 1 - (c.loop-behind.behind + 1)) (length steps) (omega arith));
+      turned = omega (
+        arith,
+        ap length same,
+        waits,
+        most,
+        c.in_ok-_asked.ensures.turns,
+        c.loop-behind.invariant.few,
+        c.loop-behind.invariant.turned,
+        one_place (length text + 1 - c.loop-behind.behind) (length text + 1 - (c.loop-behind.behind + 1)) (length steps) (omega arith),
+      );
       tabled = tabling_more pieces text c.args.number c.loop-behind.behind c.loop-behind.table.items c.push.new.self.items (differs c.args.negated c.contains.result) c.loop-behind.invariant.tabled
           (c.in_ok-push.ensures.items ∙ ap (λ (b : Bool). c.loop-behind.table.items ++ b ∷ []) (differs_is c.args.negated c.contains.result)) answer;
     }
