@@ -12,9 +12,9 @@ use Rattle.es_pattern.specs.Limits.{product_of, count_of, is_above_limit}
 use Rattle.es_pattern.specs.declared.mode.Open.{Open}
 use Rattle.es_pattern.specs.declared.mode.Open.TheVariants.{Group, Ahead}
 use Rattle.es_pattern.specs.declared.mode.Mode.{Mode}
-use Rattle.es_pattern.specs.declared.mode.Mode.TheVariants.{Term, Atom, Quantified, Zero, Braces, Escape, Paren, ParenQuestion, ClassOpen, ClassFirst, ClassNext, ClassLast}
+use Rattle.es_pattern.specs.declared.mode.Mode.TheVariants.{Term, Atom, Quantified, Zero, Braces, Escape, Paren, ParenQuestion, ClassOpen, ClassFirst, ClassNext, ClassNextDash, ClassNextDashes}
 use Rattle.es_pattern.specs.declared.mode.Mode.TheVariants as modes
-use Rattle.es_pattern.specs.Reading.{Reading, asserted, joined, leaf, chosen, with_atom, flushed_chars, charged, with_term, top_product, products_below, closed_by, quantified, marked, term_begun, plain, with_set, with_char, settled, opened, at, greatest_from, scalar, hex_to, hex_by, flushed, bounds_of, overcounts, overcounts_in, overcounts_at, in_braces_end, is_inner, in_braces, ranged, class_end, item, next_item, after_char, class_char, after_dash, class_char_if, can_end, class_zero, with_ranges, class_set, class_hex_to, class_hex_by, step_in, step, start, reads}
+use Rattle.es_pattern.specs.Reading.{Reading, asserted, joined, leaf, chosen, with_atom, flushed_chars, charged, with_term, top_product, products_below, closed_by, quantified, marked, term_begun, plain, with_set, with_char, settled, opened, at, greatest_from, scalar, hex_to, hex_by, flushed, bounds_of, overcounts, overcounts_in, overcounts_at, in_braces_end, is_inner, in_braces, ranged, class_end, item, next_item, after_char, class_char, range_end, after_dash, next_dash, next_dashes, class_char_if, can_end, class_zero, with_ranges, class_set, class_hex_to, class_hex_by, step_in, step, start, reads}
 use Rattle.es_pattern.specs.Parsing.{PassesBefore}
 use Rattle.es_pattern.proofs.BracesRead.{inner-append}
 use Rattle.es_pattern.proofs.Sound.{if_else, inner_is, scalar_is, hex_guard}
@@ -170,12 +170,20 @@ class_char_sane : (first : Option ℕ) (c : ℕ) (r s : Reading) → class_char 
 class_char_sane None c r s e = sane_at _ s e tt
 class_char_sane (Some first) c r s e = if_else (nat_le first c) _ _ s (IsSane s) e (λ y x. sane_at _ s x tt) (λ n x. no_some s x)
 
-after_dash_sane : (first c : ℕ) (r s : Reading) → after_dash first c r ≡ Some s → IsSane s
-after_dash_sane first c r s e =
+range_end_sane : (first c : ℕ) (r s : Reading) → range_end first c r ≡ Some s → IsSane s
+range_end_sane first c r s e =
     let P : Type 0 = IsSane s in
-    if_else (c == 93) _ _ s P e (λ y x. sane_at _ s x tt) (λ n e2.
-    if_else (c == 92) _ _ s P e2 (λ y x. if_else (nat_le first 0xffff) _ _ s P x (λ z g. sane_at (at (modes.ClassEscape (Some first)) r) s g (can_end_is (Some first) 0xffff z)) (λ z g. no_some s g)) (λ n e3.
-    if_else (c == 45) _ _ s P e3 (λ y x. if_else (nat_le first 45) _ _ s P x (λ z g. sane_at _ s g tt) (λ z g. no_some s g)) (λ n x. class_char_sane (Some first) c r s x)))
+    if_else (c == 92) _ _ s P e (λ y x. if_else (nat_le first 0xffff) _ _ s P x (λ z g. sane_at (at (modes.ClassEscape (Some first)) r) s g (can_end_is (Some first) 0xffff z)) (λ z g. no_some s g)) (λ n e2.
+    if_else (c == 45) _ _ s P e2 (λ y x. if_else (nat_le first 45) _ _ s P x (λ z g. sane_at _ s g tt) (λ z g. no_some s g)) (λ n x. class_char_sane (Some first) c r s x))
+
+after_dash_sane : (first c : ℕ) (r s : Reading) → after_dash first c r ≡ Some s → IsSane s
+after_dash_sane first c r s e = if_else (c == 93) _ _ s (IsSane s) e (λ y x. sane_at _ s x tt) (λ n x. range_end_sane first c r s x)
+
+next_dash_sane : (c : ℕ) (r s : Reading) → next_dash c r ≡ Some s → IsSane s
+next_dash_sane c r s e = if_else (c == 93) _ _ s (IsSane s) e (λ y x. sane_at _ s x tt) (λ n e2. if_else (c == 45) _ _ s (IsSane s) e2 (λ y x. sane_at _ s x tt) (λ n x. no_some s x))
+
+next_dashes_sane : (c : ℕ) (r s : Reading) → next_dashes c r ≡ Some s → IsSane s
+next_dashes_sane c r s e = if_else (c == 93) _ _ s (IsSane s) e (λ y x. no_some s x) (λ n x. range_end_sane 45 c r s x)
 
 class_escape_sane : (first : Option ℕ) (c : ℕ) (r s : Reading) → CanEnd first 0xffff → class_set (set_of c) first c r ≡ Some s → IsSane s
 class_escape_sane first c r s can e = by_set (set_of c) first can e
@@ -235,7 +243,8 @@ step_sane ParenQuestion c r s m h e =
 step_sane ClassOpen c r s m h e = if_else (c == 94) _ _ s (IsSane s) e (λ y x. sane_at _ s x tt) (λ n x. item_sane c r s x)
 step_sane ClassFirst c r s m h e = item_sane c r s e
 step_sane ClassNext c r s m h e = next_item_sane c r s e
-step_sane ClassLast c r s m h e = if_else (c == 93) _ _ s (IsSane s) e (λ y x. sane_at _ s x tt) (λ n x. no_some s x)
+step_sane ClassNextDash c r s m h e = next_dash_sane c r s e
+step_sane ClassNextDashes c r s m h e = next_dashes_sane c r s e
 step_sane (modes.ClassChar first) c r s m h e = after_char_sane first c r s e
 step_sane (modes.ClassDash first) c r s m h e = after_dash_sane first c r s e
 step_sane (modes.ClassZero true) c r s m h e = if_else (is_ascii_digit c) _ _ s (IsSane s) e (λ y x. no_some s x) (λ n x. next_item_sane c r s x)
@@ -459,7 +468,7 @@ item_measured c r s h e =
     if_else (c == 92) _ _ s (IsMeasured s) e2 (λ y x. measured_at (at (modes.ClassEscape None) r) s x h) (λ n x. measured_at (at (modes.ClassChar c) r) s x h))
 
 next_item_measured : (c : ℕ) (r s : Reading) → MeasuredBase false r → next_item c r ≡ Some s → IsMeasured s
-next_item_measured c r s h e = if_else (c == 45) _ _ s (IsMeasured s) e (λ y x. measured_at (at ClassLast (ranged 45 45 r)) s x h) (λ n x. item_measured c r s h x)
+next_item_measured c r s h e = if_else (c == 45) _ _ s (IsMeasured s) e (λ y x. measured_at (at ClassNextDash r) s x h) (λ n x. item_measured c r s h x)
 
 after_char_measured : (first c : ℕ) (r s : Reading) → MeasuredBase false r → after_char first c r ≡ Some s → IsMeasured s
 after_char_measured first c r s h e = if_else (c == 45) _ _ s (IsMeasured s) e (λ y x. measured_at (at (modes.ClassDash first) r) s x h) (λ n x. item_measured c (ranged first first r) s h x)
@@ -468,12 +477,23 @@ class_char_measured : (first : Option ℕ) (c : ℕ) (r s : Reading) → Measure
 class_char_measured None c r s h e = measured_at (at (modes.ClassChar c) r) s e h
 class_char_measured (Some first) c r s h e = if_else (nat_le first c) _ _ s (IsMeasured s) e (λ y x. measured_at (at ClassNext (ranged first c r)) s x h) (λ n x. no_some s x)
 
+range_end_measured : (first c : ℕ) (r s : Reading) → MeasuredBase false r → range_end first c r ≡ Some s → IsMeasured s
+range_end_measured first c r s h e =
+    let P : Type 0 = IsMeasured s in
+    if_else (c == 92) _ _ s P e (λ y x. if_else (nat_le first 0xffff) _ _ s P x (λ z g. measured_at (at (modes.ClassEscape (Some first)) r) s g h) (λ z g. no_some s g)) (λ n e2.
+    if_else (c == 45) _ _ s P e2 (λ y x. if_else (nat_le first 45) _ _ s P x (λ z g. measured_at (at ClassNext (ranged first 45 r)) s g h) (λ z g. no_some s g)) (λ n x. class_char_measured (Some first) c r s h x))
+
 after_dash_measured : (first c : ℕ) (r s : Reading) → MeasuredBase false r → after_dash first c r ≡ Some s → IsMeasured s
 after_dash_measured first c r s h e =
-    let P : Type 0 = IsMeasured s in
-    if_else (c == 93) _ _ s P e (λ y x. class_end_measured (ranged 45 45 (ranged first first r)) s h x) (λ n e2.
-    if_else (c == 92) _ _ s P e2 (λ y x. if_else (nat_le first 0xffff) _ _ s P x (λ z g. measured_at (at (modes.ClassEscape (Some first)) r) s g h) (λ z g. no_some s g)) (λ n e3.
-    if_else (c == 45) _ _ s P e3 (λ y x. if_else (nat_le first 45) _ _ s P x (λ z g. measured_at (at ClassNext (ranged first 45 r)) s g h) (λ z g. no_some s g)) (λ n x. class_char_measured (Some first) c r s h x)))
+    if_else (c == 93) _ _ s (IsMeasured s) e (λ y x. class_end_measured (ranged 45 45 (ranged first first r)) s h x) (λ n x. range_end_measured first c r s h x)
+
+next_dash_measured : (c : ℕ) (r s : Reading) → MeasuredBase false r → next_dash c r ≡ Some s → IsMeasured s
+next_dash_measured c r s h e =
+    if_else (c == 93) _ _ s (IsMeasured s) e (λ y x. class_end_measured (ranged 45 45 r) s h x) (λ n e2.
+    if_else (c == 45) _ _ s (IsMeasured s) e2 (λ y x. measured_at (at ClassNextDashes r) s x h) (λ n x. no_some s x))
+
+next_dashes_measured : (c : ℕ) (r s : Reading) → MeasuredBase false r → next_dashes c r ≡ Some s → IsMeasured s
+next_dashes_measured c r s h e = if_else (c == 93) _ _ s (IsMeasured s) e (λ y x. no_some s x) (λ n x. range_end_measured 45 c r s h x)
 
 class_zero_measured : (first : Option ℕ) (r s : Reading) → MeasuredBase false r → class_zero first r ≡ Some s → IsMeasured s
 class_zero_measured None r s h e = measured_at (at (modes.ClassZero false) r) s e h
@@ -524,7 +544,8 @@ step_measured ClassOpen c r s m h within e =
     if_else (c == 94) _ _ s (IsMeasured s) e (λ y x. measured_at (at ClassFirst (record r { negated = true })) s x h) (λ n x. item_measured c r s h x)
 step_measured ClassFirst c r s m h within e = item_measured c r s h e
 step_measured ClassNext c r s m h within e = next_item_measured c r s h e
-step_measured ClassLast c r s m h within e = if_else (c == 93) _ _ s (IsMeasured s) e (λ y x. class_end_measured r s h x) (λ n x. no_some s x)
+step_measured ClassNextDash c r s m h within e = next_dash_measured c r s h e
+step_measured ClassNextDashes c r s m h within e = next_dashes_measured c r s h e
 step_measured (modes.ClassChar first) c r s m h within e = after_char_measured first c r s h e
 step_measured (modes.ClassDash first) c r s m h within e = after_dash_measured first c r s h e
 step_measured (modes.ClassZero true) c r s m h within e = if_else (is_ascii_digit c) _ _ s (IsMeasured s) e (λ y x. no_some s x) (λ n x. next_item_measured c r s h x)

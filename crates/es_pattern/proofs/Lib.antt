@@ -13,7 +13,8 @@ pub mod Parsings
 pub mod Sound
 pub mod BracesRead
 pub mod Sane
-pub mod Viable
+pub mod TurnCounts
+mod Viable
 pub mod Above
 pub mod Beginnings
 pub mod FirstFaults

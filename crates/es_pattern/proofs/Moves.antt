@@ -13,9 +13,9 @@ use Rattle.es_pattern.specs.Refusals.{may_escape, may_open, pending}
 use Rattle.es_pattern.specs.declared.mode.Open.{Open}
 use Rattle.es_pattern.specs.declared.mode.Open.TheVariants.{Group, Ahead}
 use Rattle.es_pattern.specs.declared.mode.Mode.{Mode}
-use Rattle.es_pattern.specs.declared.mode.Mode.TheVariants.{Term, Atom, Quantified, Zero, Braces, Escape, Paren, ParenQuestion, ClassOpen, ClassFirst, ClassNext, ClassLast}
+use Rattle.es_pattern.specs.declared.mode.Mode.TheVariants.{Term, Atom, Quantified, Zero, Braces, Escape, Paren, ParenQuestion, ClassOpen, ClassFirst, ClassNext, ClassNextDash, ClassNextDashes}
 use Rattle.es_pattern.specs.declared.mode.Mode.TheVariants as modes
-use Rattle.es_pattern.specs.Reading.{Reading, charged, with_term, top_product, products_below, closed_by, quantified, marked, term_begun, plain, with_set, with_char, asserted, joined, settled, with_atom, opened, at, leaf, chosen, greatest_from, hex_to, hex_by, flushed, flushed_chars, bounds_of, in_braces_end, is_inner, in_braces, ranged, class_end, item, next_item, after_char, class_char, after_dash, class_char_if, can_end, class_zero, with_ranges, class_set, class_hex_to, class_hex_by, step_in, step}
+use Rattle.es_pattern.specs.Reading.{Reading, charged, with_term, top_product, products_below, closed_by, quantified, marked, term_begun, plain, with_set, with_char, asserted, joined, settled, with_atom, opened, at, leaf, chosen, greatest_from, hex_to, hex_by, flushed, flushed_chars, bounds_of, in_braces_end, is_inner, in_braces, ranged, class_end, item, next_item, after_char, class_char, range_end, after_dash, next_dash, next_dashes, class_char_if, can_end, class_zero, with_ranges, class_set, class_hex_to, class_hex_by, step_in, step}
 use Rattle.es_pattern.proofs.Sound.{if_else, hex_guard, inner_is}
 use Rattle.es_pattern.proofs.NumberTests.{no_some}
 
@@ -44,7 +44,8 @@ kind_in ParenQuestion braces = in_question
 kind_in ClassOpen braces = class_front
 kind_in ClassFirst braces = inside
 kind_in ClassNext braces = inside
-kind_in ClassLast braces = inside
+kind_in ClassNextDash braces = inside
+kind_in ClassNextDashes braces = inside
 kind_in (modes.ClassChar first) braces = inside
 kind_in (modes.ClassDash first) braces = inside
 kind_in (modes.ClassZero is_last) braces = inside
@@ -274,7 +275,7 @@ member_at c n e h = subst (λ (x : ℕ). (x == 93 || x == 92) ≡ false) (sym (e
 next_item_moves : (c : ℕ) (r s : Reading) → next_item c r ≡ Some s → InsideMoves (length r.groups) c (kind s) (length s.groups)
 next_item_moves c r s e =
     let P : Type 0 = InsideMoves (length r.groups) c (kind s) (length s.groups) in
-    if_else (c == 45) _ _ s P e (λ y x. moved (InsideMoves (length r.groups) c) (at ClassLast (ranged 45 45 r)) s x (by_member (member_at c 45 y refl) refl refl)) (λ n45 x. item_moves c r s x)
+    if_else (c == 45) _ _ s P e (λ y x. moved (InsideMoves (length r.groups) c) (at ClassNextDash r) s x (by_member (member_at c 45 y refl) refl refl)) (λ n45 x. item_moves c r s x)
 
 after_char_moves : (first c : ℕ) (r s : Reading) → after_char first c r ≡ Some s → InsideMoves (length r.groups) c (kind s) (length s.groups)
 after_char_moves first c r s e =
@@ -286,14 +287,29 @@ class_char_inside : (P : Kind → ℕ → Type 0) (first : Option ℕ) (c : ℕ)
 class_char_inside P None c r s e h = moved P (at (modes.ClassChar c) r) s e h
 class_char_inside P (Some first) c r s e h = if_else (nat_le first c) _ _ s (P (kind s) (length s.groups)) e (λ y x. moved P (at ClassNext (ranged first c r)) s x h) (λ n x. no_some s x)
 
-after_dash_moves : (first c : ℕ) (r s : Reading) → after_dash first c r ≡ Some s → InsideMoves (length r.groups) c (kind s) (length s.groups)
-after_dash_moves first c r s e =
+range_end_moves : (first c : ℕ) (r s : Reading) → c == 93 ≡ false → range_end first c r ≡ Some s → InsideMoves (length r.groups) c (kind s) (length s.groups)
+range_end_moves first c r s n93 e =
     let P : Type 0 = InsideMoves (length r.groups) c (kind s) (length s.groups) in
     let M : Kind → ℕ → Type 0 = InsideMoves (length r.groups) c in
-    if_else (c == 93) _ _ s P e (λ y x. moved M (class_end (ranged 45 45 (ranged first first r))) s x (by_end (eqb-true c 93 y) refl refl)) (λ n93 e2.
-    if_else (c == 92) _ _ s P e2 (λ y x. if_else (nat_le first 0xffff) _ _ s P x (λ le z. moved M (at (modes.ClassEscape (Some first)) r) s z (by_class_backslash (eqb-true c 92 y) refl refl)) (λ n z. no_some s z)) (λ n92 e3.
-    if_else (c == 45) _ _ s P e3 (λ y x. if_else (nat_le first 45) _ _ s P x (λ le z. moved M (at ClassNext (ranged first 45 r)) s z (by_member (member_at c 45 y refl) refl refl)) (λ n z. no_some s z)) (λ n45 x.
-    class_char_inside M (Some first) c r s x (by_member (rw (n93, n92) refl) refl refl))))
+    if_else (c == 92) _ _ s P e (λ y x. if_else (nat_le first 0xffff) _ _ s P x (λ le z. moved M (at (modes.ClassEscape (Some first)) r) s z (by_class_backslash (eqb-true c 92 y) refl refl)) (λ n z. no_some s z)) (λ n92 e2.
+    if_else (c == 45) _ _ s P e2 (λ y x. if_else (nat_le first 45) _ _ s P x (λ le z. moved M (at ClassNext (ranged first 45 r)) s z (by_member (member_at c 45 y refl) refl refl)) (λ n z. no_some s z)) (λ n45 x.
+    class_char_inside M (Some first) c r s x (by_member (rw (n93, n92) refl) refl refl)))
+
+after_dash_moves : (first c : ℕ) (r s : Reading) → after_dash first c r ≡ Some s → InsideMoves (length r.groups) c (kind s) (length s.groups)
+after_dash_moves first c r s e =
+    if_else (c == 93) _ _ s (InsideMoves (length r.groups) c (kind s) (length s.groups)) e
+    (λ y x. moved (InsideMoves (length r.groups) c) (class_end (ranged 45 45 (ranged first first r))) s x (by_end (eqb-true c 93 y) refl refl)) (λ n x. range_end_moves first c r s n x)
+
+next_dash_moves : (c : ℕ) (r s : Reading) → next_dash c r ≡ Some s → InsideMoves (length r.groups) c (kind s) (length s.groups)
+next_dash_moves c r s e =
+    let P : Type 0 = InsideMoves (length r.groups) c (kind s) (length s.groups) in
+    let M : Kind → ℕ → Type 0 = InsideMoves (length r.groups) c in
+    if_else (c == 93) _ _ s P e (λ y x. moved M (class_end (ranged 45 45 r)) s x (by_end (eqb-true c 93 y) refl refl)) (λ n93 e2.
+    if_else (c == 45) _ _ s P e2 (λ y x. moved M (at ClassNextDashes r) s x (by_member (member_at c 45 y refl) refl refl)) (λ n45 x. no_some s x))
+
+next_dashes_moves : (c : ℕ) (r s : Reading) → next_dashes c r ≡ Some s → InsideMoves (length r.groups) c (kind s) (length s.groups)
+next_dashes_moves c r s e =
+    if_else (c == 93) _ _ s (InsideMoves (length r.groups) c (kind s) (length s.groups)) e (λ y x. no_some s x) (λ n x. range_end_moves 45 c r s n x)
 
 -- behind a backslash in a class
 class_escape_moves : (first : Option ℕ) (c : ℕ) (r s : Reading) → class_set (set_of c) first c r ≡ Some s → EscapeMoves true (length r.groups) c (kind s) (length s.groups)
@@ -376,8 +392,8 @@ step_moves_in ClassOpen c r s m e = if_else (c == 94) _ _ s (FrontMoves (length 
     (λ n x. by_first (eqb-false c 94 n) (item_moves c r s x))
 step_moves_in ClassFirst c r s m e = item_moves c r s e
 step_moves_in ClassNext c r s m e = next_item_moves c r s e
-step_moves_in ClassLast c r s m e = if_else (c == 93) _ _ s (InsideMoves (length r.groups) c (kind s) (length s.groups)) e
-    (λ y x. moved (InsideMoves (length r.groups) c) (class_end r) s x (by_end (eqb-true c 93 y) refl refl)) (λ n x. no_some s x)
+step_moves_in ClassNextDash c r s m e = next_dash_moves c r s e
+step_moves_in ClassNextDashes c r s m e = next_dashes_moves c r s e
 step_moves_in (modes.ClassChar first) c r s m e = after_char_moves first c r s e
 step_moves_in (modes.ClassDash first) c r s m e = after_dash_moves first c r s e
 step_moves_in (modes.ClassZero true) c r s m e = if_else (is_ascii_digit c) _ _ s (InsideMoves (length r.groups) c (kind s) (length s.groups)) e (λ y x. no_some s x) (λ n x. next_item_moves c r s x)
@@ -434,7 +450,8 @@ modes_agree ParenQuestion braces = (refl, refl, refl)
 modes_agree ClassOpen braces = (refl, refl, refl)
 modes_agree ClassFirst braces = (refl, refl, refl)
 modes_agree ClassNext braces = (refl, refl, refl)
-modes_agree ClassLast braces = (refl, refl, refl)
+modes_agree ClassNextDash braces = (refl, refl, refl)
+modes_agree ClassNextDashes braces = (refl, refl, refl)
 modes_agree (modes.ClassChar first) braces = (refl, refl, refl)
 modes_agree (modes.ClassDash first) braces = (refl, refl, refl)
 modes_agree (modes.ClassZero is_last) braces = (refl, refl, refl)

@@ -13,7 +13,7 @@ use Rattle.es_pattern.specs.Forms.{begins_unsupported_escape, begins_named_group
 use Rattle.es_pattern.specs.Faults.{IsUnsupportedAt, IsTooDeepAt, IsQuantifierAt}
 use Rattle.es_pattern.specs.declared.mode.Open.TheVariants.{Group}
 use Rattle.es_pattern.specs.declared.mode.Mode.{Mode}
-use Rattle.es_pattern.specs.declared.mode.Mode.TheVariants.{Term, Atom, Quantified, Zero, Braces, Escape, Paren, ParenQuestion, ClassOpen, ClassFirst, ClassNext, ClassLast}
+use Rattle.es_pattern.specs.declared.mode.Mode.TheVariants.{Term, Atom, Quantified, Zero, Braces, Escape, Paren, ParenQuestion, ClassOpen, ClassFirst, ClassNext, ClassNextDash, ClassNextDashes}
 use Rattle.es_pattern.specs.declared.mode.Mode.TheVariants as modes
 use Rattle.es_pattern.specs.Reading.{Reading, step, step_in, in_braces_end, bounds_of, plain, reads, start, at, flushed, opened, is_inner}
 use Rattle.es_pattern.proofs.BracesRead.{goes_on}
@@ -390,7 +390,8 @@ brace_step ParenQuestion r at_m h = absurd (false≢true h)
 brace_step ClassOpen r at_m h = absurd (false≢true h)
 brace_step ClassFirst r at_m h = absurd (false≢true h)
 brace_step ClassNext r at_m h = absurd (false≢true h)
-brace_step ClassLast r at_m h = absurd (false≢true h)
+brace_step ClassNextDash r at_m h = absurd (false≢true h)
+brace_step ClassNextDashes r at_m h = absurd (false≢true h)
 brace_step (modes.ClassChar first) r at_m h = absurd (false≢true h)
 brace_step (modes.ClassDash first) r at_m h = absurd (false≢true h)
 brace_step (modes.ClassZero is_last) r at_m h = absurd (false≢true h)

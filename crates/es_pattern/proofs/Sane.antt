@@ -7,7 +7,7 @@ use Rattle.es_pattern.specs.Escapes.{is_surrogate}
 use Rattle.es_pattern.specs.Limits.{product_of}
 use Rattle.es_pattern.specs.declared.mode.Open.{Open}
 use Rattle.es_pattern.specs.declared.mode.Mode.{Mode}
-use Rattle.es_pattern.specs.declared.mode.Mode.TheVariants.{Term, Atom, Quantified, Zero, Braces, Escape, Paren, ParenQuestion, ClassOpen, ClassFirst, ClassNext, ClassLast}
+use Rattle.es_pattern.specs.declared.mode.Mode.TheVariants.{Term, Atom, Quantified, Zero, Braces, Escape, Paren, ParenQuestion, ClassOpen, ClassFirst, ClassNext, ClassNextDash, ClassNextDashes}
 use Rattle.es_pattern.specs.declared.mode.Mode.TheVariants as modes
 use Rattle.es_pattern.specs.Reading.{Reading, top_product, products_below}
 use Rattle.es_pattern.proofs.BracesRead.{AllInner}
@@ -43,7 +43,8 @@ IsSaneIn ParenQuestion r = Unit {0}
 IsSaneIn ClassOpen r = Unit {0}
 IsSaneIn ClassFirst r = Unit {0}
 IsSaneIn ClassNext r = Unit {0}
-IsSaneIn ClassLast r = Unit {0}
+IsSaneIn ClassNextDash r = Unit {0}
+IsSaneIn ClassNextDashes r = Unit {0}
 IsSaneIn (modes.ClassChar first) r = Unit {0}
 IsSaneIn (modes.ClassDash first) r = Unit {0}
 IsSaneIn (modes.ClassZero is_last) r = Unit {0}
@@ -80,7 +81,8 @@ after_atom_in ParenQuestion = false
 after_atom_in ClassOpen = false
 after_atom_in ClassFirst = false
 after_atom_in ClassNext = false
-after_atom_in ClassLast = false
+after_atom_in ClassNextDash = false
+after_atom_in ClassNextDashes = false
 after_atom_in (modes.ClassChar first) = false
 after_atom_in (modes.ClassDash first) = false
 after_atom_in (modes.ClassZero is_last) = false

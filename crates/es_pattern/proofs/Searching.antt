@@ -270,7 +270,11 @@ the_part pieces lookaheads number negated steps parts at there =
     let p = parts number negated at in
     ap (λ (v : Vec Step). v.items) (same_Some steps p.0 (sym there ∙ p.1)) ∙ p.2
 
--- what isn't missing is there
+-- what is missing isn't there, and what isn't missing is
+pub missing : {X : Type 0} (o : Option X) → is_some o ≡ false → o ≡ None
+missing None h = refl
+missing (Some x) h = absurd (false≢true (sym h))
+
 pub not_missing : {X : Type 0} (o : Option X) → is_some o ≡ true → (x : X) × (o ≡ Some x)
 not_missing None h = absurd (false≢true h)
 not_missing (Some x) h = (x, refl)

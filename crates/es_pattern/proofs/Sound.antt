@@ -7,15 +7,15 @@ use Rattle.std.proofs.lemmas.Bool.{false≢true, eqb-true, eqb-false, leb-true}
 use Rattle.es_pattern.specs.Tree.{Tree, CharRange, nothing, one_of, text_start, text_end, word_boundary, sequence, choice, repetition, lookahead}
 use Rattle.es_pattern.specs.Pieces.{top, below}
 use Rattle.es_pattern.specs.Escapes.{range, is_ascii_digit, set_of, escaped, hex_value, is_surrogate}
-use Rattle.es_pattern.specs.Grammar.{never, char, any, Mark, BeginsBraces, BeginsDigit, BeginsCaret, ClassChar, FirstChar, Items, alternatives, term, atom, Reads, IsPattern, is_plain, Hex}
-use Rattle.es_pattern.specs.Grammar.{star_mark, plus_mark, question_mark, braces_mark, named, zero_char, two_digits, four_digits, itself, class_escape, backspace, other_char, first_dash, no_item, last_dash, one_char, one_set, from_to, to_dash}
+use Rattle.es_pattern.specs.Grammar.{never, char, any, Mark, BeginsBraces, BeginsDigit, BeginsCaret, ClassChar, Before, FirstChar, RangeEnd, Items, alternatives, term, atom, Reads, IsPattern, is_plain, Hex}
+use Rattle.es_pattern.specs.Grammar.{star_mark, plus_mark, question_mark, braces_mark, named, zero_char, two_digits, four_digits, itself, class_escape, backspace, bracket, character, range_or_set, other_char, first_dash, start_char, start_dash, end_char, end_dash, no_item, last_dash, one_char, one_set, from_to}
 use Rattle.es_pattern.specs.Grammar.{ends, bar, followed, at_start, at_end, at_boundary, at_no_boundary, ahead, not_ahead, once, greedy, lazy, dot, group, bare_group, class, negated_class, set_escape, char_escape, ordinary}
 use Rattle.es_pattern.specs.declared.mode.Open.{Open}
 use Rattle.es_pattern.specs.declared.mode.Open.TheVariants.{Group, Ahead}
 use Rattle.es_pattern.specs.declared.mode.Mode.{Mode}
-use Rattle.es_pattern.specs.declared.mode.Mode.TheVariants.{Term, Atom, Quantified, Zero, Braces, Escape, Paren, ParenQuestion, ClassOpen, ClassFirst, ClassNext, ClassLast}
+use Rattle.es_pattern.specs.declared.mode.Mode.TheVariants.{Term, Atom, Quantified, Zero, Braces, Escape, Paren, ParenQuestion, ClassOpen, ClassFirst, ClassNext, ClassNextDash, ClassNextDashes}
 use Rattle.es_pattern.specs.declared.mode.Mode.TheVariants as modes
-use Rattle.es_pattern.specs.Reading.{Reading, charged, with_term, top_product, products_below, closed_by, quantified, marked, term_begun, plain, with_set, with_char, asserted, joined, settled, with_atom, opened, at, leaf, chosen, greatest_from, scalar, hex_to, hex_by, flushed, flushed_chars, bounds_of, in_braces_end, is_inner, may_be_comma, in_braces, ranged, class_end, item, next_item, after_char, class_char, after_dash, class_char_if, can_end, class_zero, with_ranges, class_set, class_hex_to, class_hex_by, step_in, step, ended, finished_in, finished, start, reads, accepted}
+use Rattle.es_pattern.specs.Reading.{Reading, charged, with_term, top_product, products_below, closed_by, quantified, marked, term_begun, plain, with_set, with_char, asserted, joined, settled, with_atom, opened, at, leaf, chosen, greatest_from, scalar, hex_to, hex_by, flushed, flushed_chars, bounds_of, in_braces_end, is_inner, may_be_comma, in_braces, ranged, class_end, item, next_item, after_char, class_char, range_end, after_dash, next_dash, class_char_if, can_end, class_zero, with_ranges, class_set, class_hex_to, class_hex_by, step_in, step, ended, finished_in, finished, start, reads, accepted}
 use Rattle.es_pattern.specs.Limits.{count_of}
 use Rattle.es_pattern.proofs.BracesRead.{AllInner, inner-append, bounds_sound, breaks, breaks_at_end}
 use Rattle.es_pattern.proofs.NumberTests.{no_some, below_apart, above_apart}
@@ -54,27 +54,25 @@ AfterAtom a ts gs rest t = (u : Tree) × (after : List ℕ) × Suffix a u rest a
 
 -- what was read of a class's character
 pub data After : ℕ → List CharRange → List ℕ → List ℕ → List CharRange → Type 0 where
-  after_one : {c : ℕ} {ranges all : List CharRange} {text rest : List ℕ} → Items false (ranges ++ range c c ∷ []) text rest all → After c ranges text rest all
-  after_range : {c d : ℕ} {ranges all : List CharRange} {mid after rest : List ℕ} → ClassChar d mid after → c ≤ d → Items false (ranges ++ range c d ∷ []) after rest all → After c ranges (45 ∷ mid) rest all
-  after_dash_end : {c : ℕ} {ranges all : List CharRange} {after rest : List ℕ} → c ≤ 45 → Items false (ranges ++ range c 45 ∷ []) after rest all → After c ranges (45 ∷ 45 ∷ after) rest all
+  after_one : {c : ℕ} {ranges all : List CharRange} {text rest : List ℕ} → Items character (ranges ++ range c c ∷ []) text rest all → After c ranges text rest all
+  after_range : {c d : ℕ} {ranges all : List CharRange} {mid after rest : List ℕ} → RangeEnd d mid after → c ≤ d → Items range_or_set (ranges ++ range c d ∷ []) after rest all → After c ranges (45 ∷ mid) rest all
 
-first_after : {f : Bool} {c : ℕ} {ranges all : List CharRange} {text mid rest : List ℕ} → FirstChar f c text mid → After c ranges mid rest all → Items f ranges text rest all
+first_after : {before : Before} {c : ℕ} {ranges all : List CharRange} {text mid rest : List ℕ} → FirstChar before c text mid → After c ranges mid rest all → Items before ranges text rest all
 first_after r (after_one i) = one_char r i
-first_after r (after_range d le i) = from_to r d le i
-first_after r (after_dash_end le i) = to_dash r le i
+first_after r (after_range d le i) = from_to (start_char r) d le i
 
 pub data EscapeItem : List CharRange → List ℕ → List ℕ → List CharRange → Type 0 where
-  escape_set : {letter : ℕ} {ranges more all : List CharRange} {text rest : List ℕ} → set_of letter ≡ Some more → Items false (ranges ++ more) text rest all → EscapeItem ranges (letter ∷ text) rest all
+  escape_set : {letter : ℕ} {ranges more all : List CharRange} {text rest : List ℕ} → set_of letter ≡ Some more → Items range_or_set (ranges ++ more) text rest all → EscapeItem ranges (letter ∷ text) rest all
   escape_char : {c : ℕ} {ranges all : List CharRange} {text mid rest : List ℕ} → ClassChar c (92 ∷ text) mid → After c ranges mid rest all → EscapeItem ranges text rest all
 
-escape_item : {f : Bool} {ranges all : List CharRange} {text rest : List ℕ} → EscapeItem ranges text rest all → Items f ranges (92 ∷ text) rest all
+escape_item : {before : Before} {ranges all : List CharRange} {text rest : List ℕ} → EscapeItem ranges text rest all → Items before ranges (92 ∷ text) rest all
 escape_item (escape_set e i) = one_set e i
 escape_item (escape_char r a) = first_after (other_char r) a
 
 -- after a character that ends a range or begins an item
 abbrev pub Ended : Option ℕ → ℕ → List CharRange → List ℕ → List ℕ → List CharRange → Type 0
 Ended None d ranges text rest all = After d ranges text rest all
-Ended (Some c) d ranges text rest all = (c ≤ d) × Items false (ranges ++ range c d ∷ []) text rest all
+Ended (Some c) d ranges text rest all = (c ≤ d) × Items range_or_set (ranges ++ range c d ∷ []) text rest all
 
 module _ (r : Reading) (t : Tree) where
   -- after the items of a class
@@ -85,8 +83,8 @@ abbrev pub Base : Bool → Reading → List ℕ → Tree → Type 0
 Base true r rest t = AfterAtom (top r.trees) (below r.trees) r.groups rest t
 Base false r rest t = InTerm r.trees r.groups rest t
 
-abbrev pub InClass : Bool → Reading → List ℕ → Tree → Type 0
-InClass is_first r rest t = (all : List CharRange) × (mid : List ℕ) × Items is_first r.ranges rest mid all × AfterClass r t all mid
+abbrev pub InClass : Before → Reading → List ℕ → Tree → Type 0
+InClass before r rest t = (all : List CharRange) × (mid : List ℕ) × Items before r.ranges rest mid all × AfterClass r t all mid
 
 abbrev pub AfterChar : ℕ → Reading → List ℕ → Tree → Type 0
 AfterChar c r rest t = (all : List CharRange) × (mid : List ℕ) × After c r.ranges rest mid all × AfterClass r t all mid
@@ -95,9 +93,13 @@ AfterChar c r rest t = (all : List CharRange) × (mid : List ℕ) × After c r.r
 abbrev pub AfterEnd : Option ℕ → ℕ → Reading → List ℕ → Tree → Type 0
 AfterEnd first d r rest t = (all : List CharRange) × (mid : List ℕ) × Ended first d r.ranges rest mid all × AfterClass r t all mid
 
+-- what is left of a class, from the end of a range on
+abbrev pub InRange : ℕ → Reading → List ℕ → Tree → Type 0
+InRange c r rest t = (all : List CharRange) × (mid : List ℕ) × (d : ℕ) × (after : List ℕ) × RangeEnd d rest after × (c ≤ d) × Items range_or_set (r.ranges ++ range c d ∷ []) after mid all × AfterClass r t all mid
+
 abbrev pub InEscape : Option ℕ → Reading → List ℕ → Tree → Type 0
 InEscape None r rest t = (all : List CharRange) × (mid : List ℕ) × EscapeItem r.ranges rest mid all × AfterClass r t all mid
-InEscape (Some c) r rest t = (all : List CharRange) × (mid : List ℕ) × (d : ℕ) × (after : List ℕ) × ClassChar d (92 ∷ rest) after × (c ≤ d) × Items false (r.ranges ++ range c d ∷ []) after mid all × AfterClass r t all mid
+InEscape (Some c) r rest t = (all : List CharRange) × (mid : List ℕ) × (d : ℕ) × (after : List ℕ) × ClassChar d (92 ∷ rest) after × (c ≤ d) × Items range_or_set (r.ranges ++ range c d ∷ []) after mid all × AfterClass r t all mid
 
 -- the rest of a text completes what was read, to a pattern of this tree
 abbrev pub CompletesIn : Mode → Reading → List ℕ → Tree → Type 0
@@ -111,13 +113,14 @@ CompletesIn (modes.Hex value left) r rest t = (c : ℕ) × (mid : List ℕ) × H
 CompletesIn Paren r rest t = InTerm r.trees r.groups (40 ∷ rest) t
 CompletesIn ParenQuestion r rest t = InTerm r.trees r.groups (40 ∷ 63 ∷ rest) t
 CompletesIn ClassOpen r rest t =
-    ((BeginsCaret rest → ⊥) × InClass true r rest t) ⊎ ((w : List ℕ) × (rest ≡ 94 ∷ w) × InClass true (record r { negated = true }) w t)
-CompletesIn ClassFirst r rest t = InClass true r rest t
-CompletesIn ClassNext r rest t = InClass false r rest t
-CompletesIn ClassLast r rest t = (mid : List ℕ) × (rest ≡ 93 ∷ mid) × AfterClass r t r.ranges mid
+    ((BeginsCaret rest → ⊥) × InClass bracket r rest t) ⊎ ((w : List ℕ) × (rest ≡ 94 ∷ w) × InClass bracket (record r { negated = true }) w t)
+CompletesIn ClassFirst r rest t = InClass bracket r rest t
+CompletesIn ClassNext r rest t = InClass range_or_set r rest t
+CompletesIn ClassNextDash r rest t = InClass range_or_set r (45 ∷ rest) t
+CompletesIn ClassNextDashes r rest t = InRange 45 r rest t
 CompletesIn (modes.ClassChar c) r rest t = AfterChar c r rest t
 CompletesIn (modes.ClassDash c) r rest t = AfterChar c r (45 ∷ rest) t
-CompletesIn (modes.ClassZero true) r rest t = (BeginsDigit rest → ⊥) × InClass false r rest t
+CompletesIn (modes.ClassZero true) r rest t = (BeginsDigit rest → ⊥) × InClass range_or_set r rest t
 CompletesIn (modes.ClassZero false) r rest t = (BeginsDigit rest → ⊥) × AfterChar 0 r rest t
 CompletesIn (modes.ClassEscape first) r rest t = InEscape first r rest t
 CompletesIn (modes.ClassHex first value left) r rest t =
@@ -404,36 +407,32 @@ escape_step c r s w t e h = by_set (set_of c) refl e
         by_char (escaped c) refl x6)))))
 
 -- classes
-item_step : (is_first : Bool) (c : ℕ) (r s : Reading) (w : List ℕ) (t : Tree) → (c == 45 ≡ true → is_first ≡ true) → item c r ≡ Some s → Completes s w t → InClass is_first r (c ∷ w) t
-item_step is_first c r s w t dash e h =
-    let P : Type 0 = InClass is_first r (c ∷ w) t in
+item_step : (before : Before) (c : ℕ) (r s : Reading) (w : List ℕ) (t : Tree) → (c == 45 ≡ true → before ≡ bracket) → item c r ≡ Some s → Completes s w t → InClass before r (c ∷ w) t
+item_step before c r s w t dash e h =
+    let P : Type 0 = InClass before r (c ∷ w) t in
     if_else (c == 93) _ _ s P e (λ y x. at_char 93 y (r.ranges, w, no_item, completes_at (class_end r) s w t x h)) (λ n93 e2.
     if_else (c == 92) _ _ s P e2 (λ y x. at_char 92 y (let i = completes_at (at (modes.ClassEscape None) r) s w t x h in (i.0, i.1, escape_item i.2, i.3))) (λ n92 x.
     let i = completes_at (at (modes.ClassChar c) r) s w t x h in (i.0, i.1, first_after (first (c == 45) refl n93 n92) i.2, i.3)))
   where
-    at_char : (k : ℕ) → c == k ≡ true → InClass is_first r (k ∷ w) t → InClass is_first r (c ∷ w) t
-    at_char k y i = subst (λ (d : ℕ). InClass is_first r (d ∷ w) t) (sym (eqb-true c k y)) i
+    at_char : (k : ℕ) → c == k ≡ true → InClass before r (k ∷ w) t → InClass before r (c ∷ w) t
+    at_char k y i = subst (λ (d : ℕ). InClass before r (d ∷ w) t) (sym (eqb-true c k y)) i
 
-    first : (b : Bool) → c == 45 ≡ b → c == 93 ≡ false → c == 92 ≡ false → FirstChar is_first c (c ∷ w) w
-    first true y n93 n92 = subst (λ (f : Bool). FirstChar f c (c ∷ w) w) (sym (dash y)) (subst (λ (d : ℕ). FirstChar true d (d ∷ w) w) (sym (eqb-true c 45 y)) first_dash)
+    first : (b : Bool) → c == 45 ≡ b → c == 93 ≡ false → c == 92 ≡ false → FirstChar before c (c ∷ w) w
+    first true y n93 n92 = subst (λ (f : Before). FirstChar f c (c ∷ w) w) (sym (dash y)) (subst (λ (d : ℕ). FirstChar bracket d (d ∷ w) w) (sym (eqb-true c 45 y)) first_dash)
     first false y n93 n92 = other_char (itself (rw (n93, n92, y)))
 
-next_item_step : (c : ℕ) (r s : Reading) (w : List ℕ) (t : Tree) → next_item c r ≡ Some s → Completes s w t → InClass false r (c ∷ w) t
+next_item_step : (c : ℕ) (r s : Reading) (w : List ℕ) (t : Tree) → next_item c r ≡ Some s → Completes s w t → InClass range_or_set r (c ∷ w) t
 next_item_step c r s w t e h =
-    let P : Type 0 = InClass false r (c ∷ w) t in
-    if_else (c == 45) _ _ s P e
-    (λ y x.
-    let i = completes_at (at ClassLast (ranged 45 45 r)) s w t x h in
-    subst (λ (d : ℕ). InClass false r (d ∷ w) t) (sym (eqb-true c 45 y))
-    (subst (λ (v : List ℕ). InClass false r (45 ∷ v) t) (sym i.1) (r.ranges ++ range 45 45 ∷ [], i.0, last_dash, i.2)))
-    (λ n45 x. item_step false c r s w t (λ y. absurd (false≢true (sym n45 ∙ y))) x h)
+    if_else (c == 45) _ _ s (InClass range_or_set r (c ∷ w) t) e
+    (λ y x. subst (λ (d : ℕ). InClass range_or_set r (d ∷ w) t) (sym (eqb-true c 45 y)) (completes_at (at ClassNextDash r) s w t x h))
+    (λ n45 x. item_step range_or_set c r s w t (λ y. absurd (false≢true (sym n45 ∙ y))) x h)
 
 after_char_step : (first c : ℕ) (r s : Reading) (w : List ℕ) (t : Tree) → after_char first c r ≡ Some s → Completes s w t → AfterChar first r (c ∷ w) t
 after_char_step first c r s w t e h =
     let P : Type 0 = AfterChar first r (c ∷ w) t in
     if_else (c == 45) _ _ s P e
     (λ y x. subst (λ (d : ℕ). AfterChar first r (d ∷ w) t) (sym (eqb-true c 45 y)) (completes_at (at (modes.ClassDash first) r) s w t x h))
-    (λ n45 x. let i = item_step false c (ranged first first r) s w t (λ y. absurd (false≢true (sym n45 ∙ y))) x h in (i.0, i.1, after_one i.2, i.3))
+    (λ n45 x. let i = item_step character c (ranged first first r) s w t (λ y. absurd (false≢true (sym n45 ∙ y))) x h in (i.0, i.1, after_one i.2, i.3))
 
 -- a character that ends a range, or begins an item
 class_char_step : (first : Option ℕ) (d : ℕ) (r s : Reading) (w : List ℕ) (t : Tree) → class_char first d r ≡ Some s → Completes s w t → AfterEnd first d r w t
@@ -443,27 +442,41 @@ class_char_step (Some c) d r s w t e h =
     (λ y x. let i = completes_at (at ClassNext (ranged c d r)) s w t x h in (i.0, i.1, (leb-true c d y, i.2), i.3))
     (λ n x. no_some s x)
 
+range_end_step : (first c : ℕ) (r s : Reading) (w : List ℕ) (t : Tree) → c == 93 ≡ false → range_end first c r ≡ Some s → Completes s w t → InRange first r (c ∷ w) t
+range_end_step first c r s w t n93 e h =
+    let P : Type 0 = InRange first r (c ∷ w) t in
+    if_else (c == 92) _ _ s P e (λ y x. at_char 92 y (escaped_end x)) (λ n92 e2.
+    if_else (c == 45) _ _ s P e2 (λ y x. at_char 45 y (dash_end x)) (λ n45 x.
+    let i = class_char_step (Some first) c r s w t x h in
+    (i.0, i.1, c, w, end_char (itself (rw (n93, n92, n45))), i.2.0, i.2.1, i.3)))
+  where
+    at_char : (k : ℕ) → c == k ≡ true → InRange first r (k ∷ w) t → InRange first r (c ∷ w) t
+    at_char k y i = subst (λ (d : ℕ). InRange first r (d ∷ w) t) (sym (eqb-true c k y)) i
+
+    escaped_end : cond (nat_le first 0xffff) (Some (at (modes.ClassEscape (Some first)) r)) None ≡ Some s → InRange first r (92 ∷ w) t
+    escaped_end x = if_else (nat_le first 0xffff) _ _ s (InRange first r (92 ∷ w) t) x
+        (λ z g. let i = completes_at (at (modes.ClassEscape (Some first)) r) s w t g h in (i.0, i.1, i.2, i.3, end_char i.4, i.5, i.6, i.7)) (λ z g. no_some s g)
+
+    dash_end : cond (nat_le first 45) (Some (at ClassNext (ranged first 45 r))) None ≡ Some s → InRange first r (45 ∷ w) t
+    dash_end x = if_else (nat_le first 45) _ _ s (InRange first r (45 ∷ w) t) x
+        (λ z g. let i = completes_at (at ClassNext (ranged first 45 r)) s w t g h in (i.0, i.1, 45, w, end_dash, leb-true first 45 z, i.2, i.3))
+        (λ z g. no_some s g)
+
 after_dash_step : (first c : ℕ) (r s : Reading) (w : List ℕ) (t : Tree) → after_dash first c r ≡ Some s → Completes s w t → AfterChar first r (45 ∷ c ∷ w) t
 after_dash_step first c r s w t e h =
-    let P : Type 0 = AfterChar first r (45 ∷ c ∷ w) t in
-    if_else (c == 93) _ _ s P e
-    (λ y x. at_char 93 y (let i = completes_at (class_end (ranged 45 45 (ranged first first r))) s w t x h in (r.ranges ++ range first first ∷ [] ++ range 45 45 ∷ [], w, after_one last_dash, i))) (λ n93 e2.
-    if_else (c == 92) _ _ s P e2 (λ y x. at_char 92 y (escaped_end y x)) (λ n92 e3.
-    if_else (c == 45) _ _ s P e3 (λ y x. at_char 45 y (dash_end x)) (λ n45 x.
-    let i = class_char_step (Some first) c r s w t x h in
-    (i.0, i.1, after_range (itself (rw (n93, n92, n45))) i.2.0 i.2.1, i.3))))
+    if_else (c == 93) _ _ s (AfterChar first r (45 ∷ c ∷ w) t) e
+    (λ y x. subst (λ (d : ℕ). AfterChar first r (45 ∷ d ∷ w) t) (sym (eqb-true c 93 y))
+    (r.ranges ++ range first first ∷ [] ++ range 45 45 ∷ [], w, after_one last_dash, completes_at (class_end (ranged 45 45 (ranged first first r))) s w t x h))
+    (λ n93 x. let i = range_end_step first c r s w t n93 x h in (i.0, i.1, after_range i.4 i.5 i.6, i.7))
+
+next_dash_step : (c : ℕ) (r s : Reading) (w : List ℕ) (t : Tree) → next_dash c r ≡ Some s → Completes s w t → InClass range_or_set r (45 ∷ c ∷ w) t
+next_dash_step c r s w t e h =
+    let P : Type 0 = InClass range_or_set r (45 ∷ c ∷ w) t in
+    if_else (c == 93) _ _ s P e (λ y x. at_char 93 y (r.ranges ++ range 45 45 ∷ [], w, last_dash, completes_at (class_end (ranged 45 45 r)) s w t x h)) (λ n93 e2.
+    if_else (c == 45) _ _ s P e2 (λ y x. at_char 45 y (let i = completes_at (at ClassNextDashes r) s w t x h in (i.0, i.1, from_to start_dash i.4 i.5 i.6, i.7))) (λ n45 x. no_some s x))
   where
-    at_char : (k : ℕ) → c == k ≡ true → AfterChar first r (45 ∷ k ∷ w) t → AfterChar first r (45 ∷ c ∷ w) t
-    at_char k y i = subst (λ (d : ℕ). AfterChar first r (45 ∷ d ∷ w) t) (sym (eqb-true c k y)) i
-
-    escaped_end : c == 92 ≡ true → cond (nat_le first 0xffff) (Some (at (modes.ClassEscape (Some first)) r)) None ≡ Some s → AfterChar first r (45 ∷ 92 ∷ w) t
-    escaped_end y x = if_else (nat_le first 0xffff) _ _ s (AfterChar first r (45 ∷ 92 ∷ w) t) x
-        (λ z g. let i = completes_at (at (modes.ClassEscape (Some first)) r) s w t g h in (i.0, i.1, after_range i.4 i.5 i.6, i.7)) (λ z g. no_some s g)
-
-    dash_end : cond (nat_le first 45) (Some (at ClassNext (ranged first 45 r))) None ≡ Some s → AfterChar first r (45 ∷ 45 ∷ w) t
-    dash_end x = if_else (nat_le first 45) _ _ s (AfterChar first r (45 ∷ 45 ∷ w) t) x
-        (λ z g. let i = completes_at (at ClassNext (ranged first 45 r)) s w t g h in (i.0, i.1, after_dash_end (leb-true first 45 z) i.2, i.3))
-        (λ z g. no_some s g)
+    at_char : (k : ℕ) → c == k ≡ true → InClass range_or_set r (45 ∷ k ∷ w) t → InClass range_or_set r (45 ∷ c ∷ w) t
+    at_char k y i = subst (λ (d : ℕ). InClass range_or_set r (45 ∷ d ∷ w) t) (sym (eqb-true c k y)) i
 
 -- an escape in a class, of a character that was read
 escape_ended : (first : Option ℕ) (d : ℕ) (r : Reading) (text after : List ℕ) (t : Tree) → ClassChar d (92 ∷ text) after → AfterEnd first d r after t → InEscape first r text t
@@ -557,11 +570,11 @@ step_completes ParenQuestion c r s w t m e h =
     if_else (c == 33) _ _ s P e3 (λ y x. at_char 33 y (ahead_next r.trees r.groups t true (40 ∷ 63 ∷ 33 ∷ w) w (λ g rest body. not_ahead body) (completes_at (opened (Ahead true) r) s w t x h))) (λ n33 x. no_some s x)))
 step_completes ClassOpen c r s w t m e h = if_else (c == 94) _ _ s (CompletesIn ClassOpen r (c ∷ w) t) e
     (λ y x. inr (w, ap (λ (d : ℕ). d ∷ w) (eqb-true c 94 y), completes_at (at ClassFirst (record r { negated = true })) s w t x h))
-    (λ n x. inl (eqb-false c 94 n, item_step true c r s w t (λ y. refl) x h))
-step_completes ClassFirst c r s w t m e h = item_step true c r s w t (λ y. refl) e h
+    (λ n x. inl (eqb-false c 94 n, item_step bracket c r s w t (λ y. refl) x h))
+step_completes ClassFirst c r s w t m e h = item_step bracket c r s w t (λ y. refl) e h
 step_completes ClassNext c r s w t m e h = next_item_step c r s w t e h
-step_completes ClassLast c r s w t m e h = if_else (c == 93) _ _ s (CompletesIn ClassLast r (c ∷ w) t) e
-    (λ y x. (w, ap (λ (d : ℕ). d ∷ w) (eqb-true c 93 y), completes_at (class_end r) s w t x h)) (λ n x. no_some s x)
+step_completes ClassNextDash c r s w t m e h = next_dash_step c r s w t e h
+step_completes ClassNextDashes c r s w t m e h = if_else (c == 93) _ _ s (CompletesIn ClassNextDashes r (c ∷ w) t) e (λ y x. no_some s x) (λ n x. range_end_step 45 c r s w t n x h)
 step_completes (modes.ClassChar first) c r s w t m e h = after_char_step first c r s w t e h
 step_completes (modes.ClassDash first) c r s w t m e h = after_dash_step first c r s w t e h
 step_completes (modes.ClassZero true) c r s w t m e h = if_else (is_ascii_digit c) _ _ s (CompletesIn (modes.ClassZero true) r (c ∷ w) t) e (λ y x. no_some s x) (λ n x. ((λ d. false≢true (sym n ∙ d)), next_item_step c r s w t x h))
@@ -589,7 +602,8 @@ end_completes ParenQuestion r t m e = no_some t e
 end_completes ClassOpen r t m e = no_some t e
 end_completes ClassFirst r t m e = no_some t e
 end_completes ClassNext r t m e = no_some t e
-end_completes ClassLast r t m e = no_some t e
+end_completes ClassNextDash r t m e = no_some t e
+end_completes ClassNextDashes r t m e = no_some t e
 end_completes (modes.ClassChar first) r t m e = no_some t e
 end_completes (modes.ClassDash first) r t m e = no_some t e
 end_completes (modes.ClassZero true) r t m e = no_some t e

@@ -2,13 +2,13 @@
 use Rattle.std.proofs.Common.{◌≡◌, ℕ, List, ◌∷◌, refl}
 use Rattle.es_pattern.specs.Tree.{Tree}
 use Rattle.es_pattern.specs.declared.mode.Mode.{Mode}
-use Rattle.es_pattern.specs.declared.mode.Mode.TheVariants.{Term, Atom, Quantified, Zero, Braces, Escape, Paren, ParenQuestion, ClassOpen, ClassFirst, ClassNext, ClassLast}
+use Rattle.es_pattern.specs.declared.mode.Mode.TheVariants.{Term, Atom, Quantified, Zero, Braces, Escape, Paren, ParenQuestion, ClassOpen, ClassFirst, ClassNext, ClassNextDash, ClassNextDashes}
 use Rattle.es_pattern.specs.declared.mode.Mode.TheVariants as modes
 use Rattle.es_pattern.specs.Reading.{Reading, step, step_in}
 use Rattle.es_pattern.proofs.Sound.{Completes, CompletesIn, Taken}
 use Rattle.es_pattern.proofs.Sane.{IsSane, IsSaneIn}
 use Rattle.es_pattern.proofs.TakingTerms.{taking_term, taking_atom, taking_quantified, taking_zero, taking_braces, taking_escape, taking_paren, taking_paren_question}
-use Rattle.es_pattern.proofs.TakingClasses.{taking_hex, taking_class_open, taking_class_first, taking_class_next, taking_class_last, taking_class_char, taking_class_dash, taking_class_zero, taking_class_escape, taking_class_hex}
+use Rattle.es_pattern.proofs.TakingClasses.{taking_hex, taking_class_open, taking_class_first, taking_class_next, taking_class_next_dash, taking_class_next_dashes, taking_class_char, taking_class_dash, taking_class_zero, taking_class_escape, taking_class_hex}
 
 taking_in : (m : Mode) (c : ℕ) (r : Reading) (w : List ℕ) (t : Tree) → r.mode ≡ m → IsSaneIn m r → CompletesIn m r (c ∷ w) t → Taken (step_in m c r) w t
 taking_in Term c r w t m sane h = taking_term c r w t m h
@@ -23,7 +23,8 @@ taking_in ParenQuestion c r w t m sane h = taking_paren_question c r w t m h
 taking_in ClassOpen c r w t m sane h = taking_class_open c r w t m h
 taking_in ClassFirst c r w t m sane h = taking_class_first c r w t m h
 taking_in ClassNext c r w t m sane h = taking_class_next c r w t m h
-taking_in ClassLast c r w t m sane h = taking_class_last c r w t m h
+taking_in ClassNextDash c r w t m sane h = taking_class_next_dash c r w t m h
+taking_in ClassNextDashes c r w t m sane h = taking_class_next_dashes c r w t m h
 taking_in (modes.ClassChar first) c r w t m sane h = taking_class_char first c r w t m h
 taking_in (modes.ClassDash first) c r w t m sane h = taking_class_dash first c r w t m h
 taking_in (modes.ClassZero is_last) c r w t m sane h = taking_class_zero is_last c r w t m h

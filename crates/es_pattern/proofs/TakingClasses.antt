@@ -6,13 +6,13 @@ use Rattle.std.proofs.lemmas.Bool.{false≢true, eqb-true, eq-eqb, ne_eqb, le-le
 use Rattle.std.proofs.lemmas.Bool.Decides.{nat_tests}
 use Rattle.es_pattern.specs.Tree.{Tree, CharRange}
 use Rattle.es_pattern.specs.Escapes.{range, is_ascii_digit, is_ascii_punctuation, set_of, escaped, hex_value, is_surrogate}
-use Rattle.es_pattern.specs.Grammar.{char, BeginsDigit, CharEscape, ClassChar, FirstChar, Items, Hex}
-use Rattle.es_pattern.specs.Grammar.{named, zero_char, two_digits, four_digits, itself, class_escape, backspace, other_char, first_dash, no_item, last_dash, one_char, one_set, from_to, to_dash}
-use Rattle.es_pattern.specs.declared.mode.Mode.TheVariants.{ClassOpen, ClassFirst, ClassNext, ClassLast}
+use Rattle.es_pattern.specs.Grammar.{char, BeginsDigit, CharEscape, ClassChar, Before, FirstChar, RangeEnd, Items, Hex}
+use Rattle.es_pattern.specs.Grammar.{named, zero_char, two_digits, four_digits, itself, class_escape, backspace, bracket, character, range_or_set, other_char, first_dash, start_char, start_dash, end_char, end_dash, no_item, last_dash, one_char, one_set, from_to}
+use Rattle.es_pattern.specs.declared.mode.Mode.TheVariants.{ClassOpen, ClassFirst, ClassNext, ClassNextDash, ClassNextDashes}
 use Rattle.es_pattern.specs.declared.mode.Mode.TheVariants as modes
-use Rattle.es_pattern.specs.Reading.{Reading, at, with_atom, greatest_from, hex_to, hex_by, ranged, class_end, item, next_item, after_char, class_char, after_dash, class_char_if, can_end, class_zero, with_ranges, class_set, class_hex_to, class_hex_by, step_in}
+use Rattle.es_pattern.specs.Reading.{Reading, at, with_atom, greatest_from, hex_to, hex_by, ranged, class_end, item, next_item, after_char, class_char, range_end, after_dash, next_dash, class_char_if, can_end, class_zero, with_ranges, class_set, class_hex_to, class_hex_by, step_in}
 use Rattle.es_pattern.proofs.Sane.{IsPartial}
-use Rattle.es_pattern.proofs.Sound.{After, after_one, after_range, after_dash_end, EscapeItem, escape_set, escape_char, Ended, AfterAtom, AfterClass, InClass, AfterChar, InEscape, CompletesIn, Completes, Taken, AfterEnd}
+use Rattle.es_pattern.proofs.Sound.{After, after_one, after_range, EscapeItem, escape_set, escape_char, Ended, AfterAtom, AfterClass, InClass, AfterChar, InRange, InEscape, CompletesIn, Taken, AfterEnd}
 use Rattle.es_pattern.proofs.HexDigits.{hex_digit, two_digits_more, four_digits_more, greatest_last, greatest_with_one, greatest_with_two, greatest_with_three, two_small}
 use Rattle.es_pattern.proofs.TakingTerms.{no_escape}
 
@@ -45,61 +45,63 @@ class_char_cases d k text w mid P backspace e at_escape at_other =
     let tails : 98 ∷ mid ≡ w = cc in at_escape (cc) (subst (λ (x : List ℕ). ClassChar 8 (92 ∷ x) mid) tails backspace)
 
 -- the same, or the `-` with which a class begins
-first_char_cases : (f : Bool) (d k : ℕ) (text w mid : List ℕ) (P : Type 0) → FirstChar f d text mid → text ≡ k ∷ w
-    → (k ≡ 92 → ClassChar d (92 ∷ w) mid → P) → (k == 93 ≡ false → k == 92 ≡ false → (k == 45 ≡ true → f ≡ true) → d ≡ k → mid ≡ w → P) → P
-first_char_cases f d k text w mid P (other_char r) e at_escape at_other =
+first_char_cases : (before : Before) (d k : ℕ) (text w mid : List ℕ) (P : Type 0) → FirstChar before d text mid → text ≡ k ∷ w
+    → (k ≡ 92 → ClassChar d (92 ∷ w) mid → P) → (k == 93 ≡ false → k == 92 ≡ false → (k == 45 ≡ true → before ≡ bracket) → d ≡ k → mid ≡ w → P) → P
+first_char_cases before d k text w mid P (other_char r) e at_escape at_other =
     class_char_cases d k text w mid P r e at_escape (λ n93 n92 n45 same rest. at_other n93 n92 (λ y. absurd (false≢true (sym n45 ∙ y))) same rest)
-first_char_cases f d k text w mid P first_dash e at_escape at_other =
+first_char_cases before d k text w mid P first_dash e at_escape at_other =
     let same : k ≡ 45 = cc in at_other (ne_eqb k 93 (λ g. omega (arith, same, g))) (ne_eqb k 92 (λ g. omega (arith, same, g))) (λ y. refl) (sym same) (cc)
 
 -- a `-` before the end of a class
 abbrev LastDash : List CharRange → List ℕ → List ℕ → List CharRange → Type 0
 LastDash ranges w rest all = (w ≡ 93 ∷ rest) × (all ≡ ranges ++ range 45 45 ∷ [])
 
+-- a `-` with which a range begins
+abbrev DashRange : List CharRange → List ℕ → List ℕ → List CharRange → Type 0
+DashRange ranges w rest all = (v : List ℕ) × (d : ℕ) × (after : List ℕ) × (w ≡ 45 ∷ v) × RangeEnd d v after × (45 ≤ d) × Items range_or_set (ranges ++ range 45 d ∷ []) after rest all
+
 -- items that begin with this character
-item_cases : (f : Bool) (k : ℕ) (ranges all : List CharRange) (text w rest : List ℕ) (P : Type 0) → Items f ranges text rest all → text ≡ k ∷ w
+item_cases : (before : Before) (k : ℕ) (ranges all : List CharRange) (text w rest : List ℕ) (P : Type 0) → Items before ranges text rest all → text ≡ k ∷ w
     → (k ≡ 93 → rest ≡ w → all ≡ ranges → P) → (k ≡ 92 → EscapeItem ranges w rest all → P) → (k ≡ 45 → LastDash ranges w rest all → P)
-    → (k == 93 ≡ false → k == 92 ≡ false → (k == 45 ≡ true → f ≡ true) → After k ranges w rest all → P) → P
-item_cases f k ranges all text w rest P no_item e at_end at_escape at_dash at_char = at_end (cc) (cc) refl
-item_cases f k ranges all text w rest P last_dash e at_end at_escape at_dash at_char = at_dash (cc) ((cc), refl)
-item_cases f k ranges all text w rest P (one_char {c = d} {mid = mid} r i) e at_end at_escape at_dash at_char =
-    first_char_cases f d k text w mid P r e (λ y read. at_escape y (escape_char read (after_one i)))
+    → (k ≡ 45 → before ≡ range_or_set → DashRange ranges w rest all → P)
+    → (k == 93 ≡ false → k == 92 ≡ false → (k == 45 ≡ true → before ≡ bracket) → After k ranges w rest all → P) → P
+item_cases before k ranges all text w rest P no_item e at_end at_escape at_dash at_range at_char = at_end (cc) (cc) refl
+item_cases before k ranges all text w rest P last_dash e at_end at_escape at_dash at_range at_char = at_dash (cc) ((cc), refl)
+item_cases before k ranges all text w rest P (one_char {c = d} {mid = mid} r i) e at_end at_escape at_dash at_range at_char =
+    first_char_cases before d k text w mid P r e (λ y read. at_escape y (escape_char read (after_one i)))
     (λ n93 n92 dash same tails. at_char n93 n92 dash (subst (λ (x : ℕ). After x ranges w rest all) same (subst (λ (v : List ℕ). After d ranges v rest all) tails (after_one i))))
-item_cases f k ranges all text w rest P (one_set {more = more} {letter = letter} {text = v} s i) e at_end at_escape at_dash at_char =
+item_cases before k ranges all text w rest P (one_set {more = more} {letter = letter} {text = v} s i) e at_end at_escape at_dash at_range at_char =
     let tails : letter ∷ v ≡ w = cc in
     at_escape (cc) (subst (λ (x : List ℕ). EscapeItem ranges x rest all) tails (escape_set s i))
-item_cases f k ranges all text w rest P (from_to {c = c} {d = d} {mid = mid} r last le i) e at_end at_escape at_dash at_char =
-    first_char_cases f c k text w (45 ∷ mid) P r e (λ y read. at_escape y (escape_char read (after_range last le i)))
+item_cases before k ranges all text w rest P (from_to {c = c} {d = d} {mid = mid} (start_char r) last le i) e at_end at_escape at_dash at_range at_char =
+    first_char_cases before c k text w (45 ∷ mid) P r e (λ y read. at_escape y (escape_char read (after_range last le i)))
     (λ n93 n92 dash same tails. at_char n93 n92 dash (subst (λ (x : ℕ). After x ranges w rest all) same (subst (λ (v : List ℕ). After c ranges v rest all) tails (after_range last le i))))
-item_cases f k ranges all text w rest P (to_dash {c = c} {after = after} r le i) e at_end at_escape at_dash at_char =
-    first_char_cases f c k text w (45 ∷ 45 ∷ after) P r e (λ y read. at_escape y (escape_char read (after_dash_end le i)))
-    (λ n93 n92 dash same tails. at_char n93 n92 dash (subst (λ (x : ℕ). After x ranges w rest all) same (subst (λ (v : List ℕ). After c ranges v rest all) tails (after_dash_end le i))))
+item_cases before k ranges all text w rest P (from_to {c = c} {d = d} {mid = mid} {after = after} start_dash last le i) e at_end at_escape at_dash at_range at_char =
+    at_range (cc) refl (mid, d, after, (cc), last, le, i)
 
 -- after a character of a class, another character than `-` begins the next item
-after_other : (first k : ℕ) (ranges all : List CharRange) (text w rest : List ℕ) → After first ranges text rest all → text ≡ k ∷ w → k == 45 ≡ false → Items false (ranges ++ range first first ∷ []) text rest all
+after_other : (first k : ℕ) (ranges all : List CharRange) (text w rest : List ℕ) → After first ranges text rest all → text ≡ k ∷ w → k == 45 ≡ false → Items character (ranges ++ range first first ∷ []) text rest all
 after_other first k ranges all text w rest (after_one i) e n45 = i
 after_other first k ranges all text w rest (after_range last le i) e n45 = let same : k ≡ 45 = cc in absurd (false≢true (sym n45 ∙ eq-eqb k 45 same))
-after_other first k ranges all text w rest (after_dash_end le i) e n45 = let same : k ≡ 45 = cc in absurd (false≢true (sym n45 ∙ eq-eqb k 45 same))
 
 -- after a character of a class and `-`
 after_dash_cases : (first : ℕ) (ranges all : List CharRange) (text w rest : List ℕ) (P : Type 0) → After first ranges text rest all → text ≡ 45 ∷ w
     → (LastDash (ranges ++ range first first ∷ []) w rest all → P)
-    → ((d : ℕ) (after : List ℕ) → ClassChar d w after → first ≤ d → Items false (ranges ++ range first d ∷ []) after rest all → P)
-    → ((after : List ℕ) → w ≡ 45 ∷ after → first ≤ 45 → Items false (ranges ++ range first 45 ∷ []) after rest all → P) → P
-after_dash_cases first ranges all text w rest P (after_one i) e at_last at_range at_dash =
-    item_cases false 45 (ranges ++ range first first ∷ []) all text w rest P i e (λ y. absurd (omega (arith, y))) (λ y. absurd (omega (arith, y))) (λ y l. at_last l) (λ n93 n92 dash a. absurd (false≢true (dash refl)))
-after_dash_cases first ranges all text w rest P (after_range {d = d} {mid = mid} {after = after} last le i) e at_last at_range at_dash =
-    let tails : mid ≡ w = cc in at_range d after (subst (λ (v : List ℕ). ClassChar d v after) tails last) le i
-after_dash_cases first ranges all text w rest P (after_dash_end {after = after} le i) e at_last at_range at_dash = at_dash after (cc) le i
+    → ((d : ℕ) (after : List ℕ) → RangeEnd d w after → first ≤ d → Items range_or_set (ranges ++ range first d ∷ []) after rest all → P) → P
+after_dash_cases first ranges all text w rest P (after_one i) e at_last at_range =
+    item_cases character 45 (ranges ++ range first first ∷ []) all text w rest P i e (λ y. absurd (omega (arith, y))) (λ y. absurd (omega (arith, y))) (λ y l. at_last l) (λ y f l. absurd (cc)) (λ n93 n92 dash a. let f : character ≡ bracket = dash refl in absurd (cc))
+after_dash_cases first ranges all text w rest P (after_range {d = d} {mid = mid} {after = after} last le i) e at_last at_range =
+    let tails : mid ≡ w = cc in at_range d after (subst (λ (v : List ℕ). RangeEnd d v after) tails last) le i
 
 -- the first character of what is left of a class
-taking_item : (f : Bool) (c : ℕ) (r : Reading) (w : List ℕ) (t : Tree) → (c ≡ 45 → f ≡ true) → InClass f r (c ∷ w) t → Taken (item c r) w t
-taking_item f c r w t dash i =
-    item_cases f c r.ranges i.0 (c ∷ w) w i.1 (Taken (item c r) w t) i.2 refl
+taking_item : (before : Before) (c : ℕ) (r : Reading) (w : List ℕ) (t : Tree) → (c ≡ 45 → before ≡ bracket) → InClass before r (c ∷ w) t → Taken (item c r) w t
+taking_item before c r w t dash i =
+    item_cases before c r.ranges i.0 (c ∷ w) w i.1 (Taken (item c r) w t) i.2 refl
     (λ y rest all. taken_then (c == 93) _ _ w t (eq-eqb c 93 y)
     (class_end r, refl, subst (λ (v : List ℕ). AfterClass r t r.ranges v) rest (subst (λ (a : List CharRange). AfterClass r t a i.1) all i.3)))
     (λ y h. in_escape y (i.0, i.1, h, i.3))
     (λ y l. in_char (ne_eqb c 93 (λ g. omega (arith, y, g))) (ne_eqb c 92 (λ g. omega (arith, y, g))) (i.0, i.1, first_dash_ends y l, i.3))
+    (λ y f l. let front : before ≡ bracket = dash y in let other : range_or_set ≡ bracket = sym f ∙ front in absurd (cc))
     (λ n93 n92 d h. in_char n93 n92 (i.0, i.1, h, i.3))
   where
     in_escape : c ≡ 92 → InEscape None r w t → Taken (item c r) w t
@@ -113,20 +115,32 @@ taking_item f c r w t dash i =
         subst (λ (k : ℕ). After k r.ranges w i.1 i.0) (sym y)
         (subst (λ (v : List ℕ). After 45 r.ranges v i.1 i.0) (sym l.0) (subst (λ (a : List CharRange). After 45 r.ranges (93 ∷ i.1) i.1 a) (sym l.1) (after_one no_item)))
 
--- the same after another item
-taking_next_item : (c : ℕ) (r : Reading) (w : List ℕ) (t : Tree) → InClass false r (c ∷ w) t → Taken (next_item c r) w t
+-- the same after a range or a set
+taking_next_item : (c : ℕ) (r : Reading) (w : List ℕ) (t : Tree) → InClass range_or_set r (c ∷ w) t → Taken (next_item c r) w t
 taking_next_item c r w t i = by_test (c == 45) refl
   where
-    ends_so : c ≡ 45 → Completes (at ClassLast (ranged 45 45 r)) w t
-    ends_so y =
-        item_cases false c r.ranges i.0 (c ∷ w) w i.1 (Completes (at ClassLast (ranged 45 45 r)) w t) i.2 refl
-        (λ g rest all. absurd (omega (arith, y, g))) (λ g h. absurd (omega (arith, y, g)))
-        (λ g l. (i.1, l.0, subst (λ (a : List CharRange). AfterClass r t a i.1) l.1 i.3))
-        (λ n93 n92 dash h. absurd (false≢true (dash (eq-eqb c 45 y))))
-
     by_test : (b : Bool) → c == 45 ≡ b → Taken (next_item c r) w t
-    by_test true y = taken_then (c == 45) _ _ w t y (at ClassLast (ranged 45 45 r), refl, ends_so (eqb-true c 45 y))
-    by_test false n = taken_else (c == 45) _ _ w t n (taking_item false c r w t (λ y. absurd (false≢true (sym n ∙ eq-eqb c 45 y))) i)
+    by_test true y = taken_then (c == 45) _ _ w t y (at ClassNextDash r, refl, subst (λ (k : ℕ). InClass range_or_set r (k ∷ w) t) (eqb-true c 45 y) i)
+    by_test false n = taken_else (c == 45) _ _ w t n (taking_item range_or_set c r w t (λ y. absurd (false≢true (sym n ∙ eq-eqb c 45 y))) i)
+
+-- and a `-`
+taking_next_dash : (c : ℕ) (r : Reading) (w : List ℕ) (t : Tree) → InClass range_or_set r (45 ∷ c ∷ w) t → Taken (next_dash c r) w t
+taking_next_dash c r w t i =
+    item_cases range_or_set 45 r.ranges i.0 (45 ∷ c ∷ w) (c ∷ w) i.1 (Taken (next_dash c r) w t) i.2 refl
+    (λ y. absurd (omega (arith, y))) (λ y. absurd (omega (arith, y))) (λ y l. ends_so l) (λ y f l. range_so l) (λ n93 n92 dash a. let f : range_or_set ≡ bracket = dash refl in absurd (cc))
+  where
+    ends_so : LastDash r.ranges (c ∷ w) i.1 i.0 → Taken (next_dash c r) w t
+    ends_so l =
+        let tails : i.1 ≡ w = cc (l.0) in
+        taken_then (c == 93) _ _ w t (eq-eqb c 93 (cc (l.0)))
+        (class_end (ranged 45 45 r), refl, subst (λ (v : List ℕ). AfterClass r t (r.ranges ++ range 45 45 ∷ []) v) tails (subst (λ (a : List CharRange). AfterClass r t a i.1) l.1 i.3))
+
+    range_so : DashRange r.ranges (c ∷ w) i.1 i.0 → Taken (next_dash c r) w t
+    range_so l =
+        let y : c ≡ 45 = cc (l.3) in
+        let tails : l.0 ≡ w = cc (l.3) in
+        taken_else (c == 93) _ _ w t (ne_eqb c 93 (λ g. omega (arith, y, g))) (taken_then (c == 45) _ _ w t (eq-eqb c 45 y)
+        (at ClassNextDashes r, refl, (i.0, i.1, l.1, l.2, subst (λ (v : List ℕ). RangeEnd l.1 v l.2) tails l.4, l.5, l.6, i.3)))
 
 -- after a character of a class
 taking_after_char : (first c : ℕ) (r : Reading) (w : List ℕ) (t : Tree) → AfterChar first r (c ∷ w) t → Taken (after_char first c r) w t
@@ -136,7 +150,7 @@ taking_after_char first c r w t i = by_test (c == 45) refl
     by_test true y = taken_then (c == 45) _ _ w t y (at (modes.ClassDash first) r, refl, subst (λ (k : ℕ). AfterChar first r (k ∷ w) t) (eqb-true c 45 y) i)
     by_test false n =
         taken_else (c == 45) _ _ w t n
-        (taking_item false c (ranged first first r) w t (λ y. absurd (false≢true (sym n ∙ eq-eqb c 45 y))) (i.0, i.1, after_other first c r.ranges i.0 (c ∷ w) w i.1 i.2 refl n, i.3))
+        (taking_item character c (ranged first first r) w t (λ y. absurd (false≢true (sym n ∙ eq-eqb c 45 y))) (i.0, i.1, after_other first c r.ranges i.0 (c ∷ w) w i.1 i.2 refl n, i.3))
 
 -- a character that a letter stands for in an escape is at most `~`
 escaped_small : (c d : ℕ) → escaped c ≡ Some d → d ≤ 126
@@ -169,37 +183,50 @@ taking_class_character : (first : Option ℕ) (d : ℕ) (r : Reading) (w : List 
 taking_class_character None d r w t i = (at (modes.ClassChar d) r, refl, (i.0, i.1, i.2, i.3))
 taking_class_character (Some first) d r w t i = taken_then (nat_le first d) _ _ w t (le-leb first d i.2.0) (at ClassNext (ranged first d r), refl, (i.0, i.1, i.2.1, i.3))
 
+-- a character that ends a range: a `-` too
+range_end_cases : (d k : ℕ) (text w after : List ℕ) (P : Type 0) → RangeEnd d text after → text ≡ k ∷ w
+    → (k ≡ 92 → ClassChar d (92 ∷ w) after → P) → (k == 93 ≡ false → k == 92 ≡ false → k == 45 ≡ false → d ≡ k → after ≡ w → P) → (k ≡ 45 → d ≡ 45 → after ≡ w → P) → P
+range_end_cases d k text w after P (end_char read) e at_escape at_other at_dash = class_char_cases d k text w after P read e at_escape at_other
+range_end_cases d k text w after P end_dash e at_escape at_other at_dash = at_dash (cc) refl (cc)
+
+-- `]` ends none
+no_range_end : (d c : ℕ) (w after : List ℕ) → RangeEnd d (c ∷ w) after → c == 93 ≡ false
+no_range_end d c w after last =
+    range_end_cases d c (c ∷ w) w after (c == 93 ≡ false) last refl (λ y read. ne_eqb c 93 (λ g. omega (arith, y, g))) (λ n93 n92 n45 same tails. n93) (λ y same tails. ne_eqb c 93 (λ g. omega (arith, y, g)))
+
+taking_range_end : (first c : ℕ) (r : Reading) (w : List ℕ) (t : Tree) → InRange first r (c ∷ w) t → Taken (range_end first c r) w t
+taking_range_end first c r w t (all, mid, d, after, last, le, items, closed) =
+    range_end_cases d c (c ∷ w) w after (Taken (range_end first c r) w t) last refl (λ y read. escape_so y read)
+    (λ n93 n92 n45 same tails. taken_else (c == 92) _ _ w t n92 (taken_else (c == 45) _ _ w t n45
+    (taking_class_character (Some first) c r w t
+    (subst (λ (v : List ℕ). AfterEnd (Some first) c r v t) tails
+    (subst (λ (x : ℕ). AfterEnd (Some first) x r after t) same (all, mid, (le, items), closed))))))
+    (λ y same tails. dash_so same y tails)
+  where
+    escape_so : c ≡ 92 → ClassChar d (92 ∷ w) after → Taken (range_end first c r) w t
+    escape_so y read =
+        let small = class_escape_small d (92 ∷ w) w after read refl in
+        taken_then (c == 92) _ _ w t (eq-eqb c 92 y)
+        (taken_then (nat_le first 0xffff) _ _ w t (le-leb first 0xffff (omega (arith, small, le))) (at (modes.ClassEscape (Some first)) r, refl, (all, mid, d, after, read, le, items, closed)))
+
+    dash_so : d ≡ 45 → c ≡ 45 → after ≡ w → Taken (range_end first c r) w t
+    dash_so same y tails =
+        let le45 : first ≤ 45 = subst (λ (k : ℕ). first ≤ k) same le in
+        let more = subst (λ (k : ℕ). Items range_or_set (r.ranges ++ range first k ∷ []) after mid all) same items in
+        taken_else (c == 92) _ _ w t (ne_eqb c 92 (λ g. omega (arith, y, g))) (taken_then (c == 45) _ _ w t (eq-eqb c 45 y)
+        (taken_then (nat_le first 45) _ _ w t (le-leb first 45 le45) (at ClassNext (ranged first 45 r), refl, (all, mid, subst (λ (v : List ℕ). Items range_or_set (r.ranges ++ range first 45 ∷ []) v mid all) tails more, closed))))
+
 -- after a character of a class and `-`
 taking_after_dash : (first c : ℕ) (r : Reading) (w : List ℕ) (t : Tree) → AfterChar first r (45 ∷ c ∷ w) t → Taken (after_dash first c r) w t
 taking_after_dash first c r w t i =
-    after_dash_cases first r.ranges i.0 (45 ∷ c ∷ w) (c ∷ w) i.1 (Taken (after_dash first c r) w t) i.2 refl ends_so ranges_so dash_so
+    after_dash_cases first r.ranges i.0 (45 ∷ c ∷ w) (c ∷ w) i.1 (Taken (after_dash first c r) w t) i.2 refl ends_so
+    (λ d after last le items. taken_else (c == 93) _ _ w t (no_range_end d c w after last) (taking_range_end first c r w t (i.0, i.1, d, after, last, le, items, i.3)))
   where
     ends_so : LastDash (r.ranges ++ range first first ∷ []) (c ∷ w) i.1 i.0 → Taken (after_dash first c r) w t
     ends_so l =
         let tails : i.1 ≡ w = cc (l.0) in
         taken_then (c == 93) _ _ w t (eq-eqb c 93 (cc (l.0)))
         (class_end (ranged 45 45 (ranged first first r)), refl, subst (λ (v : List ℕ). AfterClass r t (r.ranges ++ range first first ∷ [] ++ range 45 45 ∷ []) v) tails (subst (λ (a : List CharRange). AfterClass r t a i.1) l.1 i.3))
-
-    escape_so : (d : ℕ) (after : List ℕ) → c ≡ 92 → ClassChar d (92 ∷ w) after → first ≤ d → Items false (r.ranges ++ range first d ∷ []) after i.1 i.0 → Taken (after_dash first c r) w t
-    escape_so d after y last le items =
-        let small = class_escape_small d (92 ∷ w) w after last refl in
-        taken_else (c == 93) _ _ w t (ne_eqb c 93 (λ g. omega (arith, y, g))) (taken_then (c == 92) _ _ w t (eq-eqb c 92 y)
-        (taken_then (nat_le first 0xffff) _ _ w t (le-leb first 0xffff (omega (arith, small, le))) (at (modes.ClassEscape (Some first)) r, refl, (i.0, i.1, d, after, last, le, items, i.3))))
-
-    ranges_so : (d : ℕ) (after : List ℕ) → ClassChar d (c ∷ w) after → first ≤ d → Items false (r.ranges ++ range first d ∷ []) after i.1 i.0 → Taken (after_dash first c r) w t
-    ranges_so d after last le items =
-        class_char_cases d c (c ∷ w) w after (Taken (after_dash first c r) w t) last refl (λ y read. escape_so d after y read le items)
-        (λ n93 n92 n45 same tails. taken_else (c == 93) _ _ w t n93 (taken_else (c == 92) _ _ w t n92 (taken_else (c == 45) _ _ w t n45
-        (taking_class_character (Some first) c r w t
-        (subst (λ (v : List ℕ). AfterEnd (Some first) c r v t) tails
-        (subst (λ (x : ℕ). AfterEnd (Some first) x r after t) same (i.0, i.1, (le, items), i.3)))))))
-
-    dash_so : (after : List ℕ) → c ∷ w ≡ 45 ∷ after → first ≤ 45 → Items false (r.ranges ++ range first 45 ∷ []) after i.1 i.0 → Taken (after_dash first c r) w t
-    dash_so after e le items =
-        let y : c ≡ 45 = cc in
-        let tails : after ≡ w = cc in
-        taken_else (c == 93) _ _ w t (ne_eqb c 93 (λ g. omega (arith, y, g))) (taken_else (c == 92) _ _ w t (ne_eqb c 92 (λ g. omega (arith, y, g))) (taken_then (c == 45) _ _ w t (eq-eqb c 45 y)
-        (taken_then (nat_le first 45) _ _ w t (le-leb first 45 le) (at ClassNext (ranged first 45 r), refl, (i.0, i.1, subst (λ (v : List ℕ). Items false (r.ranges ++ range first 45 ∷ []) v i.1 i.0) tails items, i.3)))))
 
 -- where the range, if one has begun, ends at a character, it can end at a greater one
 ended_can_end : (first : Option ℕ) (d g : ℕ) (ranges all : List CharRange) (after mid : List ℕ) → Ended first d ranges after mid all → d ≤ g → can_end first g ≡ true
@@ -240,7 +267,7 @@ taking_zero (Some first) r w t no_digit i =
     let le = i.2.0 in
     let zero_is : first ≡ 0 = omega (arith, le) in
     taken_then (first == 0) _ _ w t (eq-eqb first 0 zero_is)
-    (at (modes.ClassZero true) (ranged 0 0 r), refl, (no_digit, (i.0, i.1, subst (λ (k : ℕ). Items false (r.ranges ++ range k 0 ∷ []) w i.1 i.0) zero_is i.2.1, i.3)))
+    (at (modes.ClassZero true) (ranged 0 0 r), refl, (no_digit, (i.0, i.1, subst (λ (k : ℕ). Items range_or_set (r.ranges ++ range k 0 ∷ []) w i.1 i.0) zero_is i.2.1, i.3)))
 
 module _ (first : Option ℕ) (r : Reading) (c : ℕ) (w : List ℕ) (t : Tree) where
   -- an escape that begins with this letter
@@ -283,7 +310,7 @@ taking_escape None c r w t i = by_item (c ∷ w) i.2 refl
         let here : set_of c ≡ Some more = subst (λ (x : ℕ). set_of x ≡ Some more) same set in
         let tails : v ≡ w = cc in
         subst (λ (o : Option (List CharRange)). Taken (class_set o None c r) w t) (sym here)
-        (with_ranges more r, refl, (i.0, i.1, subst (λ (v : List ℕ). Items false (r.ranges ++ more) v i.1 i.0) tails items, i.3))
+        (with_ranges more r, refl, (i.0, i.1, subst (λ (v : List ℕ). Items range_or_set (r.ranges ++ more) v i.1 i.0) tails items, i.3))
     by_item text (escape_char {c = d} {mid = mid} read after) e = taking_escaped None r c w t d (92 ∷ text) mid read (cc) (i.0, i.1, after, i.3)
 
 -- a hexadecimal digit, of a number that can still become a character: what it makes of the number, and the greatest character that is left
@@ -373,23 +400,23 @@ taking_class_hex first value left c r w t m p h = by_digit (digit_taken first va
 
 -- what is taken of a class, in each of its states
 pub taking_class_open : (c : ℕ) (r : Reading) (w : List ℕ) (t : Tree) → r.mode ≡ ClassOpen → CompletesIn ClassOpen r (c ∷ w) t → Taken (step_in ClassOpen c r) w t
-taking_class_open c r w t m (inl h) = taken_else (c == 94) _ _ w t (ne_eqb c 94 h.0) (taking_item true c r w t (λ y. refl) h.1)
+taking_class_open c r w t m (inl h) = taken_else (c == 94) _ _ w t (ne_eqb c 94 h.0) (taking_item bracket c r w t (λ y. refl) h.1)
 taking_class_open c r w t m (inr h) =
     let same : c ≡ 94 = cc (h.1) in
     let tails : h.0 ≡ w = cc (h.1) in
-    taken_then (c == 94) _ _ w t (eq-eqb c 94 same) (at ClassFirst (record r { negated = true }), refl, subst (λ (v : List ℕ). InClass true (record r { negated = true }) v t) tails h.2)
+    taken_then (c == 94) _ _ w t (eq-eqb c 94 same) (at ClassFirst (record r { negated = true }), refl, subst (λ (v : List ℕ). InClass bracket (record r { negated = true }) v t) tails h.2)
 
 pub taking_class_first : (c : ℕ) (r : Reading) (w : List ℕ) (t : Tree) → r.mode ≡ ClassFirst → CompletesIn ClassFirst r (c ∷ w) t → Taken (step_in ClassFirst c r) w t
-taking_class_first c r w t m h = taking_item true c r w t (λ y. refl) h
+taking_class_first c r w t m h = taking_item bracket c r w t (λ y. refl) h
 
 pub taking_class_next : (c : ℕ) (r : Reading) (w : List ℕ) (t : Tree) → r.mode ≡ ClassNext → CompletesIn ClassNext r (c ∷ w) t → Taken (step_in ClassNext c r) w t
 taking_class_next c r w t m h = taking_next_item c r w t h
 
-pub taking_class_last : (c : ℕ) (r : Reading) (w : List ℕ) (t : Tree) → r.mode ≡ ClassLast → CompletesIn ClassLast r (c ∷ w) t → Taken (step_in ClassLast c r) w t
-taking_class_last c r w t m h =
-    let same : c ≡ 93 = cc (h.1) in
-    let tails : h.0 ≡ w = cc (h.1) in
-    taken_then (c == 93) _ _ w t (eq-eqb c 93 same) (class_end r, refl, subst (λ (v : List ℕ). AfterClass r t r.ranges v) tails h.2)
+pub taking_class_next_dash : (c : ℕ) (r : Reading) (w : List ℕ) (t : Tree) → r.mode ≡ ClassNextDash → CompletesIn ClassNextDash r (c ∷ w) t → Taken (step_in ClassNextDash c r) w t
+taking_class_next_dash c r w t m h = taking_next_dash c r w t h
+
+pub taking_class_next_dashes : (c : ℕ) (r : Reading) (w : List ℕ) (t : Tree) → r.mode ≡ ClassNextDashes → CompletesIn ClassNextDashes r (c ∷ w) t → Taken (step_in ClassNextDashes c r) w t
+taking_class_next_dashes c r w t m h = taken_else (c == 93) _ _ w t (no_range_end h.2 c w h.3 h.4) (taking_range_end 45 c r w t h)
 
 pub taking_class_char : (first c : ℕ) (r : Reading) (w : List ℕ) (t : Tree) → r.mode ≡ modes.ClassChar first → CompletesIn (modes.ClassChar first) r (c ∷ w) t → Taken (step_in (modes.ClassChar first) c r) w t
 taking_class_char first c r w t m h = taking_after_char first c r w t h

@@ -1,16 +1,16 @@
 -- What completes a reading where the text ends is finished, with the same tree.
-use Rattle.std.proofs.Common.{◌≡◌, ℕ, zero, suc, Bool, true, false, List, [], ◌∷◌, ◌++◌, inl, inr, Option, Some, None, refl, sym, ap, subst, ◌∙◌}
+use Rattle.std.proofs.Common.{◌≡◌, ℕ, zero, suc, true, false, List, [], ◌∷◌, ◌++◌, inl, inr, Option, Some, None, refl, sym, ap, subst, ◌∙◌}
 use Rattle.std.proofs.lemmas.Bool.{false≢true, eqb-false}
 use Rattle.es_pattern.specs.Tree.{Tree, CharRange, nothing, sequence, choice}
 use Rattle.es_pattern.specs.Pieces.{top, below}
 use Rattle.es_pattern.specs.Escapes.{range}
-use Rattle.es_pattern.specs.Grammar.{never, alternatives, term, atom, Reads, ClassChar, FirstChar, Items, Hex}
-use Rattle.es_pattern.specs.Grammar.{itself, class_escape, other_char, one_char, from_to, to_dash}
+use Rattle.es_pattern.specs.Grammar.{never, alternatives, term, atom, Reads, ClassChar, Before, FirstChar, RangeStart, RangeEnd, Items, Hex}
+use Rattle.es_pattern.specs.Grammar.{itself, class_escape, bracket, character, range_or_set, other_char, first_dash, start_char, end_char, one_char, from_to}
 use Rattle.es_pattern.specs.Grammar.{ends, followed, once, greedy, lazy, group, char_escape, ordinary}
 use Rattle.es_pattern.specs.declared.mode.Open.{Open}
 use Rattle.es_pattern.specs.declared.mode.Open.TheVariants.{Group, Ahead}
 use Rattle.es_pattern.specs.declared.mode.Mode.{Mode}
-use Rattle.es_pattern.specs.declared.mode.Mode.TheVariants.{Term, Atom, Quantified, Zero, Braces, Escape, Paren, ParenQuestion, ClassOpen, ClassFirst, ClassNext, ClassLast}
+use Rattle.es_pattern.specs.declared.mode.Mode.TheVariants.{Term, Atom, Quantified, Zero, Braces, Escape, Paren, ParenQuestion, ClassOpen, ClassFirst, ClassNext, ClassNextDash, ClassNextDashes}
 use Rattle.es_pattern.specs.declared.mode.Mode.TheVariants as modes
 use Rattle.es_pattern.specs.Reading.{Reading, with_term, opened, flushed, ended, finished_in}
 use Rattle.es_pattern.proofs.BracesRead.{breaks_at_end}
@@ -69,36 +69,39 @@ no_class_char : (c : ℕ) (mid : List ℕ) → ClassChar c [] mid → ⊥
 no_class_char c mid h = elim h [ ]
 
 -- nor is the first one
-no_first_char : (f : Bool) (c : ℕ) (mid : List ℕ) → FirstChar f c [] mid → ⊥
-no_first_char f c mid (other_char h) = no_class_char c mid h
+no_first_char : (before : Before) (c : ℕ) (mid : List ℕ) → FirstChar before c [] mid → ⊥
+no_first_char before c mid (other_char h) = no_class_char c mid h
+
+-- nor the one that begins or ends a range
+no_range_start : (before : Before) (c : ℕ) (mid : List ℕ) → RangeStart before c [] mid → ⊥
+no_range_start before c mid (start_char h) = no_first_char before c mid h
+
+no_range_end : (c : ℕ) (mid : List ℕ) → RangeEnd c [] mid → ⊥
+no_range_end c mid (end_char h) = no_class_char c mid h
 
 -- nor are the items up to `]`
-no_items : (f : Bool) (ranges all : List CharRange) (mid : List ℕ) → Items f ranges [] mid all → ⊥
-no_items f ranges all mid (one_char {c = c} {mid = after} h i) = no_first_char f c after h
-no_items f ranges all mid (from_to {c = c} {mid = after} h d le i) = no_first_char f c (45 ∷ after) h
-no_items f ranges all mid (to_dash {c = c} {after = after} h le i) = no_first_char f c (45 ∷ 45 ∷ after) h
+no_items : (before : Before) (ranges all : List CharRange) (mid : List ℕ) → Items before ranges [] mid all → ⊥
+no_items before ranges all mid (one_char {c = c} {mid = after} h i) = no_first_char before c after h
+no_items before ranges all mid (from_to {c = c} {mid = after} h d le i) = no_range_start before c (45 ∷ after) h
 
 -- nor is what follows a character of a class
 no_after : (c : ℕ) (ranges all : List CharRange) (mid : List ℕ) → After c ranges [] mid all → ⊥
-no_after c ranges all mid (after_one i) = no_items false (ranges ++ range c c ∷ []) all mid i
+no_after c ranges all mid (after_one i) = no_items character (ranges ++ range c c ∷ []) all mid i
 
 -- a `-` that is no first character
 no_dash_char : (c : ℕ) (mid : List ℕ) → ClassChar c (45 ∷ []) mid → ⊥
 no_dash_char c mid (itself h) = false≢true (sym h)
 
 -- a `-` alone begins no items of a class but the first
-no_dash : (c : ℕ) (mid : List ℕ) → FirstChar false c (45 ∷ []) mid → ⊥
-no_dash c mid (other_char h) = no_dash_char c mid h
-
-no_dash_items : (ranges all : List CharRange) (mid : List ℕ) → Items false ranges (45 ∷ []) mid all → ⊥
-no_dash_items ranges all mid (one_char {c = c} {mid = after} h i) = no_dash c after h
-no_dash_items ranges all mid (from_to {c = c} {mid = after} h d le i) = no_dash c (45 ∷ after) h
-no_dash_items ranges all mid (to_dash {c = c} {after = after} h le i) = no_dash c (45 ∷ 45 ∷ after) h
+no_dash_items : (before : Before) (ranges all : List CharRange) (mid : List ℕ) → (before ≡ bracket → ⊥) → Items before ranges (45 ∷ []) mid all → ⊥
+no_dash_items before ranges all mid apart (one_char {c = c} {mid = after} (other_char h) i) = no_dash_char c after h
+no_dash_items before ranges all mid apart (one_char {c = c} {mid = after} first_dash i) = apart refl
+no_dash_items before ranges all mid apart (from_to {c = c} {mid = after} (start_char (other_char h)) d le i) = no_dash_char c (45 ∷ after) h
 
 -- nor does it follow a character of a class
 no_after_dash : (c : ℕ) (ranges all : List CharRange) (mid : List ℕ) → After c ranges (45 ∷ []) mid all → ⊥
-no_after_dash c ranges all mid (after_one i) = no_dash_items (ranges ++ range c c ∷ []) all mid i
-no_after_dash c ranges all mid (after_range {d = d} {after = after} h le i) = no_class_char d after h
+no_after_dash c ranges all mid (after_one i) = no_dash_items character (ranges ++ range c c ∷ []) all mid (λ e. cc) i
+no_after_dash c ranges all mid (after_range {d = d} {after = after} h le i) = no_range_end d after h
 
 -- a backslash alone is no character of a class
 no_escape_char : (c : ℕ) (mid : List ℕ) → ClassChar c (92 ∷ []) mid → ⊥
@@ -155,14 +158,15 @@ taking_end Escape r t e s h = let f = first_term r.trees r.groups t 92 [] (eqb-f
 taking_end (modes.Hex value left) r t e s h = absurd (no_hex None left value h.0 h.1 s h.2)
 taking_end Paren r t e s h = let f = first_term r.trees r.groups t 40 [] (eqb-false 40 41 refl) (eqb-false 40 124 refl) h in absurd (no_paren_term f.0 f.1 f.2)
 taking_end ParenQuestion r t e s h = let f = first_term r.trees r.groups t 40 (63 ∷ []) (eqb-false 40 41 refl) (eqb-false 40 124 refl) h in absurd (no_question_term r t f.0 f.1 f.2 f.3)
-taking_end ClassOpen r t e s (inl h) = absurd (no_items true r.ranges h.1.0 h.1.1 h.1.2)
+taking_end ClassOpen r t e s (inl h) = absurd (no_items bracket r.ranges h.1.0 h.1.1 h.1.2)
 taking_end ClassOpen r t e s (inr h) = absurd (cc (h.1))
-taking_end ClassFirst r t e s h = absurd (no_items true r.ranges h.0 h.1 h.2)
-taking_end ClassNext r t e s h = absurd (no_items false r.ranges h.0 h.1 h.2)
-taking_end ClassLast r t e s h = absurd (cc (h.1))
+taking_end ClassFirst r t e s h = absurd (no_items bracket r.ranges h.0 h.1 h.2)
+taking_end ClassNext r t e s h = absurd (no_items range_or_set r.ranges h.0 h.1 h.2)
+taking_end ClassNextDash r t e s h = absurd (no_dash_items range_or_set r.ranges h.0 h.1 (λ y. cc) h.2)
+taking_end ClassNextDashes r t e s h = absurd (no_range_end h.2 h.3 h.4)
 taking_end (modes.ClassChar c) r t e s h = absurd (no_after c r.ranges h.0 h.1 h.2)
 taking_end (modes.ClassDash c) r t e s h = absurd (no_after_dash c r.ranges h.0 h.1 h.2)
-taking_end (modes.ClassZero true) r t e s h = absurd (no_items false r.ranges h.1.0 h.1.1 h.1.2)
+taking_end (modes.ClassZero true) r t e s h = absurd (no_items range_or_set r.ranges h.1.0 h.1.1 h.1.2)
 taking_end (modes.ClassZero false) r t e s h = absurd (no_after 0 r.ranges h.1.0 h.1.1 h.1.2)
 taking_end (modes.ClassEscape None) r t e s h = absurd (no_escape_item r.ranges h.0 h.1 h.2)
 taking_end (modes.ClassEscape (Some c)) r t e s h = absurd (no_escape_char h.2 h.3 h.4)

@@ -5,12 +5,12 @@ use Rattle.std.proofs.lemmas.Bool.Decides.{nat_tests}
 use Rattle.es_pattern.specs.Tree.{Tree, CharRange, nothing, one_of, word_boundary, sequence, choice, lookahead}
 use Rattle.es_pattern.specs.Pieces.{top, below}
 use Rattle.es_pattern.specs.Escapes.{range, is_surrogate}
-use Rattle.es_pattern.specs.Grammar.{never, char, BeginsBraces, BeginsDigit, Hex, four_digits, class_escape, backspace, no_item, last_dash, ends, at_boundary, group, bare_group}
+use Rattle.es_pattern.specs.Grammar.{never, char, BeginsBraces, BeginsDigit, Hex, four_digits, class_escape, backspace, end_dash, no_item, last_dash, ends, at_boundary, group, bare_group}
 use Rattle.es_pattern.specs.Limits.{product_of}
 use Rattle.es_pattern.specs.declared.mode.Open.{Open}
 use Rattle.es_pattern.specs.declared.mode.Open.TheVariants.{Group, Ahead}
 use Rattle.es_pattern.specs.declared.mode.Mode.{Mode}
-use Rattle.es_pattern.specs.declared.mode.Mode.TheVariants.{Term, Atom, Quantified, Zero, Braces, Escape, Paren, ParenQuestion, ClassOpen, ClassFirst, ClassNext, ClassLast}
+use Rattle.es_pattern.specs.declared.mode.Mode.TheVariants.{Term, Atom, Quantified, Zero, Braces, Escape, Paren, ParenQuestion, ClassOpen, ClassFirst, ClassNext, ClassNextDash, ClassNextDashes}
 use Rattle.es_pattern.specs.declared.mode.Mode.TheVariants as modes
 use Rattle.es_pattern.specs.Reading.{Reading, flushed, flushed_chars, with_atom, with_term, products_below}
 use Rattle.es_pattern.proofs.BracesRead.{AllInner, breaks, breaks_at_end}
@@ -171,7 +171,8 @@ module _ (r : Reading) where
   viable_in ClassOpen h = let c = class_closed r.ranges in (93 ∷ closers gs, c.0, inl ((λ e. absurd (omega (arith, e))), (r.ranges, closers gs, no_item, c.1)), c.2)
   viable_in ClassFirst h = let c = class_closed r.ranges in (93 ∷ closers gs, c.0, (r.ranges, closers gs, no_item, c.1), c.2)
   viable_in ClassNext h = let c = class_closed r.ranges in (93 ∷ closers gs, c.0, (r.ranges, closers gs, no_item, c.1), c.2)
-  viable_in ClassLast h = let c = class_closed r.ranges in (93 ∷ closers gs, c.0, (closers gs, refl, c.1), c.2)
+  viable_in ClassNextDash h = let c = class_closed (r.ranges ++ range 45 45 ∷ []) in (93 ∷ closers gs, c.0, (r.ranges ++ range 45 45 ∷ [], closers gs, last_dash, c.1), c.2)
+  viable_in ClassNextDashes h = let c = class_closed (r.ranges ++ range 45 45 ∷ []) in (45 ∷ 93 ∷ closers gs, c.0, (r.ranges ++ range 45 45 ∷ [], closers gs, 45, 93 ∷ closers gs, end_dash, omega arith, no_item, c.1), c.2)
   viable_in (modes.ClassChar first) h = let c = class_closed (r.ranges ++ range first first ∷ []) in (93 ∷ closers gs, c.0, (r.ranges ++ range first first ∷ [], closers gs, after_one no_item, c.1), c.2)
   viable_in (modes.ClassDash first) h =
       let all : List CharRange = r.ranges ++ range first first ∷ [] ++ range 45 45 ∷ [] in

@@ -71,20 +71,35 @@ pub data ClassChar : ℕ → List ℕ → List ℕ → Type 0 where
   class_escape : {c : ℕ} {text rest : List ℕ} → CharEscape c text rest → ClassChar c (codes "\\" ++ text) rest
   backspace : {rest : List ℕ} → ClassChar 8 (codes "\\b" ++ rest) rest
 
+-- what stands before an item of a class
+pub data Before : Type 0 where
+  bracket : Before
+  character : Before
+  range_or_set : Before
+
 -- such a character, or the `-` with which a class begins
-pub data FirstChar : Bool → ℕ → List ℕ → List ℕ → Type 0 where
-  other_char : {is_first : Bool} {c : ℕ} {text rest : List ℕ} → ClassChar c text rest → FirstChar is_first c text rest
-  first_dash : {rest : List ℕ} → FirstChar true 45 (codes "-" ++ rest) rest
+pub data FirstChar : Before → ℕ → List ℕ → List ℕ → Type 0 where
+  other_char : {before : Before} {c : ℕ} {text rest : List ℕ} → ClassChar c text rest → FirstChar before c text rest
+  first_dash : {rest : List ℕ} → FirstChar bracket 45 (codes "-" ++ rest) rest
+
+-- the character with which a range begins, also a `-` after a range or a set; after a character it would be the middle of a range
+pub data RangeStart : Before → ℕ → List ℕ → List ℕ → Type 0 where
+  start_char : {before : Before} {c : ℕ} {text rest : List ℕ} → FirstChar before c text rest → RangeStart before c text rest
+  start_dash : {rest : List ℕ} → RangeStart range_or_set 45 (codes "-" ++ rest) rest
+
+-- the one with which it ends, also a `-`
+pub data RangeEnd : ℕ → List ℕ → List ℕ → Type 0 where
+  end_char : {c : ℕ} {text rest : List ℕ} → ClassChar c text rest → RangeEnd c text rest
+  end_dash : {rest : List ℕ} → RangeEnd 45 (codes "-" ++ rest) rest
 
 -- the items of a class after those whose ranges were read, up to and with `]`
-pub data Items : Bool → List CharRange → List ℕ → List ℕ → List CharRange → Type 0 where
-  no_item : {is_first : Bool} {ranges : List CharRange} {rest : List ℕ} → Items is_first ranges (codes "]" ++ rest) rest ranges
-  last_dash : {is_first : Bool} {ranges : List CharRange} {rest : List ℕ} → Items is_first ranges (codes "-]" ++ rest) rest (ranges ++ range 45 45 ∷ [])
-  one_char : {is_first : Bool} {ranges all : List CharRange} {c : ℕ} {text mid rest : List ℕ} → FirstChar is_first c text mid → Items false (ranges ++ range c c ∷ []) mid rest all → Items is_first ranges text rest all
-  one_set : {is_first : Bool} {ranges more all : List CharRange} {letter : ℕ} {text rest : List ℕ} → set_of letter ≡ Some more → Items false (ranges ++ more) text rest all → Items is_first ranges (codes "\\" ++ letter ∷ text) rest all
-  from_to : {is_first : Bool} {ranges all : List CharRange} {c d : ℕ} {text mid after rest : List ℕ} → FirstChar is_first c text (codes "-" ++ mid) → ClassChar d mid after → c ≤ d → Items false (ranges ++ range c d ∷ []) after rest all
-      → Items is_first ranges text rest all
-  to_dash : {is_first : Bool} {ranges all : List CharRange} {c : ℕ} {text after rest : List ℕ} → FirstChar is_first c text (codes "--" ++ after) → c ≤ 45 → Items false (ranges ++ range c 45 ∷ []) after rest all → Items is_first ranges text rest all
+pub data Items : Before → List CharRange → List ℕ → List ℕ → List CharRange → Type 0 where
+  no_item : {before : Before} {ranges : List CharRange} {rest : List ℕ} → Items before ranges (codes "]" ++ rest) rest ranges
+  last_dash : {before : Before} {ranges : List CharRange} {rest : List ℕ} → Items before ranges (codes "-]" ++ rest) rest (ranges ++ range 45 45 ∷ [])
+  one_char : {before : Before} {ranges all : List CharRange} {c : ℕ} {text mid rest : List ℕ} → FirstChar before c text mid → Items character (ranges ++ range c c ∷ []) mid rest all → Items before ranges text rest all
+  one_set : {before : Before} {ranges more all : List CharRange} {letter : ℕ} {text rest : List ℕ} → set_of letter ≡ Some more → Items range_or_set (ranges ++ more) text rest all → Items before ranges (codes "\\" ++ letter ∷ text) rest all
+  from_to : {before : Before} {ranges all : List CharRange} {c d : ℕ} {text mid after rest : List ℕ} → RangeStart before c text (codes "-" ++ mid) → RangeEnd d mid after → c ≤ d → Items range_or_set (ranges ++ range c d ∷ []) after rest all
+      → Items before ranges text rest all
 
 -- a character that is no part of a pattern's syntax
 abbrev pub is_plain : ℕ → Bool
@@ -115,8 +130,8 @@ pub data Reads : Form → List ℕ → List ℕ → Type 0 where
   dot : {rest : List ℕ} → Reads (atom any) (codes "." ++ rest) rest
   group : {t : Tree} {text rest : List ℕ} → Reads (alternatives never nothing t) text (codes ")" ++ rest) → Reads (atom t) (codes "(" ++ text) rest
   bare_group : {t : Tree} {text rest : List ℕ} → Reads (alternatives never nothing t) text (codes ")" ++ rest) → Reads (atom t) (codes "(?:" ++ text) rest
-  class : {ranges : List CharRange} {text rest : List ℕ} → (BeginsCaret text → ⊥) → Items true [] text rest ranges → Reads (atom (one_of false ranges)) (codes "[" ++ text) rest
-  negated_class : {ranges : List CharRange} {text rest : List ℕ} → Items true [] text rest ranges → Reads (atom (one_of true ranges)) (codes "[^" ++ text) rest
+  class : {ranges : List CharRange} {text rest : List ℕ} → (BeginsCaret text → ⊥) → Items bracket [] text rest ranges → Reads (atom (one_of false ranges)) (codes "[" ++ text) rest
+  negated_class : {ranges : List CharRange} {text rest : List ℕ} → Items bracket [] text rest ranges → Reads (atom (one_of true ranges)) (codes "[^" ++ text) rest
   set_escape : {letter : ℕ} {ranges : List CharRange} {rest : List ℕ} → set_of letter ≡ Some ranges → Reads (atom (one_of false ranges)) (codes "\\" ++ letter ∷ rest) rest
   char_escape : {c : ℕ} {text rest : List ℕ} → CharEscape c text rest → Reads (atom (char c)) (codes "\\" ++ text) rest
   -- a `{` only where it doesn't begin a quantifier

@@ -23,3 +23,4 @@ pub mod ReaderView
 pub mod Bounds
 pub mod Parsing
 pub mod Refusals
+pub mod Turns

@@ -6,7 +6,7 @@ use Rattle.es_pattern.specs.declared.reader.Taken.TheVariants.{Yes, No, TooLarge
 use Rattle.es_pattern.specs.declared.piece.Piece.{Piece}
 use Rattle.es_pattern.specs.Tree.{Tree}
 use Rattle.es_pattern.specs.declared.mode.Mode.{Mode}
-use Rattle.es_pattern.specs.declared.mode.Mode.TheVariants.{Term, Atom, Quantified, Zero, Braces, Escape, Hex, Paren, ParenQuestion, ClassOpen, ClassFirst, ClassNext, ClassLast, ClassChar, ClassDash, ClassZero, ClassEscape, ClassHex}
+use Rattle.es_pattern.specs.declared.mode.Mode.TheVariants.{Term, Atom, Quantified, Zero, Braces, Escape, Hex, Paren, ParenQuestion, ClassOpen, ClassFirst, ClassNext, ClassNextDash, ClassNextDashes, ClassChar, ClassDash, ClassZero, ClassEscape, ClassHex}
 use Rattle.es_pattern.specs.Pieces.{top, with_piece, with_pieces}
 use Rattle.es_pattern.specs.Reading.{Reading}
 
@@ -47,7 +47,8 @@ IsClass ParenQuestion = ⊥
 IsClass ClassOpen = Unit {0}
 IsClass ClassFirst = Unit {0}
 IsClass ClassNext = Unit {0}
-IsClass ClassLast = Unit {0}
+IsClass ClassNextDash = Unit {0}
+IsClass ClassNextDashes = Unit {0}
 IsClass (ClassChar first) = Unit {0}
 IsClass (ClassDash first) = Unit {0}
 IsClass (ClassZero is_last) = Unit {0}

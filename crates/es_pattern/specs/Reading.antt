@@ -9,7 +9,7 @@ use Rattle.es_pattern.specs.Limits.{is_above_limit, count_of}
 use Rattle.es_pattern.specs.declared.mode.Open.{Open}
 use Rattle.es_pattern.specs.declared.mode.Open.TheVariants.{Group, Ahead}
 use Rattle.es_pattern.specs.declared.mode.Mode.{Mode}
-use Rattle.es_pattern.specs.declared.mode.Mode.TheVariants.{Term, Atom, Quantified, Zero, Braces, Escape, Hex, Paren, ParenQuestion, ClassOpen, ClassFirst, ClassNext, ClassLast, ClassChar, ClassDash, ClassZero, ClassEscape, ClassHex}
+use Rattle.es_pattern.specs.declared.mode.Mode.TheVariants.{Term, Atom, Quantified, Zero, Braces, Escape, Hex, Paren, ParenQuestion, ClassOpen, ClassFirst, ClassNext, ClassNextDash, ClassNextDashes, ClassChar, ClassDash, ClassZero, ClassEscape, ClassHex}
 
 -- The trees: for each open group, and for the whole, the last alternative's terms and the alternatives before it, and an atom that no term follows yet; the last one first. The groups, the last one first.
 pub record Reading : Type 0 where
@@ -196,7 +196,7 @@ item c r =
     else Some (at (ClassChar c) r)
 
 abbrev pub next_item : ℕ → Reading → Option Reading
-next_item c r = if c == 45 then Some (at ClassLast (ranged 45 45 r)) else item c r
+next_item c r = if c == 45 then Some (at ClassNextDash r) else item c r
 
 abbrev pub after_char : ℕ → ℕ → Reading → Option Reading
 after_char first c r =
@@ -209,12 +209,26 @@ class_char (Some first) c r =
     if nat_le first c then Some (at ClassNext (ranged first c r))
     else None
 
+-- the character with which a range ends, where it isn't `]`
+abbrev pub range_end : ℕ → ℕ → Reading → Option Reading
+range_end first c r =
+    if c == 92 then (if nat_le first 0xffff then Some (at (ClassEscape (Some first)) r) else None)
+    else if c == 45 then (if nat_le first 45 then Some (at ClassNext (ranged first 45 r)) else None)
+    else class_char (Some first) c r
+
 abbrev pub after_dash : ℕ → ℕ → Reading → Option Reading
 after_dash first c r =
     if c == 93 then Some (class_end (ranged 45 45 (ranged first first r)))
-    else if c == 92 then (if nat_le first 0xffff then Some (at (ClassEscape (Some first)) r) else None)
-    else if c == 45 then (if nat_le first 45 then Some (at ClassNext (ranged first 45 r)) else None)
-    else class_char (Some first) c r
+    else range_end first c r
+
+abbrev pub next_dash : ℕ → Reading → Option Reading
+next_dash c r =
+    if c == 93 then Some (class_end (ranged 45 45 r))
+    else if c == 45 then Some (at ClassNextDashes r)
+    else None
+
+abbrev pub next_dashes : ℕ → Reading → Option Reading
+next_dashes c r = if c == 93 then None else range_end 45 c r
 
 abbrev pub class_char_if : Option ℕ → Option ℕ → Reading → Option Reading
 class_char_if first None r = None
@@ -276,7 +290,8 @@ step_in ClassOpen c r =
     else item c r
 step_in ClassFirst c r = item c r
 step_in ClassNext c r = next_item c r
-step_in ClassLast c r = if c == 93 then Some (class_end r) else None
+step_in ClassNextDash c r = next_dash c r
+step_in ClassNextDashes c r = next_dashes c r
 step_in (ClassChar first) c r = after_char first c r
 step_in (ClassDash first) c r = after_dash first c r
 step_in (ClassZero is_last) c r =
@@ -307,7 +322,8 @@ finished_in ParenQuestion r = None
 finished_in ClassOpen r = None
 finished_in ClassFirst r = None
 finished_in ClassNext r = None
-finished_in ClassLast r = None
+finished_in ClassNextDash r = None
+finished_in ClassNextDashes r = None
 finished_in (ClassChar first) r = None
 finished_in (ClassDash first) r = None
 finished_in (ClassZero is_last) r = None

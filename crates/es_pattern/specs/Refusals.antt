@@ -2,7 +2,7 @@
 use Rattle.std.specs.Prelude.{ℕ, ◌+◌, ◌&&◌, ◌||◌, Bool, true, false, nat_le, List}
 use Rattle.es_pattern.specs.Forms.{begins_unsupported_escape, begins_named_group, begins_group}
 use Rattle.es_pattern.specs.declared.mode.Mode.{Mode}
-use Rattle.es_pattern.specs.declared.mode.Mode.TheVariants.{Term, Atom, Quantified, Zero, Braces, Escape, Hex, Paren, ParenQuestion, ClassOpen, ClassFirst, ClassNext, ClassLast, ClassChar, ClassDash, ClassZero, ClassEscape, ClassHex}
+use Rattle.es_pattern.specs.declared.mode.Mode.TheVariants.{Term, Atom, Quantified, Zero, Braces, Escape, Hex, Paren, ParenQuestion, ClassOpen, ClassFirst, ClassNext, ClassNextDash, ClassNextDashes, ClassChar, ClassDash, ClassZero, ClassEscape, ClassHex}
 
 -- an escape may begin where none has begun
 abbrev pub may_escape : Mode → Bool
@@ -18,7 +18,8 @@ may_escape ParenQuestion = false
 may_escape ClassOpen = true
 may_escape ClassFirst = true
 may_escape ClassNext = true
-may_escape ClassLast = true
+may_escape ClassNextDash = true
+may_escape ClassNextDashes = true
 may_escape (ClassChar first) = true
 may_escape (ClassDash first) = true
 may_escape (ClassZero is_last) = true
@@ -39,7 +40,8 @@ may_open ParenQuestion = false
 may_open ClassOpen = false
 may_open ClassFirst = false
 may_open ClassNext = false
-may_open ClassLast = false
+may_open ClassNextDash = false
+may_open ClassNextDashes = false
 may_open (ClassChar first) = false
 may_open (ClassDash first) = false
 may_open (ClassZero is_last) = false
@@ -60,7 +62,8 @@ pending ParenQuestion = 0
 pending ClassOpen = 0
 pending ClassFirst = 0
 pending ClassNext = 0
-pending ClassLast = 0
+pending ClassNextDash = 0
+pending ClassNextDashes = 0
 pending (ClassChar first) = 0
 pending (ClassDash first) = 0
 pending (ClassZero is_last) = 0

@@ -29,6 +29,7 @@ mod search;
 mod step;
 #[cfg(test)]
 mod tests;
+mod turns;
 mod walk;
 
 pub use error::PatternError;

@@ -39,10 +39,12 @@ pub(crate) enum Mode {
     ClassOpen,
     // The first item of a class.
     ClassFirst,
-    // A further item of a class.
+    // An item of a class after a range or a set.
     ClassNext,
-    // The end of a class.
-    ClassLast,
+    // What follows `-` after a range or a set of a class: the class's end, or `-` as in `--a`.
+    ClassNextDash,
+    // What follows `--` after a range or a set of a class: the end of a range from `-` on.
+    ClassNextDashes,
     // What follows a character of a class.
     ClassChar {
         first: char,

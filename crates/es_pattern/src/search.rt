@@ -1,5 +1,5 @@
 // The search for a pattern: one pass over the text, and one for each lookahead that it comes to.
-ghost use Rattle.std.specs.Prelude.{◌≡◌, ◌≤◌, ℕ, Bool, IfOk, IsTrue, ◌↔◌, MatchOption, OnOk, OnSome, IfSome, length, slice_get, unwrap_or, slice_index};
+ghost use Rattle.std.specs.Prelude.{◌≡◌, ◌≤◌, ◌<◌, ℕ, Bool, IfOk, IsTrue, ◌↔◌, MatchOption, OnOk, OnSome, IfSome, length, slice_get, unwrap_or, slice_index};
 ghost use Rattle.std.specs.Str.{chars};
 ghost use Rattle.es_pattern.specs.Spans.{IsFound};
 ghost use Rattle.es_pattern.specs.Pieces.{tree_of};
@@ -11,8 +11,11 @@ use crate::compile::Program;
 use crate::passing::{fits, is_boundary};
 use crate::piece::{CharRange, Piece};
 use crate::step::{Direction, Step};
+use crate::turns::Turns;
 use crate::walk::Walk;
 use std::alloc::{AllocError, Global};
+use std::marker::Brand;
+use std::sync::ledger::{Blank, Ledger};
 
 // Whether the pattern of these pieces, with their program, is found in the text.
 pub(crate) fn is_found(
@@ -31,7 +34,20 @@ pub(crate) fn is_found(
         program,
         text: &characters,
     };
-    search.is_found()
+    search_counted::<Brand>(&search, Blank::new(1))
+}
+
+// Whether it is found, with a count of the turns that its clause bounds.
+fn search_counted<L: Ledger>(search: &Search<'_>, blank: Blank) -> Result<bool, AllocError>
+    requires program { IsProgramOf search.now.pieces.now search.now.program.now }
+    requires name { blank.name ≡ L.name }
+    requires parts { blank.parts ≡ L.parts }
+    requires any { 0 < blank.parts }
+    ensures { IfOk result (λ found. IsTrue found
+        ↔ IsFound (tree_of search.now.pieces.now) search.now.text.now) }
+{
+    let mut turns = Turns::<L>::new(blank);
+    search.is_found(&mut turns)
 }
 
 // For each lookahead that was told whether it holds, by the number of characters behind the place.
@@ -47,7 +63,7 @@ struct Search<'a> {
 }
 
 impl<'a> Search<'a> {
-    ghost use Rattle.std.specs.Prelude.{◌≡◌, ◌||◌, ◌≤◌, ◌<◌, ◌/◌, ◌++◌, ◌∷◌, ◌+◌, [], ℕ, Bool, false, IfOk, IsTrue, IsNone, ◌↔◌, MatchOption, OnOk, length, slice_get, Some};
+    ghost use Rattle.std.specs.Prelude.{◌≡◌, ◌||◌, ◌≤◌, ◌<◌, ◌/◌, ◌++◌, ◌∷◌, ◌+◌, [], ℕ, Bool, None, false, IfOk, IsTrue, IsNone, ◌↔◌, MatchOption, OnOk, length, replicate, slice_get, Some};
     ghost use Rattle.std.specs.Global.{Vec};
     ghost use Rattle.es_pattern.specs.Tree.{CharRange};
     ghost use Rattle.es_pattern.specs.Spans.{IsFound, fits};
@@ -72,20 +88,24 @@ impl<'a> Search<'a> {
     ghost use Rattle.es_pattern.specs.NumberSet.{has};
     ghost use Rattle.es_pattern.specs.Begins.{NoneBegins, may_begin, may_stay, may_take, takes_at};
     ghost use Rattle.es_pattern.specs.Compiled.{AllParts, IsProgramOf, part_steps};
+    ghost use Rattle.es_pattern.specs.Turns.{pass_turns, search_turns, turns_from, untold_turns};
 
     // Whether the pattern is found. All walks go on side by side, from each place where one may
     // begin.
-    fn is_found(&self) -> Result<bool, AllocError>
+    fn is_found<L: Ledger>(&self, turns: &mut Turns<L>) -> Result<bool, AllocError>
         requires { IsProgramOf self.now.pieces.now self.now.program.now }
-        ensures { IfOk result
+        ensures found { IfOk result
             (λ found. IsTrue found ↔ IsFound (tree_of self.now.pieces.now) self.now.text.now) }
+        // A pass over the text for the whole, and at most one for each lookahead.
+        ensures turns { OnOk result (turns.new ≤ turns.old + search_turns
+            (length self.now.text.now + 1) self.now.pieces.now) }
     {
         let mut tables = self.no_tables()?;
         let mut alive = Alive::new(self.alloc, self.program.steps.len())?;
         let mut from = 0;
         while let Some(place) = self.next_place(from, &alive) {
             self.begin_at(place, &mut alive)?;
-            if self.pass(&mut tables, place, &mut alive)? {
+            if self.pass(&mut tables, place, &mut alive, turns)? {
                 return Ok(true);
             }
             from = place + 1;
@@ -140,6 +160,9 @@ impl<'a> Search<'a> {
         requires program { IsProgramOf self.now.pieces.now self.now.program.now }
         requires place { place ≤ length self.now.text.now }
         ensures room { length alive.new.taken.words.items ≡ length alive.old.taken.words.items }
+        ensures one { OnOk result
+            (length alive.new.waiting.items ≤ length alive.old.waiting.items + 1) }
+        ensures next { alive.new.next ≡ alive.old.next }
         ensures begun { OnOk result (ArrivesBy Direction.Forward self.now.pieces.now
             self.now.text.now (may_begin (tree_of self.now.pieces.now) self.now.text.now)
             self.now.program.now.steps.items place alive.old
@@ -193,7 +216,13 @@ impl<'a> Search<'a> {
 
     // Takes all steps of the whole that are alive at a place, and goes on to the next; whether the
     // end is among them.
-    fn pass(&self, tables: &mut Tables, place: usize, alive: &mut Alive) -> Result<bool, AllocError>
+    fn pass<L: Ledger>(
+        &self,
+        tables: &mut Tables,
+        place: usize,
+        alive: &mut Alive,
+        turns: &mut Turns<L>,
+    ) -> Result<bool, AllocError>
         requires program { IsProgramOf self.now.pieces.now self.now.program.now }
         requires told { AllTell self.now.pieces.now self.now.text.now tables.old.items }
         requires place { place ≤ length self.now.text.now }
@@ -202,6 +231,10 @@ impl<'a> Search<'a> {
         ensures told { OnOk result
             (AllTell self.now.pieces.now self.now.text.now tables.new.items) }
         ensures room { length alive.new.taken.words.items ≡ length alive.old.taken.words.items }
+        ensures turns { OnOk result (turns.new + untold_turns (length self.now.text.now + 1)
+            self.now.pieces.now tables.new.items ≤ turns.old + untold_turns
+            (length self.now.text.now + 1) self.now.pieces.now tables.old.items + weight
+            (length self.now.program.now.steps.items) alive.old + 1) }
         // At the next place no more steps wait than the program has, and its end.
         ensures few { OnOk result (alive.old.next.items ≡ []
             → length alive.new.waiting.items ≤ length self.now.program.now.steps.items + 1) }
@@ -212,7 +245,7 @@ impl<'a> Search<'a> {
             self.now.program.now.steps.items place ended alive.new) }
     {
         let steps = &self.program.steps;
-        self.advance(tables, place, alive)?;
+        self.advance(tables, place, alive, turns)?;
         let ended = alive.taken.contains(steps.len());
         alive.go_on();
         Ok(ended)
@@ -220,8 +253,10 @@ impl<'a> Search<'a> {
 
     // Room for the tables, none of which is told.
     fn no_tables(&self) -> Result<Tables, AllocError>
-        ensures { IfOk result
+        ensures told { IfOk result
             (λ tables. AllTell self.now.pieces.now self.now.text.now tables.items) }
+        ensures none { IfOk result
+            (λ tables. tables.items ≡ replicate (length self.now.pieces.now) None) }
     {
         let mut tables = Vec::with_capacity(self.alloc, self.pieces.len())?;
         for _piece in self.pieces {
@@ -232,11 +267,12 @@ impl<'a> Search<'a> {
 
     // Takes the steps of the whole that wait at a place and all that follow there, and tells the
     // lookaheads that they come to.
-    fn advance(
+    fn advance<L: Ledger>(
         &self,
         tables: &mut Tables,
         place: usize,
         alive: &mut Alive,
+        turns: &mut Turns<L>,
     ) -> Result<(), AllocError>
         requires program { IsProgramOf self.now.pieces.now self.now.program.now }
         requires told { AllTell self.now.pieces.now self.now.text.now tables.old.items }
@@ -246,6 +282,11 @@ impl<'a> Search<'a> {
         ensures told { OnOk result
             (AllTell self.now.pieces.now self.now.text.now tables.new.items) }
         ensures room { length alive.new.taken.words.items ≡ length alive.old.taken.words.items }
+        ensures turns { OnOk result (turns.new + untold_turns (length self.now.text.now + 1)
+            self.now.pieces.now tables.new.items + weight
+            (length self.now.program.now.steps.items) alive.new ≤ turns.old + untold_turns
+            (length self.now.text.now + 1) self.now.pieces.now tables.old.items + weight
+            (length self.now.program.now.steps.items) alive.old + 1) }
         ensures few { OnOk result (crowd (length self.now.program.now.steps.items) alive.new
             ≤ crowd (length self.now.program.now.steps.items) alive.old) }
         ensures settled { OnOk result
@@ -262,14 +303,20 @@ impl<'a> Search<'a> {
                 place,
             },
             alive,
+            turns,
         )? {
-            self.tell(tables, number)?;
+            self.tell(tables, number, turns)?;
         }
         Ok(())
     }
 
     // Tells a lookahead, after those within it.
-    fn tell(&self, tables: &mut Tables, number: usize) -> Result<(), AllocError>
+    fn tell<L: Ledger>(
+        &self,
+        tables: &mut Tables,
+        number: usize,
+        turns: &mut Turns<L>,
+    ) -> Result<(), AllocError>
         requires program { IsProgramOf self.now.pieces.now self.now.program.now }
         requires told { AllTell self.now.pieces.now self.now.text.now tables.old.items }
         requires untold { IsUntold self.now.pieces.now tables.old.items number }
@@ -277,10 +324,13 @@ impl<'a> Search<'a> {
             (AllTell self.now.pieces.now self.now.text.now tables.new.items) }
         ensures fewer { OnOk result
             (untold_count tables.new.items < untold_count tables.old.items) }
+        ensures turns { OnOk result (turns.new + turns_from (length self.now.text.now + 1)
+            self.now.pieces.now 0 tables.new.items ≤ turns.old + turns_from
+            (length self.now.text.now + 1) self.now.pieces.now 0 tables.old.items) }
     {
         let first = self.first_within(number);
         for inner in first..number + 1 {
-            self.tell_one(tables, inner)?;
+            self.tell_one(tables, inner, turns)?;
         }
         Ok(())
     }
@@ -321,7 +371,12 @@ impl<'a> Search<'a> {
     }
 
     // Tells the piece of this number, where it's a lookahead that isn't told yet.
-    fn tell_one(&self, tables: &mut Tables, number: usize) -> Result<(), AllocError>
+    fn tell_one<L: Ledger>(
+        &self,
+        tables: &mut Tables,
+        number: usize,
+        turns: &mut Turns<L>,
+    ) -> Result<(), AllocError>
         requires program { IsProgramOf self.now.pieces.now self.now.program.now }
         requires told { AllTell self.now.pieces.now self.now.text.now tables.old.items }
         requires ready { (negated : Bool) → slice_get self.now.pieces.now number
@@ -333,23 +388,27 @@ impl<'a> Search<'a> {
         ensures kept { (k : ℕ) → IsTold tables.old.items k → IsTold tables.new.items k }
         ensures now { OnOk result ((negated : Bool) → slice_get self.now.pieces.now number
             ≡ Some (Piece.Lookahead negated) → IsTold tables.new.items number) }
+        ensures turns { OnOk result (turns.new + turns_from (length self.now.text.now + 1)
+            self.now.pieces.now 0 tables.new.items ≤ turns.old + turns_from
+            (length self.now.text.now + 1) self.now.pieces.now 0 tables.old.items) }
     {
         let Some(Piece::Lookahead { negated }) = self.pieces.get(number) else {
             return Ok(());
         };
         if tables[number].is_none() {
-            let table = self.table_of(tables, *negated, number)?;
+            let table = self.table_of(tables, *negated, number, turns)?;
             tables[number] = Some(table);
         }
         Ok(())
     }
 
     // For each number of characters behind a place whether the lookahead holds there.
-    fn table_of(
+    fn table_of<L: Ledger>(
         &self,
         tables: &[Option<Vec<bool>>],
         negated: bool,
         number: usize,
+        turns: &mut Turns<L>,
     ) -> Result<Vec<bool>, AllocError>
         requires program { IsProgramOf self.now.pieces.now self.now.program.now }
         requires told { AllTell self.now.pieces.now self.now.text.now tables.now }
@@ -357,8 +416,11 @@ impl<'a> Search<'a> {
             → IsAsked self.now.pieces.now tables.now
             (part_steps Direction.Backward self.now.pieces.now number) k → ⊥ }
         requires stands { slice_get self.now.pieces.now number ≡ Some (Piece.Lookahead negated) }
-        ensures { IfOk result
+        ensures table { IfOk result
             (λ table. Tells self.now.pieces.now self.now.text.now number table.items) }
+        ensures turns { OnOk result (turns.new ≤ turns.old + pass_turns
+            (length self.now.text.now + 1)
+            (length (part_steps Direction.Backward self.now.pieces.now number))) }
     {
         let steps = &self.program.lookaheads[number];
         let mut alive = Alive::new(self.alloc, steps.len())?;
@@ -372,7 +434,7 @@ impl<'a> Search<'a> {
                 tables,
                 place,
             };
-            let _asked = self.settle(&walk, &mut alive)?;
+            let _asked = self.settle(&walk, &mut alive, turns)?;
             table.push(negated != alive.taken.contains(steps.len()))?;
             alive.go_on();
         }
@@ -381,7 +443,12 @@ impl<'a> Search<'a> {
 
     // Takes the steps that wait at a walk's place and all that follow there, up to a lookahead that
     // has to be told first.
-    fn settle(&self, walk: &Walk<'_>, alive: &mut Alive) -> Result<Option<usize>, AllocError>
+    fn settle<L: Ledger>(
+        &self,
+        walk: &Walk<'_>,
+        alive: &mut Alive,
+        turns: &mut Turns<L>,
+    ) -> Result<Option<usize>, AllocError>
         requires ready { IsReady self.now.pieces.now self.now.text.now
             self.now.program.now.classes.items walk.now }
         requires room { length walk.now.steps.now / 64 < length alive.old.taken.words.items }
@@ -395,8 +462,11 @@ impl<'a> Search<'a> {
             (λ _. SettlingOn self.now.pieces.now self.now.text.now begins walk.now alive.new)) }
         ensures few { OnOk result (crowd (length walk.now.steps.now) alive.new
             ≤ crowd (length walk.now.steps.now) alive.old) }
+        ensures turns { OnOk result (turns.new + weight (length walk.now.steps.now) alive.new
+            ≤ turns.old + weight (length walk.now.steps.now) alive.old + 1) }
     {
         while let Some(at) = alive.waiting.pop() {
+            turns.tick();
             if !alive.taken.contains(at) {
                 let asked = self.take(walk, at, alive)?;
                 if asked.is_some() {
@@ -432,6 +502,8 @@ impl<'a> Search<'a> {
         ensures lighter { IfOk result (λ asked. IsNone asked
             → weight (length walk.now.steps.now) alive.new
             ≤ weight (length walk.now.steps.now) alive.old) }
+        ensures again { OnOk result (weight (length walk.now.steps.now) alive.new
+            ≤ weight (length walk.now.steps.now) alive.old + 1) }
         ensures few { OnOk result (crowd (length walk.now.steps.now) alive.new
             ≤ crowd (length walk.now.steps.now) alive.old) }
     {

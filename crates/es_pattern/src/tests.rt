@@ -241,7 +241,25 @@ $\ta/\ttrue\n\
 ()||c{2,}?\t1b//\ttrue\n\
 (?:b{1,2}$c{2}?)\tc.a⏎⏎\tfalse\n\
 c{2}?a{2}b{1,2}a{1,2}?\t\tfalse\n\
-((?!\\t{1,3})(?!.-|)1??){1,3}?\tb._.\tfalse\n"
+((?!\\t{1,3})(?!.-|)1??){1,3}?\tb._.\tfalse\n\
+^[a-c--e]+$\t-./Zabe\ttrue\n\
+[a-c--e]\t+,f\tfalse\n\
+^[a-c---e]+$\t-ace\ttrue\n\
+[a-c---e]\t,.d\tfalse\n\
+^[--a--b]+$\t-Zab\ttrue\n\
+[--a--b]\t,c\tfalse\n\
+[^--a]\t-Za\tfalse\n\
+^[^--a]+$\t,b\ttrue\n\
+^[a-c-]+$\t-abc\ttrue\n\
+[a-c-]\t,.d\tfalse\n\
+^[\\d-]+$\t-09\ttrue\n\
+[\\d-]\t,./:\tfalse\n\
+^[\\d---]+$\t-09\ttrue\n\
+[\\d---]\t,./:\tfalse\n\
+^[\\d---0a]+$\t-09a\ttrue\n\
+^[a-c--\\x61]+$\t-Zac\ttrue\n\
+[a-c--\\x61]\t,d\tfalse\n\
+^[+----.]+$\t+,-.\ttrue\n"
 }
 
 // The example of the crate's head.
@@ -276,7 +294,7 @@ fn answers_as_v8_does(rt: HostRuntime) -> Result<(), Fail> {
         );
         rows = rows.saturating_add(1);
     }
-    assert_eq!(rt; rows, 240);
+    assert_eq!(rt; rows, 258);
     Ok(())
 }
 
@@ -307,6 +325,15 @@ fn faults() -> &'static [(&'static str, &'static str, usize)] {
         ("[a-c-e]", "syntax", 5),
         ("[\\d-a]", "syntax", 4),
         ("[a-\\d]", "syntax", 4),
+        ("[a-c-", "syntax", 5),
+        ("[a-c--", "syntax", 6),
+        ("[a-c--]", "syntax", 6),
+        ("[a-c--+]", "syntax", 6),
+        ("[a-c--\\d]", "syntax", 7),
+        ("[a-c----e]", "syntax", 8),
+        ("[\\d--]", "syntax", 5),
+        ("[\\d--+]", "syntax", 5),
+        ("[b--e]", "syntax", 3),
         ("[b-\\x4", "syntax", 5),
         ("[b-\\x61]", "syntax", 6),
         ("[\\k]", "unsupported", 1),
@@ -376,6 +403,7 @@ fn accepted() -> &'static [(&'static str, &'static str)] {
         ("[--a]", "Q"),
         ("[+--]", ","),
         ("^[+--/][+--/]$", ",/"),
+        ("^[\\d--0]+$", "-./09"),
         ("[-a]", "-"),
         ("\\0a", "\0a"),
         ("\\u00e9", "é"),
@@ -439,8 +467,8 @@ fn hostile_patterns_take_pattern_times_text(rt: HostRuntime) -> Result<(), Fail>
     let patterns = [
         format!(in alloc; "(?!b)c")?,
         format!(in alloc; "(a|a)*b")?,
-        format!(in alloc; "{}b", nested(alloc, "(?=", ")", 199)?)?,
-        format!(in alloc; "{}b", nested(alloc, "(?!", ")", 199)?)?,
+        format!(in alloc; "{}b", nested(alloc, "(?=", ")", 200)?)?,
+        format!(in alloc; "{}b", nested(alloc, "(?!", ")", 200)?)?,
         format!(in alloc; "{}b", nested(alloc, "(?:", ")+", 199)?)?,
         format!(in alloc; "{}b", nested(alloc, "(?:", "){1,}", 199)?)?,
         format!(in alloc; "{}b", nested(alloc, "(?:", "){2,}", 9)?)?,
@@ -450,6 +478,21 @@ fn hostile_patterns_take_pattern_times_text(rt: HostRuntime) -> Result<(), Fail>
     for pattern in &patterns {
         let parsed = Pattern::parse(alloc, pattern.as_str())?;
         assert!(rt; !parsed.is_found(alloc, text.as_str())?);
+    }
+    Ok(())
+}
+
+// Sixteen counts of two come to 65,536, and seventeen pass the limit.
+#[test]
+fn counts_nest_to_the_limit(rt: HostRuntime) -> Result<(), Fail> {
+    let alloc = rt.alloc();
+    let text = repeated(alloc, "a", 2_000)?;
+    let sixteen = Pattern::parse(alloc, nested(alloc, "(?:", "){2,}", 16)?.as_str())?;
+    assert!(rt; !sixteen.is_found(alloc, text.as_str())?);
+    for (times, place) in [(17, 133), (199, 679)] {
+        let deeper = nested(alloc, "(?:", "){2,}", times)?;
+        let fault = Pattern::parse(alloc, deeper.as_str()).err();
+        assert_eq!(rt; fault, Some(PatternError::CountTooLarge { place }));
     }
     Ok(())
 }

@@ -12,7 +12,7 @@ use std::mem;
 impl Reader {
     ghost use Rattle.std.specs.Prelude.{◌≡◌, false, OnOk, IfOk, Some, None, if◌then◌else◌};
     ghost use Rattle.es_pattern.specs.Escapes.{hex_value, set_of};
-    ghost use Rattle.es_pattern.specs.Reading.{after_char, after_dash, at, can_end, class_char, class_end, class_hex_by, class_set, class_zero, item, next_item, overcounts_at, ranged, step, with_ranges};
+    ghost use Rattle.es_pattern.specs.Reading.{after_char, after_dash, at, can_end, class_char, class_end, class_hex_by, class_set, class_zero, item, next_dash, next_item, overcounts_at, range_end, ranged, step, with_ranges};
     ghost use Rattle.es_pattern.specs.ReaderView.{IsClass, Steps, reading};
 
     // Takes the next character of a class.
@@ -30,10 +30,9 @@ impl Reader {
             }
             Mode::ClassOpen | Mode::ClassFirst => self.take_item(c),
             Mode::ClassNext => self.take_next_item(c),
-            Mode::ClassLast if c == ']' => {
-                self.end_class()?;
-                Ok(Taken::Yes)
-            }
+            Mode::ClassNextDash => self.take_next_dash(c),
+            Mode::ClassNextDashes if c == ']' => Ok(Taken::No),
+            Mode::ClassNextDashes => self.take_range_end('-', c),
             Mode::ClassChar { first } => self.take_after_char(first, c),
             Mode::ClassDash { first } => self.take_after_dash(first, c),
             Mode::ClassZero { .. } if c.is_ascii_digit() => Ok(Taken::No),
@@ -58,17 +57,32 @@ impl Reader {
         Ok(Taken::Yes)
     }
 
-    // Takes the first character of an item that isn't the first: a `-` can only be the last.
+    // Takes the first character of an item after a range or a set.
     fn take_next_item(&mut self, c: char) -> Result<Taken, AllocError>
         ensures { IfOk result (λ taken. Steps (next_item c (reading self.old)) taken
             (reading self.new)) }
     {
         if c == '-' {
-            self.push_range('-', '-')?;
-            self.goes_to(Mode::ClassLast);
+            self.goes_to(Mode::ClassNextDash);
             return Ok(Taken::Yes);
         }
         self.take_item(c)
+    }
+
+    // Takes what follows `-` after a range or a set: such a `-` is the last item, or begins a range.
+    fn take_next_dash(&mut self, c: char) -> Result<Taken, AllocError>
+        ensures { IfOk result (λ taken. Steps (next_dash c (reading self.old)) taken
+            (reading self.new)) }
+    {
+        match c {
+            ']' => {
+                self.push_range('-', '-')?;
+                self.end_class()?;
+            }
+            '-' => self.goes_to(Mode::ClassNextDashes),
+            _ => return Ok(Taken::No),
+        }
+        Ok(Taken::Yes)
     }
 
     // Takes what follows a character of a class.
@@ -89,12 +103,21 @@ impl Reader {
         ensures { IfOk result (λ taken. Steps (after_dash first c (reading self.old)) taken
             (reading self.new)) }
     {
+        if c != ']' {
+            return self.take_range_end(first, c);
+        }
+        self.push_range(first, first)?;
+        self.push_range('-', '-')?;
+        self.end_class()?;
+        Ok(Taken::Yes)
+    }
+
+    // Takes the first character of a range's end, which `]` isn't.
+    fn take_range_end(&mut self, first: char, c: char) -> Result<Taken, AllocError>
+        ensures { IfOk result (λ taken. Steps (range_end first c (reading self.old)) taken
+            (reading self.new)) }
+    {
         match c {
-            ']' => {
-                self.push_range(first, first)?;
-                self.push_range('-', '-')?;
-                self.end_class()?;
-            }
             '\\' if first <= '\u{ffff}' => self.goes_to(Mode::ClassEscape { first: Some(first) }),
             '-' if first <= '-' => {
                 self.push_range(first, '-')?;

@@ -1,4 +1,4 @@
-use Rattle.std.proofs.Common.{◌≡◌, [], List, ℕ, sym, subst, ◌∙◌, arith}
+use Rattle.std.proofs.Common.{◌≡◌, ◌+◌, [], ◌∷◌, List, ℕ, length, sym, ap, subst, ◌∙◌, arith, length-append}
 use Rattle.std.proofs.lemmas.List.{append-nil, nil_from_length}
 use Rattle.es_pattern.specs.Passing.{Passes}
 use Rattle.es_pattern.specs.NumberSet.{Has}
@@ -7,9 +7,12 @@ use Rattle.es_pattern.proofs.Alives.{settling_dropped, settled_by}
 use Rattle.es_pattern.proofs.search.Search.settle.Goals as goal
 
 pub loop-at-preserved : goal.loop-at-preserved
-loop-at-preserved c = record {
+loop-at-preserved g c = record {
   room = c.loop-at.invariant.room;
   few = c.loop-at.invariant.few;
+  turned =
+      let waits : length c.loop-at.alive.waiting.items ≡ length c.pop.new.self.items + 1 = ap length c.in-Some.ensures.items ∙ length-append c.pop.new.self.items (c.in-Some.at ∷ []) in
+      omega (arith, waits, c.tick.ensures, c.loop-at.invariant.turned);
   kept = λ begins s.
       let pieces = c.args.self.now.pieces.now in
       let text = c.args.self.now.text.now in
@@ -21,7 +24,7 @@ loop-at-preserved c = record {
 }
 
 pub returns-clause-settled : goal.returns-clause-settled
-returns-clause-settled c = λ begins s.
+returns-clause-settled g c = λ begins s.
     let pieces = c.args.self.now.pieces.now in
     let text = c.args.self.now.text.now in
     let steps = c.args.walk.now.steps.now in

@@ -1,4 +1,4 @@
-use Rattle.std.proofs.Common.{◌≡◌, ◌+◌, ◌≤◌, [], length, sym, subst, ◌∙◌, ap, arith, length-append}
+use Rattle.std.proofs.Common.{◌≡◌, ◌+◌, ◌≤◌, [], length, refl, sym, subst, ◌∙◌, ap, arith, length-append}
 use Rattle.std.specs.Prelude.{slice_get, Some, None}
 use Rattle.std.proofs.lemmas.Option.{gets, slice_get_within}
 use Rattle.std.proofs.lemmas.List.{append-nil}
@@ -78,3 +78,9 @@ returns-clause-few c =
     let fewer = untaken_fewer old c.take.new.self.taken.words.items (length steps + 1) c.args.at c.in_ok-take.ensures.kept c.requires.fresh added (omega arith) in
     let come : length c.take.new.self.next.items ≡ length c.args.alive.now.next.items + length next = ap length c.in_ok-take.ensures.next ∙ length-append c.args.alive.now.next.items next in
     omega (arith, fewer, come, few_next step c.args.at c.match-step.passing)
+
+pub returns-in_default-clause-again : goal.returns-in_default-clause-again
+returns-in_default-clause-again c = let lighter = returns-in_default-clause-lighter c refl in omega (arith, lighter)
+
+pub returns-clause-again : goal.returns-clause-again
+returns-clause-again c = let lighter = returns-clause-lighter c refl in omega (arith, lighter)

@@ -11,10 +11,10 @@ use Rattle.es_pattern.proofs.NumberTests.{lt_or_same}
 use Rattle.es_pattern.proofs.search.Search.tell.Goals as goal
 
 pub first_within-first-requires-clause-stands : goal.first_within-first-requires-clause-stands
-first_within-first-requires-clause-stands c = slice_get_within c.args.self.now.pieces.now c.args.number (Lookahead c.requires.untold.negated) c.requires.untold.stands
+first_within-first-requires-clause-stands g c = slice_get_within c.args.self.now.pieces.now c.args.number (Lookahead c.requires.untold.negated) c.requires.untold.stands
 
 pub tell_one-requires-clause-ready : goal.tell_one-requires-clause-ready
-tell_one-requires-clause-ready c = λ negated at k asked.
+tell_one-requires-clause-ready g c = λ negated at k asked.
     let pieces = c.args.self.now.pieces.now in
     let inner = c.loop-inner.inner in
     let within = slice_get_within pieces inner (Lookahead negated) at in
@@ -23,9 +23,10 @@ tell_one-requires-clause-ready c = λ negated at k asked.
     told_unasked pieces c.loop-inner.tables.items k (c.loop-inner.invariant.done k asked.untold.negated low below asked.untold.stands) asked.untold
 
 pub loop-inner-preserved : goal.loop-inner-preserved
-loop-inner-preserved c = record {
+loop-inner-preserved g c = record {
   told = c.in_ok-tell_one.ensures.told;
   done = λ k negated low lt at. by_order k negated at (lt_or_same k c.loop-inner.inner (omega (arith, lt))) low;
+  turned = omega (arith, c.loop-inner.invariant.turned, c.in_ok-tell_one.ensures.turns);
   kept = λ k h. c.tell_one.ensures.kept k (c.loop-inner.invariant.kept k h);
 }
   where
@@ -34,7 +35,7 @@ loop-inner-preserved c = record {
     by_order k negated at (inr e) low = subst (λ (n : ℕ). IsTold c.tell_one.new.tables.items n) (sym e) (c.in_ok-tell_one.ensures.now negated (subst (λ (n : ℕ). slice_get c.args.self.now.pieces.now n ≡ Some (Lookahead negated)) e at))
 
 pub returns-clause-fewer : goal.returns-clause-fewer
-returns-clause-fewer c =
+returns-clause-fewer g c =
     let within = slice_get_within c.args.self.now.pieces.now c.args.number (Lookahead c.requires.untold.negated) c.requires.untold.stands in
     fewer_untold c.args.tables.now.items c.loop-inner.tables.items c.args.number (omega (arith, c.loop-inner.invariant.told.counted, c.requires.told.counted)) c.loop-inner.invariant.kept c.requires.untold.untold
     (c.loop-inner.invariant.done c.args.number c.requires.untold.negated (omega arith) (omega arith) c.requires.untold.stands)
