@@ -4,9 +4,7 @@ use Rattle.std.specs.Prelude.{option_map}
 use Rattle.std.specs.Option.{option_or}
 use Rattle.std.specs.List.{prefix_len}
 use Rattle.std.proofs.Math.Seq.{take-length}
-use Rattle.yarn_lock_parser.specs.declared.byte_set.ByteSet.{ByteSet}
-use Rattle.yarn_lock_parser.specs.declared.byte_set.ByteSet.TheVariants.{Blank, NotLineFeed}
-use Rattle.yarn_lock_parser.specs.ByteSet.{has}
+use Rattle.yarn_lock_parser.specs.ByteSet.{is_blank, is_no_line_feed}
 use Rattle.sugar_path.specs.Front.{◌>>=◌, after}
 use Rattle.yarn_lock_parser.specs.Front.{run, line_at, front, IsRest}
 use Rattle.yarn_lock_parser.specs.Cut.{after_empty_line, after_later_empty_line, after_first_empty_line, entry_text}
@@ -15,15 +13,15 @@ use Rattle.yarn_lock_parser.proofs.Rests.{either_form, IsLater, later, then_late
 abbrev parts : List ℕ → List ℕ → List ℕ × List ℕ
 parts x y = (x, y)
 
-pub run-cons : (set : ByteSet) (c : ℕ) (cs : List ℕ) → run set (c ∷ cs) ≡ cond (has set c) (parts (c ∷ (run set cs).0) (run set cs).1) (parts [] (c ∷ cs))
+pub run-cons : (set : ℕ → Bool) (c : ℕ) (cs : List ℕ) → run set (c ∷ cs) ≡ cond (set c) (parts (c ∷ (run set cs).0) (run set cs).1) (parts [] (c ∷ cs))
 unfolding run
-run-cons set c cs = by_test (has set c)
+run-cons set c cs = by_test (set c)
   where
-    by_test : (b : Bool) → parts (take (cond b (1 + prefix_len (has set) cs) 0) (c ∷ cs)) (drop (cond b (1 + prefix_len (has set) cs) 0) (c ∷ cs)) ≡ cond b (parts (c ∷ take (prefix_len (has set) cs) cs) (drop (prefix_len (has set) cs) cs)) (parts [] (c ∷ cs))
-    by_test true = let one : 1 + prefix_len (has set) cs ≡ suc (prefix_len (has set) cs) = omega arith in rw one refl
+    by_test : (b : Bool) → parts (take (cond b (1 + prefix_len set cs) 0) (c ∷ cs)) (drop (cond b (1 + prefix_len set cs) 0) (c ∷ cs)) ≡ cond b (parts (c ∷ take (prefix_len set cs) cs) (drop (prefix_len set cs) cs)) (parts [] (c ∷ cs))
+    by_test true = let one : 1 + prefix_len set cs ≡ suc (prefix_len set cs) = omega arith in rw one refl
     by_test false = refl
 
-pub run-nil : (set : ByteSet) → (run set []).1 ≡ []
+pub run-nil : (set : ℕ → Bool) → (run set []).1 ≡ []
 unfolding run
 run-nil set = refl
 
@@ -33,13 +31,13 @@ line_at-nil = refl
 
 line_at-feed : (c : ℕ) (cs : List ℕ) → (c == 10) ≡ true → line_at (c ∷ cs) ≡ Some ([], cs)
 unfolding line_at after
-line_at-feed c cs e = rw (run-cons NotLineFeed c cs, e) (rw e refl)
+line_at-feed c cs e = rw (run-cons is_no_line_feed c cs, e) (rw e refl)
 
 line_at-other : (c : ℕ) (cs : List ℕ) → (c == 10) ≡ false → line_at (c ∷ cs) ≡ option_map (λ x. (c ∷ x.0, x.1)) (line_at cs)
 unfolding line_at
-line_at-other c cs e = rw (run-cons NotLineFeed c cs, e) (by_rest (after (10 ∷ []) (run NotLineFeed cs).1))
+line_at-other c cs e = rw (run-cons is_no_line_feed c cs, e) (by_rest (after (10 ∷ []) (run is_no_line_feed cs).1))
   where
-    by_rest : (o : Option (List ℕ)) → (o >>= λ rest. Some (parts (c ∷ (run NotLineFeed cs).0) rest)) ≡ option_map (λ x. parts (c ∷ x.0) x.1) (o >>= λ rest. Some (parts (run NotLineFeed cs).0 rest))
+    by_rest : (o : Option (List ℕ)) → (o >>= λ rest. Some (parts (c ∷ (run is_no_line_feed cs).0) rest)) ≡ option_map (λ x. parts (c ∷ x.0) x.1) (o >>= λ rest. Some (parts (run is_no_line_feed cs).0 rest))
     by_rest None = refl
     by_rest (Some r) = refl
 
@@ -74,7 +72,7 @@ first_empty-later t x e found = rw (e, after_later-line t, found) refl
 
 pub after_empty-later : (t r : List ℕ) → after_empty_line t ≡ Some r → IsLater t r
 unfolding after_empty_line
-after_empty-later t r e = then_later (run-rest Blank t) (after_line_end-later _ r e)
+after_empty-later t r e = then_later (run-rest is_blank t) (after_line_end-later _ r e)
 
 -- ---- the text of an entry
 

@@ -11,7 +11,7 @@ use Rattle.std.proofs.lemmas.Str.{IsCharBoundary-start, IsCharBoundary-end, IsCh
 use Rattle.std.proofs.lemmas.List.Sums.{prefix_len_passes, prefix_len_stops, prefix_len-le-length}
 use Rattle.yarn_lock_parser.specs.declared.byte_set.ByteSet.{ByteSet}
 use Rattle.yarn_lock_parser.specs.declared.byte_set.ByteSet.TheVariants.{Blank, WhiteSpace, Digit, Version, Quote, NotLineFeed, NotLineEnd, NotQuote, NotColon, NotAt, Descriptor, DependencyName, Unquoted}
-use Rattle.yarn_lock_parser.specs.ByteSet.{has}
+use Rattle.yarn_lock_parser.specs.Given.{has}
 use Rattle.sugar_path.specs.Front.{after}
 use Rattle.yarn_lock_parser.specs.Front.{before, front, IsRest}
 

@@ -5,6 +5,7 @@ pub mod EqualMetas
 pub mod Every
 pub mod FlagLaws
 pub mod Fronts
+pub mod ItemLaws
 pub mod ItemRests
 pub mod Joined
 pub mod Locks
