@@ -4,5 +4,6 @@ pub mod Ends
 pub mod Grammars
 pub mod Packages
 pub mod PartGrammars
+pub mod RangeGrammars
 pub mod Ranges
 pub mod Words

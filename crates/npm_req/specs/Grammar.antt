@@ -1,18 +1,19 @@
--- The grammar of npm's versions and of the parts of ranges: relations between a text and what it stands for. The relation of a part is between
--- a text and what is left of it: the text begins with such a part, and the rest follows.
-use Rattle.std.specs.Prelude.{◌≡◌, ◌⊎◌, ◌++◌, ◌↔◌, ℕ, Bool, true, List, [], ◌∷◌, Option, Some, None, Ok, codes}
+-- The grammar of npm's versions and ranges: relations between a text and what it stands for. Those of parts and alternatives are between a text
+-- and what is left of it too: the text begins with such a thing, and the rest follows.
+use Rattle.std.specs.Prelude.{◌≡◌, ◌⊎◌, ◌++◌, ◌↔◌, ◌<◌, ℕ, Bool, true, List, [], ◌∷◌, Option, Some, None, Ok, codes, length}
 use Rattle.std.specs.List.{list_all}
 use Rattle.semver.specs.Grammar.{IsValid}
 use Rattle.semver.specs.Identifiers.{parts_text}
 use Rattle.semver.specs.Order.{parts}
 use Rattle.semver.specs.Parse.{Parts}
 use Rattle.npm_req.specs.Comparators.{comparators}
-use Rattle.npm_req.specs.Front.{is_blank, is_space}
+use Rattle.npm_req.specs.Front.{after_all, is_blank, is_space}
 use Rattle.npm_req.specs.Number.{number}
 use Rattle.npm_req.specs.Part.{part}
 use Rattle.npm_req.specs.Partial.{is_x, of_components, partial_of, without_build}
 use Rattle.npm_req.specs.Version.{are_numbers, semver_of, version_of}
-use Rattle.npm_req.specs.Word.{ends_part}
+use Rattle.npm_req.specs.Range.{range}
+use Rattle.npm_req.specs.Word.{ends_alternative, ends_part}
 use Rattle.npm_req.specs.declared.comparator.Comparator.{Comparator}
 use Rattle.npm_req.specs.declared.comparator.Operator.{Operator}
 use Rattle.npm_req.specs.declared.comparator.Operator.TheVariants as op
@@ -89,6 +90,40 @@ pub record IsPart (t rest : List ℕ) (cs : List Comparator) : Type 0 where
   pub ends : ends_part rest ≡ true
   pub means : cs ≡ comparators operator partial
 
+-- parts one after the other up to where an alternative ends, spaces between them
+pub data IsParts : List ℕ → List ℕ → List Comparator → Type 0 where
+  no_more : {rest : List ℕ} → ends_alternative rest ≡ true → IsParts rest rest []
+  further : {t s rest : List ℕ} {cs ds : List Comparator} → IsPart t s cs → IsParts (after_all is_space s) rest ds → IsParts t rest (cs ++ ds)
+
+-- two partial versions around spaces, `-` and spaces, up to where an alternative ends: both ends belong to it
+pub record IsHyphen (t rest : List ℕ) (cs : List Comparator) : Type 0 where
+  pub first : List ℕ
+  pub spaces : List ℕ
+  pub further_spaces : List ℕ
+  pub second : List ℕ
+  pub last_spaces : List ℕ
+  pub low : Partial
+  pub high : Partial
+  pub is : t ≡ first ++ (spaces ++ (codes "- " ++ (further_spaces ++ (second ++ (last_spaces ++ rest)))))
+  pub first_read : PartialVersion first low
+  pub second_read : PartialVersion second high
+  pub some_spaces : 0 < length spaces
+  pub are_spaces : list_all is_space spaces ≡ true
+  pub are_further_spaces : list_all is_space further_spaces ≡ true
+  pub are_last_spaces : list_all is_space last_spaces ≡ true
+  pub ends : ends_alternative rest ≡ true
+  pub means : cs ≡ comparators op.AtLeast low ++ comparators op.AtMost high
+
+-- an alternative, behind the spaces in front of it: parts, or none; or two partial versions around `-`
+pub data IsAlternative : List ℕ → List ℕ → List Comparator → Type 0 where
+  in_parts : {t rest : List ℕ} {cs : List Comparator} → IsParts t rest cs → IsAlternative t rest cs
+  hyphened : {t rest : List ℕ} {cs : List Comparator} → IsHyphen t rest cs → IsAlternative t rest cs
+
+-- a range: alternatives between `||`
+pub data IsRange : List ℕ → List (List Comparator) → Type 0 where
+  last : {t : List ℕ} {cs : List Comparator} → IsAlternative (after_all is_space t) [] cs → IsRange t (cs ∷ [])
+  and_next : {t next : List ℕ} {cs : List Comparator} {others : List (List Comparator)} → IsAlternative (after_all is_space t) (codes "||" ++ next) cs → IsRange next others → IsRange t (cs ∷ others)
+
 -- a text of Semantic Versioning is read exactly where the grammar has it
 abbrev pub SemversAgree : Type 0
 SemversAgree = (t : List ℕ) (p : Parts) → (semver_of t ≡ Some p) ↔ IsSemver t p
@@ -104,3 +139,7 @@ PartialsAgree = (t : List ℕ) (p : Partial) → (partial_of t ≡ Some p) ↔ P
 -- a part is read exactly where the grammar has it
 abbrev pub PartsAgree : Type 0
 PartsAgree = (t rest : List ℕ) (cs : List Comparator) → (part t ≡ Ok (cs, rest)) ↔ IsPart t rest cs
+
+-- a range is read exactly where the grammar has it
+abbrev pub RangesAgree : Type 0
+RangesAgree = (t : List ℕ) (made : List (List Comparator)) → (range t ≡ Ok made) ↔ IsRange t made
