@@ -1,5 +1,5 @@
 -- Lines, and the first line of only blanks.
-use Rattle.std.proofs.Common.{◌≡◌, ◌==◌, ◌+◌, ◌-◌, ℕ, suc, Bool, true, false, cond, List, [], ◌∷◌, length, take, drop, refl, Option, Some, None, arith}
+use Rattle.std.proofs.Common.{◌≡◌, ◌==◌, ◌+◌, ◌-◌, ℕ, suc, Bool, true, false, cond, not, List, [], ◌∷◌, length, take, drop, refl, Option, Some, None, arith}
 use Rattle.std.specs.Prelude.{option_map}
 use Rattle.std.specs.Option.{option_or}
 use Rattle.std.specs.List.{prefix_len}
@@ -10,7 +10,7 @@ use Rattle.yarn_lock_parser.specs.Front.{run, line_at, front, IsRest}
 use Rattle.yarn_lock_parser.specs.Cut.{after_empty_line, after_later_empty_line, after_first_empty_line, entry_text}
 use Rattle.yarn_lock_parser.proofs.Rests.{either_form, IsLater, later, then_later, run-rest, after_line_end-later}
 
-abbrev parts : List ℕ → List ℕ → List ℕ × List ℕ
+abbrev pub parts : List ℕ → List ℕ → List ℕ × List ℕ
 parts x y = (x, y)
 
 pub run-cons : (set : ℕ → Bool) (c : ℕ) (cs : List ℕ) → run set (c ∷ cs) ≡ cond (set c) (parts (c ∷ (run set cs).0) (run set cs).1) (parts [] (c ∷ cs))
@@ -25,21 +25,36 @@ pub run-nil : (set : ℕ → Bool) → (run set []).1 ≡ []
 unfolding run
 run-nil set = refl
 
+-- what stands before the first such byte, and what follows it
+abbrev pub around : ℕ → List ℕ → Option (List ℕ × List ℕ)
+around b t = after (b ∷ []) (run (λ c. not (c == b)) t).1 >>= λ rest. Some ((run (λ c. not (c == b)) t).0, rest)
+
+pub around-nil : (b : ℕ) → around b [] ≡ None
+unfolding run after
+around-nil b = refl
+
+pub around-here : (b c : ℕ) (cs : List ℕ) → (c == b) ≡ true → around b (c ∷ cs) ≡ Some ([], cs)
+unfolding after
+around-here b c cs e = rw (run-cons (λ d. not (d == b)) c cs, e) (rw e refl)
+
+pub around-later : (b c : ℕ) (cs : List ℕ) → (c == b) ≡ false → around b (c ∷ cs) ≡ option_map (λ x. (c ∷ x.0, x.1)) (around b cs)
+around-later b c cs e = rw (run-cons (λ d. not (d == b)) c cs, e) (by_rest (after (b ∷ []) (run (λ d. not (d == b)) cs).1))
+  where
+    by_rest : (o : Option (List ℕ)) → (o >>= λ rest. Some (parts (c ∷ (run (λ d. not (d == b)) cs).0) rest)) ≡ option_map (λ x. parts (c ∷ x.0) x.1) (o >>= λ rest. Some (parts (run (λ d. not (d == b)) cs).0 rest))
+    by_rest None = refl
+    by_rest (Some r) = refl
+
 line_at-nil : line_at [] ≡ None
-unfolding line_at run after
-line_at-nil = refl
+unfolding line_at
+line_at-nil = around-nil 10
 
 line_at-feed : (c : ℕ) (cs : List ℕ) → (c == 10) ≡ true → line_at (c ∷ cs) ≡ Some ([], cs)
-unfolding line_at after
-line_at-feed c cs e = rw (run-cons is_no_line_feed c cs, e) (rw e refl)
+unfolding line_at
+line_at-feed c cs e = around-here 10 c cs e
 
 line_at-other : (c : ℕ) (cs : List ℕ) → (c == 10) ≡ false → line_at (c ∷ cs) ≡ option_map (λ x. (c ∷ x.0, x.1)) (line_at cs)
 unfolding line_at
-line_at-other c cs e = rw (run-cons is_no_line_feed c cs, e) (by_rest (after (10 ∷ []) (run is_no_line_feed cs).1))
-  where
-    by_rest : (o : Option (List ℕ)) → (o >>= λ rest. Some (parts (c ∷ (run is_no_line_feed cs).0) rest)) ≡ option_map (λ x. parts (c ∷ x.0) x.1) (o >>= λ rest. Some (parts (run is_no_line_feed cs).0 rest))
-    by_rest None = refl
-    by_rest (Some r) = refl
+line_at-other c cs e = around-later 10 c cs e
 
 abbrev later_line : Option (List ℕ × List ℕ) → Option (List ℕ)
 later_line None = None

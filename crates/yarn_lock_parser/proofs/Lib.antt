@@ -16,4 +16,5 @@ pub mod Shorter
 pub mod SliceItems
 pub mod SliceLocks
 pub mod SliceParts
+pub mod Splits
 pub mod Versions

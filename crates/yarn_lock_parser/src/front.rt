@@ -82,23 +82,18 @@ pub(crate) fn after_line_end(text: &str) -> Option<&str>
 }
 
 /// A line, without its line feed, and what follows the line feed.
-#[tactic(auto, unfolding(crate::specs::Front::line_at))]
 pub(crate) fn line_at(text: &str) -> Option<(&str, &str)>
     ensures { option_map (λ x. (x.0.now, x.1.now)) result ≡ line_at text.now }
 {
-    let (line, end) = run(ByteSet::NotLineFeed, text);
-    let rest = after("\n", end)?;
-    Some((line, rest))
+    text.split_once('\n')
 }
 
 /// What stands between a quote at the front and the next quote, and what follows that one.
-#[tactic(auto, unfolding(crate::specs::Front::quoted_at))]
 pub(crate) fn quoted_at(text: &str) -> Option<(&str, &str)>
     ensures { option_map (λ x. (x.0.now, x.1.now)) result ≡ quoted_at text.now }
 {
-    let (inner, end) = run(ByteSet::NotQuote, after("\"", text)?);
-    let rest = after("\"", end)?;
-    Some((inner, rest))
+    let inner = after("\"", text)?;
+    inner.split_once('"')
 }
 
 /// The front of a text, up to a rest of it.
