@@ -9,7 +9,7 @@ use Rattle.yarn_lock_parser.specs.declared.metas.Flag.{Flag as GivenFlag}
 use Rattle.yarn_lock_parser.specs.declared.metas.Flag.TheVariants as given_flag
 use Rattle.yarn_lock_parser.specs.declared.metas.MetaKind.{MetaKind as GivenMetaKind}
 use Rattle.yarn_lock_parser.specs.declared.metas.MetaKind.TheVariants as given_meta_kind
-use Rattle.yarn_lock_parser.specs.ByteSet.{is_blank, is_white_space, is_version_byte, is_quote, is_no_line_feed, is_no_line_end, is_no_quote, is_no_colon, is_no_at, is_descriptor_byte, is_name_byte, is_unquoted_byte}
+use Rattle.yarn_lock_parser.specs.ByteSet.{is_blank, is_white_space, is_version_byte, is_no_line_end, is_no_colon, is_no_at, is_descriptor_byte, is_name_byte, is_unquoted_byte}
 use Rattle.yarn_lock_parser.specs.Dependencies as kinds
 use Rattle.yarn_lock_parser.specs.Metas as metas
 
@@ -18,10 +18,7 @@ has set.Blank = is_blank
 has set.WhiteSpace = is_white_space
 has set.Digit = is_ascii_digit
 has set.Version = is_version_byte
-has set.Quote = is_quote
-has set.NotLineFeed = is_no_line_feed
 has set.NotLineEnd = is_no_line_end
-has set.NotQuote = is_no_quote
 has set.NotColon = is_no_colon
 has set.NotAt = is_no_at
 has set.Descriptor = is_descriptor_byte

@@ -134,9 +134,5 @@ fn is_lone_return(text: &str) -> bool
 fn trimmed(text: &str) -> &str
     ensures { result.now ≡ trimmed text.now }
 {
-    let (_, mut rest) = run(ByteSet::Quote, text);
-    while let Some(shorter) = before("\"", rest) {
-        rest = shorter;
-    }
-    rest
+    text.trim_start_matches('"').trim_end_matches('"')
 }
