@@ -12,3 +12,4 @@ pub mod Same
 pub mod Package
 pub mod PackageRefusal
 pub mod Message
+pub mod Grammar

@@ -10,9 +10,13 @@ use Rattle.npm_req.specs.declared.comparator.Relation.TheVariants.{Equal, AtLeas
 use Rattle.npm_req.specs.declared.comparator.Comparator.{Comparator}
 use Rattle.npm_req.specs.declared.comparator.Comparator.TheVariants.{Never, Bound}
 
+-- the order of two versions by their numbers
+abbrev pub numbers_order : Parts → Parts → Ordering
+numbers_order v w = ordering_then (ordering_then (nat_cmp v.0 w.0) (nat_cmp v.1 w.1)) (nat_cmp v.2 w.2)
+
 -- the order of two versions in Semantic Versioning: by their numbers, then by their pre-releases; builds don't count
 abbrev pub precedence : Parts → Parts → Ordering
-precedence v w = ordering_then (nat_cmp v.0 w.0) (ordering_then (nat_cmp v.1 w.1) (ordering_then (nat_cmp v.2 w.2) (pre_cmp v.3 w.3)))
+precedence v w = ordering_then (numbers_order v w) (pre_cmp v.3 w.3)
 
 abbrev pub stands : Relation → Ordering → Bool
 stands Equal o = is_eq o

@@ -4,6 +4,7 @@
 mod comparator;
 mod error;
 mod front;
+pub mod laws;
 mod meets;
 mod message;
 mod package_req;

@@ -1,7 +1,7 @@
 // The versions that npm reads.
 ghost use Rattle.std.specs.Prelude.{◌≡◌, [], ◌∷◌, IfOk, Some, None};
 ghost use Rattle.npm_req.specs.Comparators.{first_of, release};
-ghost use Rattle.npm_req.specs.Meets.{is_pre_release, precedence};
+ghost use Rattle.npm_req.specs.Meets.{is_pre_release, numbers_order, precedence};
 ghost use Rattle.npm_req.specs.Partial.{without_build};
 ghost use Rattle.semver.specs.Identifiers.{parts_of};
 ghost use Rattle.npm_req.specs.Number.{is_number};
@@ -107,7 +107,21 @@ impl Version {
     pub fn cmp_precedence(&self, other: &Version) -> Ordering
         ensures { result ≡ precedence self.now other.now }
     {
-        self.semver.cmp_precedence(&other.semver)
+        // The pre-releases are compared only where the numbers are equal.
+        match self.cmp_numbers(other) {
+            Ordering::Equal => self.semver.pre.cmp(&other.semver.pre),
+            order => order,
+        }
+    }
+
+    fn cmp_numbers(&self, other: &Version) -> Ordering
+        ensures { result ≡ numbers_order self.now other.now }
+    {
+        let (one, other) = (&self.semver, &other.semver);
+        one.major
+            .cmp(&other.major)
+            .then(one.minor.cmp(&other.minor))
+            .then(one.patch.cmp(&other.patch))
     }
 
     // The version `major.minor.patch`.

@@ -2,7 +2,8 @@
 use Rattle.std.proofs.Common.{◌≡◌, ℕ, Bool, true, false, List, ap, refl, Option, Some, None}
 use Rattle.std.specs.Prelude.{unwrap_or, codes}
 use Rattle.std.specs.Option.{option_map_or}
-use Rattle.yarn_lock_parser.specs.declared.byte_set.ByteSet.TheVariants.{WhiteSpace, Digit}
+use Rattle.std.specs.Char.{is_ascii_digit}
+use Rattle.yarn_lock_parser.specs.ByteSet.{is_white_space}
 use Rattle.yarn_lock_parser.specs.declared.header.Header.{Header}
 use Rattle.yarn_lock_parser.specs.Front.{run, IsRest}
 use Rattle.yarn_lock_parser.specs.Header.{after_bun_line, header_at}
@@ -23,9 +24,9 @@ pub header_at-rest : (t : List ℕ) (x : Header × List ℕ) → header_at t ≡
 unfolding header_at
 header_at-rest t x e =
     step _ _ _ e (λ first first-is e₁. step _ _ _ e₁ (λ second second-is e₂.
-    let is : (run WhiteSpace (unwrap_or (after_bun_line second.1) second.1)).1 ≡ x.1 = cc in
+    let is : (run is_white_space (unwrap_or (after_bun_line second.1) second.1)).1 ≡ x.1 = cc in
     rw (← is) (behind (line_at-later t first first-is).rest_is (behind (line_at-later first.1 second second-is).rest_is
-    (behind (unwrapped (after_bun_line second.1) second.1 (after_bun_line-rest second.1)) (run-rest WhiteSpace _))))
+    (behind (unwrapped (after_bun_line second.1) second.1 (after_bun_line-rest second.1)) (run-rest is_white_space _))))
     ))
 
 number_at-rest : (t : List ℕ) (x : ℕ × List ℕ) → number_at t ≡ Some x → IsRest t x.1
@@ -33,7 +34,7 @@ unfolding number_at
 number_at-rest t x e =
     step _ _ _ e (λ digits digits-is e₁. step (version_number digits.0) (λ version. Some (version, digits.1)) x e₁ (λ version version-is e₂.
     let is = ap (λ (y : ℕ × List ℕ). y.1) (inside (version, digits.1) x e₂) in
-    rw (← is) (some_run-later Digit t digits digits-is).rest_is
+    rw (← is) (some_run-later is_ascii_digit t digits digits-is).rest_is
     ))
 
 pub version_line-rest : (t : List ℕ) (x : ℕ × List ℕ) → version_line t ≡ Some x → IsRest t x.1
@@ -63,9 +64,9 @@ pub metadata_at-rest : (t : List ℕ) (x : Metadata × List ℕ) → metadata_at
 unfolding metadata_at
 metadata_at-rest t x e =
     step _ _ _ e (λ version version-is e₁. step _ _ _ e₁ (λ rest rest-is e₂.
-    let is : (run WhiteSpace rest).1 ≡ x.1 = cc in
+    let is : (run is_white_space rest).1 ≡ x.1 = cc in
     rw (← is) (behind (version_line-rest t version version-is) (behind (behind_key version.1 (cache_key version.1) refl)
-    (behind (first_empty-rest _ rest rest-is).rest_is (run-rest WhiteSpace rest))))
+    (behind (first_empty-rest _ rest rest-is).rest_is (run-rest is_white_space rest))))
     ))
 
 pub metadata_after-rest : (b : Bool) (t : List ℕ) (x : Metadata × List ℕ) → metadata_after b t ≡ Some x → IsRest t x.1

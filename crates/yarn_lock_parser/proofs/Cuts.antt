@@ -1,47 +1,60 @@
 -- Lines, and the first line of only blanks.
-use Rattle.std.proofs.Common.{◌≡◌, ◌==◌, ◌+◌, ◌-◌, ℕ, suc, Bool, true, false, cond, List, [], ◌∷◌, length, take, drop, refl, Option, Some, None, arith}
+use Rattle.std.proofs.Common.{◌≡◌, ◌==◌, ◌+◌, ◌-◌, ℕ, suc, Bool, true, false, cond, not, List, [], ◌∷◌, length, take, drop, refl, Option, Some, None, arith}
 use Rattle.std.specs.Prelude.{option_map}
 use Rattle.std.specs.Option.{option_or}
 use Rattle.std.specs.List.{prefix_len}
 use Rattle.std.proofs.Math.Seq.{take-length}
-use Rattle.yarn_lock_parser.specs.declared.byte_set.ByteSet.{ByteSet}
-use Rattle.yarn_lock_parser.specs.declared.byte_set.ByteSet.TheVariants.{Blank, NotLineFeed}
-use Rattle.yarn_lock_parser.specs.ByteSet.{has}
+use Rattle.yarn_lock_parser.specs.ByteSet.{is_blank, is_no_line_feed}
 use Rattle.sugar_path.specs.Front.{◌>>=◌, after}
 use Rattle.yarn_lock_parser.specs.Front.{run, line_at, front, IsRest}
 use Rattle.yarn_lock_parser.specs.Cut.{after_empty_line, after_later_empty_line, after_first_empty_line, entry_text}
 use Rattle.yarn_lock_parser.proofs.Rests.{either_form, IsLater, later, then_later, run-rest, after_line_end-later}
 
-abbrev parts : List ℕ → List ℕ → List ℕ × List ℕ
+abbrev pub parts : List ℕ → List ℕ → List ℕ × List ℕ
 parts x y = (x, y)
 
-pub run-cons : (set : ByteSet) (c : ℕ) (cs : List ℕ) → run set (c ∷ cs) ≡ cond (has set c) (parts (c ∷ (run set cs).0) (run set cs).1) (parts [] (c ∷ cs))
+pub run-cons : (set : ℕ → Bool) (c : ℕ) (cs : List ℕ) → run set (c ∷ cs) ≡ cond (set c) (parts (c ∷ (run set cs).0) (run set cs).1) (parts [] (c ∷ cs))
 unfolding run
-run-cons set c cs = by_test (has set c)
+run-cons set c cs = by_test (set c)
   where
-    by_test : (b : Bool) → parts (take (cond b (1 + prefix_len (has set) cs) 0) (c ∷ cs)) (drop (cond b (1 + prefix_len (has set) cs) 0) (c ∷ cs)) ≡ cond b (parts (c ∷ take (prefix_len (has set) cs) cs) (drop (prefix_len (has set) cs) cs)) (parts [] (c ∷ cs))
-    by_test true = let one : 1 + prefix_len (has set) cs ≡ suc (prefix_len (has set) cs) = omega arith in rw one refl
+    by_test : (b : Bool) → parts (take (cond b (1 + prefix_len set cs) 0) (c ∷ cs)) (drop (cond b (1 + prefix_len set cs) 0) (c ∷ cs)) ≡ cond b (parts (c ∷ take (prefix_len set cs) cs) (drop (prefix_len set cs) cs)) (parts [] (c ∷ cs))
+    by_test true = let one : 1 + prefix_len set cs ≡ suc (prefix_len set cs) = omega arith in rw one refl
     by_test false = refl
 
-pub run-nil : (set : ByteSet) → (run set []).1 ≡ []
+pub run-nil : (set : ℕ → Bool) → (run set []).1 ≡ []
 unfolding run
 run-nil set = refl
 
+-- what stands before the first such byte, and what follows it
+abbrev pub around : ℕ → List ℕ → Option (List ℕ × List ℕ)
+around b t = after (b ∷ []) (run (λ c. not (c == b)) t).1 >>= λ rest. Some ((run (λ c. not (c == b)) t).0, rest)
+
+pub around-nil : (b : ℕ) → around b [] ≡ None
+unfolding run after
+around-nil b = refl
+
+pub around-here : (b c : ℕ) (cs : List ℕ) → (c == b) ≡ true → around b (c ∷ cs) ≡ Some ([], cs)
+unfolding after
+around-here b c cs e = rw (run-cons (λ d. not (d == b)) c cs, e) (rw e refl)
+
+pub around-later : (b c : ℕ) (cs : List ℕ) → (c == b) ≡ false → around b (c ∷ cs) ≡ option_map (λ x. (c ∷ x.0, x.1)) (around b cs)
+around-later b c cs e = rw (run-cons (λ d. not (d == b)) c cs, e) (by_rest (after (b ∷ []) (run (λ d. not (d == b)) cs).1))
+  where
+    by_rest : (o : Option (List ℕ)) → (o >>= λ rest. Some (parts (c ∷ (run (λ d. not (d == b)) cs).0) rest)) ≡ option_map (λ x. parts (c ∷ x.0) x.1) (o >>= λ rest. Some (parts (run (λ d. not (d == b)) cs).0 rest))
+    by_rest None = refl
+    by_rest (Some r) = refl
+
 line_at-nil : line_at [] ≡ None
-unfolding line_at run after
-line_at-nil = refl
+unfolding line_at
+line_at-nil = around-nil 10
 
 line_at-feed : (c : ℕ) (cs : List ℕ) → (c == 10) ≡ true → line_at (c ∷ cs) ≡ Some ([], cs)
-unfolding line_at after
-line_at-feed c cs e = rw (run-cons NotLineFeed c cs, e) (rw e refl)
+unfolding line_at
+line_at-feed c cs e = around-here 10 c cs e
 
 line_at-other : (c : ℕ) (cs : List ℕ) → (c == 10) ≡ false → line_at (c ∷ cs) ≡ option_map (λ x. (c ∷ x.0, x.1)) (line_at cs)
 unfolding line_at
-line_at-other c cs e = rw (run-cons NotLineFeed c cs, e) (by_rest (after (10 ∷ []) (run NotLineFeed cs).1))
-  where
-    by_rest : (o : Option (List ℕ)) → (o >>= λ rest. Some (parts (c ∷ (run NotLineFeed cs).0) rest)) ≡ option_map (λ x. parts (c ∷ x.0) x.1) (o >>= λ rest. Some (parts (run NotLineFeed cs).0 rest))
-    by_rest None = refl
-    by_rest (Some r) = refl
+line_at-other c cs e = around-later 10 c cs e
 
 abbrev later_line : Option (List ℕ × List ℕ) → Option (List ℕ)
 later_line None = None
@@ -74,7 +87,7 @@ first_empty-later t x e found = rw (e, after_later-line t, found) refl
 
 pub after_empty-later : (t r : List ℕ) → after_empty_line t ≡ Some r → IsLater t r
 unfolding after_empty_line
-after_empty-later t r e = then_later (run-rest Blank t) (after_line_end-later _ r e)
+after_empty-later t r e = then_later (run-rest is_blank t) (after_line_end-later _ r e)
 
 -- ---- the text of an entry
 

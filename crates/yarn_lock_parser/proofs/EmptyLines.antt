@@ -4,9 +4,7 @@ use Rattle.std.specs.Prelude.{unwrap_or}
 use Rattle.std.specs.Option.{option_or}
 use Rattle.std.specs.List.{list_all}
 use Rattle.std.proofs.lemmas.Bool.Decides.{eqb_tells}
-use Rattle.yarn_lock_parser.specs.declared.byte_set.ByteSet.{ByteSet}
-use Rattle.yarn_lock_parser.specs.declared.byte_set.ByteSet.TheVariants.{Blank}
-use Rattle.yarn_lock_parser.specs.ByteSet.{has}
+use Rattle.yarn_lock_parser.specs.ByteSet.{is_blank}
 use Rattle.yarn_lock_parser.specs.Front.{after_line_end, front, run}
 use Rattle.yarn_lock_parser.specs.Cut.{after_empty_line, after_later_empty_line, after_first_empty_line, entry_text, entry_texts}
 use Rattle.yarn_lock_parser.specs.Laws.{AllButLast, EndsWithEmptyLine, EntriesEndWithEmptyLines, IsLineEnd}
@@ -21,15 +19,15 @@ use Rattle.yarn_lock_parser.proofs.Rests.{either_form, run-whole}
 abbrev parts : List ℕ → List ℕ → List ℕ × List ℕ
 parts x y = (x, y)
 
-run-all_nil : (set : ByteSet) → list_all (has set) (run set []).0 ≡ true
+run-all_nil : (set : ℕ → Bool) → list_all set (run set []).0 ≡ true
 unfolding run
 run-all_nil set = refl
 
-run-all : (set : ByteSet) (t : List ℕ) → list_all (has set) (run set t).0 ≡ true
+run-all : (set : ℕ → Bool) (t : List ℕ) → list_all set (run set t).0 ≡ true
 run-all set [] = run-all_nil set
-run-all set (c ∷ cs) = rw (run-cons set c cs) (by_test (has set c) refl (run-all set cs))
+run-all set (c ∷ cs) = rw (run-cons set c cs) (by_test (set c) refl (run-all set cs))
   where
-    by_test : (b : Bool) → has set c ≡ b → list_all (has set) (run set cs).0 ≡ true → list_all (has set) (cond b (parts (c ∷ (run set cs).0) (run set cs).1) (parts [] (c ∷ cs))).0 ≡ true
+    by_test : (b : Bool) → set c ≡ b → list_all set (run set cs).0 ≡ true → list_all set (cond b (parts (c ∷ (run set cs).0) (run set cs).1) (parts [] (c ∷ cs))).0 ≡ true
     by_test true is rest = rw is rest
     by_test false is rest = refl
 
@@ -56,19 +54,19 @@ record CutLater (t r : List ℕ) : Type 0 where
   blanks : List ℕ
   line_end : List ℕ
   is : t ≡ (before ++ 10 ∷ []) ++ ((blanks ++ line_end) ++ r)
-  are_blank : list_all (has Blank) blanks ≡ true
+  are_blank : list_all is_blank blanks ≡ true
   ends : IsLineEnd line_end
 
 abbrev EmptyLine : List ℕ → List ℕ → Type 0
-EmptyLine t r = (blanks : List ℕ) × ((line_end : List ℕ) × ((t ≡ (blanks ++ line_end) ++ r) × ((list_all (has Blank) blanks ≡ true) × IsLineEnd line_end)))
+EmptyLine t r = (blanks : List ℕ) × ((line_end : List ℕ) × ((t ≡ (blanks ++ line_end) ++ r) × ((list_all is_blank blanks ≡ true) × IsLineEnd line_end)))
 
 empty_line-here : (t r : List ℕ) → after_empty_line t ≡ Some r → EmptyLine t r
 unfolding after_empty_line
 empty_line-here t r e =
-    let ended = line_end-ended (run Blank t).1 r e in
-    let whole : t ≡ ((run Blank t).0 ++ ended.0) ++ r =
-    sym (run-whole Blank t) ∙ ap (λ (u : List ℕ). (run Blank t).0 ++ u) ended.1.0 ∙ sym (append_assoc (run Blank t).0 ended.0 r) in
-    ((run Blank t).0, (ended.0, (whole, (run-all Blank t, ended.1.1))))
+    let ended = line_end-ended (run is_blank t).1 r e in
+    let whole : t ≡ ((run is_blank t).0 ++ ended.0) ++ r =
+    sym (run-whole is_blank t) ∙ ap (λ (u : List ℕ). (run is_blank t).0 ++ u) ended.1.0 ∙ sym (append_assoc (run is_blank t).0 ended.0 r) in
+    ((run is_blank t).0, (ended.0, (whole, (run-all is_blank t, ended.1.1))))
 
 one_more : (c : ℕ) (cs r : List ℕ) → CutLater cs r → CutLater (c ∷ cs) r
 one_more c cs r cut = record { before = c ∷ cut.before; blanks = cut.blanks; line_end = cut.line_end; is = ap (λ (u : List ℕ). c ∷ u) cut.is; are_blank = cut.are_blank; ends = cut.ends }

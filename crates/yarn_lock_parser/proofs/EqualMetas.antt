@@ -2,7 +2,7 @@
 use Rattle.std.proofs.Common.{◌≡◌, ℕ, List, [], ◌∷◌, map, refl, ap}
 use Rattle.std.specs.Prelude.{◌&&◌}
 use Rattle.std.specs.Cmp.Lexicographic.{pointwise}
-use Rattle.yarn_lock_parser.specs.declared.metas.Flag.{Flag}
+use Rattle.yarn_lock_parser.specs.Metas.{Flag}
 use Rattle.yarn_lock_parser.specs.Metas.{as_meta}
 use Rattle.yarn_lock_parser.specs.EntryEq.{flagged_eq, meta_eq}
 

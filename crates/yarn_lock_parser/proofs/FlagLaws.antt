@@ -3,10 +3,10 @@ use Rattle.std.proofs.Common.{◌≡◌, Bool, true, false, not, ℕ, List, [], 
 use Rattle.std.specs.Prelude.{◌&&◌, ◌||◌, bytes_eq, codes, IsTrue}
 use Rattle.std.specs.List.{fold, list_any}
 use Rattle.std.proofs.Math.Bool.{or_assoc, or-false}
-use Rattle.yarn_lock_parser.specs.declared.metas.Flag.{Flag}
-use Rattle.yarn_lock_parser.specs.declared.metas.Flag.TheVariants.{Absent, Known, Unreadable}
-use Rattle.yarn_lock_parser.specs.declared.dependencies.DependencyKind.TheVariants as kinds
-use Rattle.yarn_lock_parser.specs.declared.metas.MetaKind.TheVariants as meta_kinds
+use Rattle.yarn_lock_parser.specs.Metas.{Flag}
+use Rattle.yarn_lock_parser.specs.Metas.{Absent, Known, Unreadable}
+use Rattle.yarn_lock_parser.specs.Dependencies as kinds
+use Rattle.yarn_lock_parser.specs.Metas as meta_kinds
 use Rattle.yarn_lock_parser.specs.Item.{Item, Version, Dependencies, Integrity, Resolved, Metas, Other}
 use Rattle.yarn_lock_parser.specs.Metas.{flag_of, noted}
 use Rattle.yarn_lock_parser.specs.Fields.{Fields, is_unreadable, no_fields, with_item}

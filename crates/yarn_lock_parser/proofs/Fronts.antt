@@ -10,8 +10,8 @@ use Rattle.std.proofs.lemmas.Bool.Decides.{eqb_tells, leb_tells}
 use Rattle.std.proofs.lemmas.Str.{IsCharBoundary-start, IsCharBoundary-end, IsCharBoundary-before_ascii, IsCharBoundary-after_ascii, IsCharBoundary-at_seam}
 use Rattle.std.proofs.lemmas.List.Sums.{prefix_len_passes, prefix_len_stops, prefix_len-le-length}
 use Rattle.yarn_lock_parser.specs.declared.byte_set.ByteSet.{ByteSet}
-use Rattle.yarn_lock_parser.specs.declared.byte_set.ByteSet.TheVariants.{Blank, WhiteSpace, Digit, Version, Quote, NotLineFeed, NotLineEnd, NotQuote, NotColon, NotAt, Descriptor, DependencyName, Unquoted}
-use Rattle.yarn_lock_parser.specs.ByteSet.{has}
+use Rattle.yarn_lock_parser.specs.declared.byte_set.ByteSet.TheVariants.{Blank, WhiteSpace, Digit, Version, NotLineEnd, NotColon, NotAt, Descriptor, DependencyName, Unquoted}
+use Rattle.yarn_lock_parser.specs.Given.{has}
 use Rattle.sugar_path.specs.Front.{after}
 use Rattle.yarn_lock_parser.specs.Front.{before, front, IsRest}
 
@@ -88,10 +88,7 @@ has-beyond Digit b h = between b 48 57 h (lit< tt)
 has-beyond Version b h =
     rw (between b 65 90 h (lit< tt), between b 97 122 h (lit< tt), between b 48 57 h (lit< tt))
     (rw (behind 46 b h (lit< tt), behind 45 b h (lit< tt), behind 43 b h (lit< tt), behind 64 b h (lit< tt), behind 58 b h (lit< tt), behind 47 b h (lit< tt), behind 35 b h (lit< tt), behind 37 b h (lit< tt), behind 33 b h (lit< tt), behind 126 b h (lit< tt), behind 42 b h (lit< tt), behind 39 b h (lit< tt), behind 40 b h (lit< tt), behind 41 b h (lit< tt)) refl)
-has-beyond Quote b h = rw (apart b 34 h (lit< tt)) refl
-has-beyond NotLineFeed b h = rw (apart b 10 h (lit< tt)) refl
 has-beyond NotLineEnd b h = rw (apart b 13 h (lit< tt), apart b 10 h (lit< tt)) refl
-has-beyond NotQuote b h = rw (apart b 34 h (lit< tt)) refl
 has-beyond NotColon b h = rw (apart b 58 h (lit< tt)) refl
 has-beyond NotAt b h = rw (apart b 64 h (lit< tt)) refl
 has-beyond Descriptor b h = rw (apart b 44 h (lit< tt), apart b 34 h (lit< tt), apart b 10 h (lit< tt)) refl
@@ -148,7 +145,7 @@ before-some w s t e = by_found (after (reverse w) (reverse s)) refl e
         let is : reverse r ≡ t = cc in
         sym (reverse-reverse s) ∙ ap reverse turned ∙ reverse-append (reverse w) r ∙ ap (λ x. x ++ reverse (reverse w)) is ∙ ap (λ x. t ++ x) (reverse-reverse w)
 
-before-lacks : (w s : List ℕ) → ((front : List ℕ) → s ≢ front ++ w) → before w s ≡ None
+pub before-lacks : (w s : List ℕ) → ((front : List ℕ) → s ≢ front ++ w) → before w s ≡ None
 before-lacks w s lacks = by_found (before w s) (before-some w s)
   where
     by_found : (o : Option (List ℕ)) → ((t : List ℕ) → o ≡ Some t → s ≡ t ++ w) → o ≡ None

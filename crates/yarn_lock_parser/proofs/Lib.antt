@@ -5,6 +5,7 @@ pub mod EqualMetas
 pub mod Every
 pub mod FlagLaws
 pub mod Fronts
+pub mod ItemLaws
 pub mod ItemRests
 pub mod Joined
 pub mod Locks
@@ -15,4 +16,5 @@ pub mod Shorter
 pub mod SliceItems
 pub mod SliceLocks
 pub mod SliceParts
+pub mod Splits
 pub mod Versions

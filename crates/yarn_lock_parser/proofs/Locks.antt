@@ -8,8 +8,9 @@ use Rattle.yarn_lock_parser.specs.declared.error.LockCause.{LockCause}
 use Rattle.yarn_lock_parser.specs.Front.{IsRest, front}
 use Rattle.yarn_lock_parser.specs.Cut.{after_first_empty_line, entry_text, entry_texts}
 use Rattle.yarn_lock_parser.specs.Entry.{◌>>=◌, Entry, entry_of}
-use Rattle.yarn_lock_parser.specs.Entry as by_cause
-use Rattle.yarn_lock_parser.specs.Lock.{Explains, Refusal, at_place, entries_from, error_at, place_in}
+use Rattle.yarn_lock_parser.specs.Reader as by_cause
+use Rattle.yarn_lock_parser.specs.Reader.{error_at}
+use Rattle.yarn_lock_parser.specs.Lock.{Explains, Refusal, at_place, entries_from, place_in}
 use Rattle.yarn_lock_parser.proofs.Rests.{IsLater, rest-length}
 use Rattle.yarn_lock_parser.proofs.Every.{Shortens, every-none, every-more}
 use Rattle.yarn_lock_parser.proofs.Cuts.{first_empty-rest}

@@ -8,9 +8,7 @@ use Rattle.std.specs.Str.{all_ascii_digits}
 use Rattle.std.proofs.lemmas.List.Sums.{take_while-cons}
 use Rattle.std.proofs.lemmas.List.{take-append-drop}
 use Rattle.std.proofs.lemmas.Bool.Decides.{eqb_tells}
-use Rattle.yarn_lock_parser.specs.declared.byte_set.ByteSet.{ByteSet}
-use Rattle.yarn_lock_parser.specs.declared.byte_set.ByteSet.TheVariants.{Blank, Digit, NotLineFeed, NotQuote}
-use Rattle.yarn_lock_parser.specs.ByteSet.{has}
+use Rattle.yarn_lock_parser.specs.ByteSet.{is_blank, is_no_line_feed, is_no_quote}
 use Rattle.sugar_path.specs.Front.{◌>>=◌, after}
 use Rattle.yarn_lock_parser.specs.Front.{after_optional, run, some_run, after_blanks, after_line_end, line_at, quoted_at, IsRest, some}
 use Rattle.yarn_lock_parser.specs.Metadata.{after_compression}
@@ -84,15 +82,15 @@ unwrap_or-now (Some x) t = refl
 pub after_optional-rest : (w t : List ℕ) → IsRest t (after_optional w t)
 after_optional-rest w t = unwrapped (after w t) t (after-rest w t)
 
-pub run-rest : (set : ByteSet) (t : List ℕ) → IsRest t (run set t).1
+pub run-rest : (set : ℕ → Bool) (t : List ℕ) → IsRest t (run set t).1
 unfolding run
-run-rest set t = record { prior = take (prefix_len (has set) t) t; is = sym (take-append-drop (prefix_len (has set) t) t) }
+run-rest set t = record { prior = take (prefix_len set t) t; is = sym (take-append-drop (prefix_len set t) t) }
 
-pub run-whole : (set : ByteSet) (t : List ℕ) → (run set t).0 ++ (run set t).1 ≡ t
+pub run-whole : (set : ℕ → Bool) (t : List ℕ) → (run set t).0 ++ (run set t).1 ≡ t
 unfolding run
-run-whole set t = take-append-drop (prefix_len (has set) t) t
+run-whole set t = take-append-drop (prefix_len set t) t
 
-pub some_run-run : (set : ByteSet) (t : List ℕ) (x : List ℕ × List ℕ) → some_run set t ≡ Some x → (0 < length x.0) × (run set t ≡ x)
+pub some_run-run : (set : ℕ → Bool) (t : List ℕ) (x : List ℕ × List ℕ) → some_run set t ≡ Some x → (0 < length x.0) × (run set t ≡ x)
 unfolding some_run
 some_run-run set t x e = by_test (tested (length (run set t).0 == 0) (run set t) x e) (eqb_tells (length (run set t).0) 0)
   where
@@ -100,14 +98,14 @@ some_run-run set t x e = by_test (tested (length (run set t).0 == 0) (run set t)
     by_test (short, is) (inl w) = absurd (cc)
     by_test (short, is) (inr w) = (rw (← is) (omega (arith, w.1)), is)
 
-pub some_run-later : (set : ByteSet) (t : List ℕ) (x : List ℕ × List ℕ) → some_run set t ≡ Some x → IsLater t x.1
+pub some_run-later : (set : ℕ → Bool) (t : List ℕ) (x : List ℕ × List ℕ) → some_run set t ≡ Some x → IsLater t x.1
 some_run-later set t x e =
     let found = some_run-run set t x e in
     let whole : x.0 ++ x.1 ≡ t = rw found.1 at (run-whole set t) in
     record { rest_is = record { prior = x.0; is = sym whole }; shorter = omega (arith, found.0, ap length whole, length-append x.0 x.1) }
 
 pub after_blanks-later : (t r : List ℕ) → after_blanks t ≡ Some r → IsLater t r
-after_blanks-later t r e = let found = mapped _ _ _ e in rw (← found.2) (some_run-later Blank t found.0 found.1)
+after_blanks-later t r e = let found = mapped _ _ _ e in rw (← found.2) (some_run-later is_blank t found.0 found.1)
 
 pub after_line_end-later : (t r : List ℕ) → after_line_end t ≡ Some r → IsLater t r
 unfolding after_line_end
@@ -118,7 +116,7 @@ unfolding line_at
 line_at-later t x e =
     let end = first_and_next _ _ _ e in
     let is : end.0 ≡ x.1 = cc in
-    rw (← is) (then_later (run-rest NotLineFeed t) (after_byte-later 10 _ end.0 end.1))
+    rw (← is) (then_later (run-rest is_no_line_feed t) (after_byte-later 10 _ end.0 end.1))
 
 pub quoted_at-later : (t : List ℕ) (x : List ℕ × List ℕ) → quoted_at t ≡ Some x → IsLater t x.1
 unfolding quoted_at
@@ -126,21 +124,21 @@ quoted_at-later t x e =
     let text = first_and_next _ _ _ e in
     let end = first_and_next _ _ _ text.2 in
     let is : end.0 ≡ x.1 = cc in
-    rw (← is) (later (after_byte-later 34 t text.0 text.1) (behind (run-rest NotQuote text.0) (after-rest (34 ∷ []) _ end.0 end.1)))
+    rw (← is) (later (after_byte-later 34 t text.0 text.1) (behind (run-rest is_no_quote text.0) (after-rest (34 ∷ []) _ end.0 end.1)))
 
 -- ---- digits
 
-take_while-digits : (t : List ℕ) → all_ascii_digits (take_while (has Digit) t) ≡ true
+take_while-digits : (t : List ℕ) → all_ascii_digits (take_while is_ascii_digit t) ≡ true
 take_while-digits [] = refl
-take_while-digits (c ∷ cs) = rw (take_while-cons (has Digit) c cs) (by_test (is_ascii_digit c) refl (take_while-digits cs))
+take_while-digits (c ∷ cs) = rw (take_while-cons is_ascii_digit c cs) (by_test (is_ascii_digit c) refl (take_while-digits cs))
   where
-    by_test : (b : Bool) → is_ascii_digit c ≡ b → all_ascii_digits (take_while (has Digit) cs) ≡ true → all_ascii_digits (cond b (c ∷ take_while (has Digit) cs) []) ≡ true
+    by_test : (b : Bool) → is_ascii_digit c ≡ b → all_ascii_digits (take_while is_ascii_digit cs) ≡ true → all_ascii_digits (cond b (c ∷ take_while is_ascii_digit cs) []) ≡ true
     by_test true e rest = rw e rest
     by_test false e rest = refl
 
-pub some_run-digits : (t : List ℕ) (x : List ℕ × List ℕ) → some_run Digit t ≡ Some x → all_ascii_digits x.0 ≡ true
+pub some_run-digits : (t : List ℕ) (x : List ℕ × List ℕ) → some_run is_ascii_digit t ≡ Some x → all_ascii_digits x.0 ≡ true
 unfolding run
-some_run-digits t x e = let found = some_run-run Digit t x e in rw (← found.1) (take_while-digits t)
+some_run-digits t x e = let found = some_run-run is_ascii_digit t x e in rw (← found.1) (take_while-digits t)
 
 -- ---- a cache key
 
@@ -151,7 +149,7 @@ after_compression-later t r e =
     let digits = first_and_next _ _ _ e in
     let level = first_and_next _ _ _ digits.2 in
     let is : level.0.1 ≡ r = cc in
-    rw (← is) (later (after-later (codes "c") t digits.0 some digits.1) (some_run-later Digit digits.0 level.0 level.1).rest_is)
+    rw (← is) (later (after-later (codes "c") t digits.0 some digits.1) (some_run-later is_ascii_digit digits.0 level.0 level.1).rest_is)
 
-pub key-rest : (key : List ℕ) (digits : List ℕ × List ℕ) → some_run Digit key ≡ Some digits → IsRest key (unwrap_or (after_compression digits.1) digits.1)
-key-rest key digits e = behind (some_run-later Digit key digits e).rest_is (unwrapped (after_compression digits.1) digits.1 (λ r found. (after_compression-later digits.1 r found).rest_is))
+pub key-rest : (key : List ℕ) (digits : List ℕ × List ℕ) → some_run is_ascii_digit key ≡ Some digits → IsRest key (unwrap_or (after_compression digits.1) digits.1)
+key-rest key digits e = behind (some_run-later is_ascii_digit key digits e).rest_is (unwrapped (after_compression digits.1) digits.1 (λ r found. (after_compression-later digits.1 r found).rest_is))

@@ -2,9 +2,9 @@
 use Rattle.std.proofs.Common.{◌≡◌, ◌<◌, ◌==◌, ◌≢◌, ◌⊎◌, inl, inr, ℕ, true, false, List, [], ◌∷◌, ◌++◌, length, refl, sym, ap, Option, Some, None, arith, length-append}
 use Rattle.std.specs.Prelude.{unwrap_or, codes}
 use Rattle.std.proofs.lemmas.Bool.Decides.{eqb_tells}
-use Rattle.yarn_lock_parser.specs.declared.byte_set.ByteSet.TheVariants.{Blank, NotLineEnd, NotColon, Descriptor, DependencyName}
-use Rattle.yarn_lock_parser.specs.declared.metas.Flag.{Flag}
-use Rattle.yarn_lock_parser.specs.declared.metas.Flag.TheVariants.{Absent}
+use Rattle.yarn_lock_parser.specs.ByteSet.{is_blank, is_no_line_end, is_no_colon, is_descriptor_byte, is_name_byte}
+use Rattle.yarn_lock_parser.specs.Metas.{Flag}
+use Rattle.yarn_lock_parser.specs.Metas.{Absent}
 use Rattle.std.specs.List.{fold}
 use Rattle.yarn_lock_parser.specs.Front.{after_optional, run, after_line_end, IsRest, some}
 use Rattle.yarn_lock_parser.specs.Descriptors.{descriptor_at, next_descriptor}
@@ -21,7 +21,7 @@ unfolding descriptor_at
 descriptor_at-later t x e =
     let text = first_and_next _ _ _ e in
     let is : after_optional (34 ∷ []) text.0.1 ≡ x.1 = cc in
-    rw (← is) (then_later (after_optional-rest (34 ∷ []) t) (later (some_run-later Descriptor _ text.0 text.1) (after_optional-rest (34 ∷ []) text.0.1)))
+    rw (← is) (then_later (after_optional-rest (34 ∷ []) t) (later (some_run-later is_descriptor_byte _ text.0 text.1) (after_optional-rest (34 ∷ []) text.0.1)))
 
 pub next_descriptor-later : (t : List ℕ) (x : List ℕ × List ℕ) → next_descriptor t ≡ Some x → IsLater t x.1
 unfolding next_descriptor
@@ -34,7 +34,7 @@ next_descriptor-shortens t x e = (next_descriptor-later t x e).shorter
 
 -- ---- dependencies
 
-pub deeper-run : (indent t : List ℕ) (x : List ℕ × List ℕ) → deeper indent t ≡ Some x → (run Blank t ≡ x) × (0 < length x.0)
+pub deeper-run : (indent t : List ℕ) (x : List ℕ × List ℕ) → deeper indent t ≡ Some x → (run is_blank t ≡ x) × (0 < length x.0)
 unfolding deeper
 deeper-run indent t x e =
     let further = first_and_next _ _ _ e in
@@ -50,23 +50,23 @@ deeper-run indent t x e =
 pub deeper-later : (indent t : List ℕ) (x : List ℕ × List ℕ) → deeper indent t ≡ Some x → IsLater t x.1
 deeper-later indent t x e =
     let found = deeper-run indent t x e in
-    let whole : x.0 ++ x.1 ≡ t = rw found.0 at (run-whole Blank t) in
+    let whole : x.0 ++ x.1 ≡ t = rw found.0 at (run-whole is_blank t) in
     record { rest_is = record { prior = x.0; is = sym whole }; shorter = omega (arith, found.1, ap length whole, length-append x.0 x.1) }
 
 pub line_rest-rest : (t : List ℕ) (x : List ℕ × List ℕ) → line_rest t ≡ Some x → IsRest t x.1
 unfolding line_rest
-line_rest-rest t x e = let found = tested _ _ _ e in rw (← found.1) (run-rest NotLineEnd t)
+line_rest-rest t x e = let found = tested _ _ _ e in rw (← found.1) (run-rest is_no_line_end t)
 
 pub dependency_version-rest : (t : List ℕ) (x : List ℕ × List ℕ) → dependency_version t ≡ Some x → IsRest t x.1
 unfolding dependency_version
 dependency_version-rest t x e =
     let version = first_and_next _ _ _ e in
-    let is : unwrap_or (after_line_end version.0.1) (run Blank version.0.1).1 ≡ x.1 = cc in
-    let text = either_form _ _ version.0 (IsRest (run Blank t).1 version.0.1) version.1 (λ found. (quoted_at-later _ version.0 found).rest_is) (line_rest-rest _ version.0) in
-    rw (← is) (behind (run-rest Blank t) (behind text (after_end version.0.1 (after_line_end version.0.1) refl)))
+    let is : unwrap_or (after_line_end version.0.1) (run is_blank version.0.1).1 ≡ x.1 = cc in
+    let text = either_form _ _ version.0 (IsRest (run is_blank t).1 version.0.1) version.1 (λ found. (quoted_at-later _ version.0 found).rest_is) (line_rest-rest _ version.0) in
+    rw (← is) (behind (run-rest is_blank t) (behind text (after_end version.0.1 (after_line_end version.0.1) refl)))
   where
-    after_end : (s : List ℕ) (o : Option (List ℕ)) → after_line_end s ≡ o → IsRest s (unwrap_or o (run Blank s).1)
-    after_end s None h = run-rest Blank s
+    after_end : (s : List ℕ) (o : Option (List ℕ)) → after_line_end s ≡ o → IsRest s (unwrap_or o (run is_blank s).1)
+    after_end s None h = run-rest is_blank s
     after_end s (Some r) h = (after_line_end-later s r h).rest_is
 
 pub dependency_at-later : (indent t : List ℕ) (x : (List ℕ × List ℕ) × List ℕ) → dependency_at indent t ≡ Some x → IsLater t x.1
@@ -78,7 +78,7 @@ dependency_at-later indent t x e =
     let version = first_and_next _ _ _ mark.2 in
     let is : version.0.1 ≡ x.1 = cc in
     let marked = either_form _ _ mark.0 (IsRest name.0.1 mark.0) mark.1 (after-rest (58 ∷ []) _ mark.0) (after-rest (32 ∷ []) _ mark.0) in
-    rw (← is) (later (deeper-later indent t own.0 own.1) (behind (some_run-later DependencyName _ name.0 name.1).rest_is (behind marked (dependency_version-rest mark.0 version.0 version.1))))
+    rw (← is) (later (deeper-later indent t own.0 own.1) (behind (some_run-later is_name_byte _ name.0 name.1).rest_is (behind marked (dependency_version-rest mark.0 version.0 version.1))))
 
 pub dependency_at-shortens : (indent : List ℕ) → Shortens (dependency_at indent)
 dependency_at-shortens indent t x e = (dependency_at-later indent t x e).shorter
@@ -92,7 +92,7 @@ property_at-later indent t x e =
     let value = first_and_next _ _ _ own.2 in
     let rest = first_and_next _ _ _ value.2 in
     let is : rest.0.1 ≡ x.1 = cc in
-    rw (← is) (later (deeper-later indent t own.0 own.1) (behind (run-rest NotColon own.0.1) (behind (after-rest (codes ": ") _ value.0 value.1) (line_at-later value.0 rest.0 rest.1).rest_is)))
+    rw (← is) (later (deeper-later indent t own.0 own.1) (behind (run-rest is_no_colon own.0.1) (behind (after-rest (codes ": ") _ value.0 value.1) (line_at-later value.0 rest.0 rest.1).rest_is)))
 
 pub property_at-shortens : (indent : List ℕ) → Shortens (property_at indent)
 property_at-shortens indent t x e = (property_at-later indent t x e).shorter
@@ -112,8 +112,8 @@ meta_at-later indent t x e =
     rw (← rest) (later (deeper-later indent t own own-is) (behind named (behind (after-rest (58 ∷ []) _ colon colon-is) (behind (after_line_end-later _ body body-is).rest_is (flag_under-rest own.0 body flag flag-is)))))
     )))))
   where
-    unquoted : (s : List ℕ) (y : List ℕ × List ℕ) → Some (run NotColon s) ≡ Some y → IsRest s y.1
-    unquoted s y found = let same : run NotColon s ≡ y = cc in rw (← same) (run-rest NotColon s)
+    unquoted : (s : List ℕ) (y : List ℕ × List ℕ) → Some (run is_no_colon s) ≡ Some y → IsRest s y.1
+    unquoted s y found = let same : run is_no_colon s ≡ y = cc in rw (← same) (run-rest is_no_colon s)
 
 pub meta_at-shortens : (indent : List ℕ) → Shortens (meta_at indent)
 meta_at-shortens indent t x e = (meta_at-later indent t x e).shorter

@@ -2,12 +2,12 @@
 use Rattle.std.proofs.Common.{◌≡◌, ◌==◌, ◌+◌, ℕ, Bool, true, false, List, [], ◌∷◌, length, map, refl, ap, Option, Some, None, Result, Ok, Err}
 use Rattle.std.specs.Prelude.{option_map, unwrap_or, codes, IfSome, IfOk, ok_or}
 use Rattle.std.specs.List.{AllByRecursion, fold}
-use Rattle.yarn_lock_parser.specs.declared.byte_set.ByteSet.TheVariants.{Digit}
-use Rattle.yarn_lock_parser.specs.declared.dependencies.DependencyKind.TheVariants as kinds
+use Rattle.std.specs.Char.{is_ascii_digit}
+use Rattle.yarn_lock_parser.specs.Dependencies as kinds
 use Rattle.yarn_lock_parser.specs.declared.error.LockCause.{LockCause}
 use Rattle.yarn_lock_parser.specs.declared.error.LockCause.TheVariants as causes
-use Rattle.yarn_lock_parser.specs.declared.metas.MetaKind.TheVariants as meta_kinds
-use Rattle.yarn_lock_parser.specs.declared.metas.Flag.{Flag}
+use Rattle.yarn_lock_parser.specs.Metas as meta_kinds
+use Rattle.yarn_lock_parser.specs.Metas.{Flag}
 use Rattle.yarn_lock_parser.specs.Front.{IsRest, front, some, some_run}
 use Rattle.yarn_lock_parser.specs.Cut.{after_first_empty_line, entry_text, entry_texts}
 use Rattle.yarn_lock_parser.specs.Descriptors.{descriptors_at}
@@ -157,7 +157,7 @@ all-within a (e ∷ es) h = (entry-within a e h.0, all-within a es h.1)
 cache_key-slice : (t : List ℕ) (x : List ℕ × List ℕ) → cache_key t ≡ Some x → IsSlice t x.0
 unfolding cache_key
 cache_key-slice t x e =
-    rests.step _ _ _ e (λ name name-is e₁. rests.step _ _ _ e₁ (λ key key-is e₂. rests.step (some_run Digit key) (λ digits. Some (front key (unwrap_or (after_compression digits.1) digits.1), unwrap_or (after_compression digits.1) digits.1)) x e₂ (λ digits digits-is e₃.
+    rests.step _ _ _ e (λ name name-is e₁. rests.step _ _ _ e₁ (λ key key-is e₂. rests.step (some_run is_ascii_digit key) (λ digits. Some (front key (unwrap_or (after_compression digits.1) digits.1), unwrap_or (after_compression digits.1) digits.1)) x e₂ (λ digits digits-is e₃.
     let is : front key (unwrap_or (after_compression digits.1) digits.1) ≡ x.0 = cc in
     rw (← is) (slice-behind (behind (after_blanks-later t name name-is).rest_is (after-rest (codes "cacheKey: ") name key key-is)) (front-slice key _))
     )))

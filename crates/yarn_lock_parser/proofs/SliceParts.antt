@@ -1,10 +1,9 @@
 -- What the words at a text's front say is a slice of the text.
-use Rattle.std.proofs.Common.{◌≡◌, ◌-◌, ℕ, zero, suc, List, [], ◌∷◌, ◌++◌, length, take, drop, refl, sym, ap, ◌∙◌, Option, Some, None, reverse, append_assoc, append-nil}
+use Rattle.std.proofs.Common.{Bool, ◌≡◌, ◌-◌, ℕ, zero, suc, List, [], ◌∷◌, ◌++◌, length, take, drop, refl, sym, ap, ◌∙◌, Option, Some, None, reverse, append_assoc, append-nil}
 use Rattle.std.specs.Prelude.{unwrap_or}
 use Rattle.std.specs.List.{AllByRecursion}
 use Rattle.std.proofs.lemmas.List.{take-append-drop, reverse-append, reverse-reverse}
-use Rattle.yarn_lock_parser.specs.declared.byte_set.ByteSet.{ByteSet}
-use Rattle.yarn_lock_parser.specs.declared.byte_set.ByteSet.TheVariants.{Quote, NotLineFeed, NotQuote}
+use Rattle.yarn_lock_parser.specs.ByteSet.{is_quote, is_no_line_feed, is_no_quote}
 use Rattle.sugar_path.specs.Front.{after}
 use Rattle.yarn_lock_parser.specs.Front.{before, before_optional, run, some_run, line_at, quoted_at, front, IsRest, up_to, every, some}
 use Rattle.yarn_lock_parser.specs.Dependencies.{before_quotes, trimmed}
@@ -35,23 +34,23 @@ pub front-slice : (t rest : List ℕ) → IsSlice t (front t rest)
 unfolding front
 front-slice t rest = take-slice (length t - length rest) t
 
-pub run-slice : (set : ByteSet) (t : List ℕ) → IsSlice t (run set t).0
+pub run-slice : (set : ℕ → Bool) (t : List ℕ) → IsSlice t (run set t).0
 run-slice set t = record { prior = []; rest = (run set t).1; is = sym (run-whole set t) }
 
-pub some_run-slice : (set : ByteSet) (t : List ℕ) (x : List ℕ × List ℕ) → some_run set t ≡ Some x → IsSlice t x.0
+pub some_run-slice : (set : ℕ → Bool) (t : List ℕ) (x : List ℕ × List ℕ) → some_run set t ≡ Some x → IsSlice t x.0
 some_run-slice set t x e = let found = some_run-run set t x e in rw (← found.1) (run-slice set t)
 
 pub line_at-slice : (t : List ℕ) (x : List ℕ × List ℕ) → line_at t ≡ Some x → IsSlice t x.0
 unfolding line_at
-line_at-slice t x e = step (after (10 ∷ []) (run NotLineFeed t).1) (λ rest. Some ((run NotLineFeed t).0, rest)) x e (λ rest rest-is e₁.
-    let is : (run NotLineFeed t).0 ≡ x.0 = cc in
-    rw (← is) (run-slice NotLineFeed t))
+line_at-slice t x e = step (after (10 ∷ []) (run is_no_line_feed t).1) (λ rest. Some ((run is_no_line_feed t).0, rest)) x e (λ rest rest-is e₁.
+    let is : (run is_no_line_feed t).0 ≡ x.0 = cc in
+    rw (← is) (run-slice is_no_line_feed t))
 
 pub quoted_at-slice : (t : List ℕ) (x : List ℕ × List ℕ) → quoted_at t ≡ Some x → IsSlice t x.0
 unfolding quoted_at
-quoted_at-slice t x e = step _ _ _ e (λ text text-is e₁. step (after (34 ∷ []) (run NotQuote text).1) (λ rest. Some ((run NotQuote text).0, rest)) x e₁ (λ rest rest-is e₂.
-    let is : (run NotQuote text).0 ≡ x.0 = cc in
-    rw (← is) (slice-behind (after-rest (34 ∷ []) t text text-is) (run-slice NotQuote text))))
+quoted_at-slice t x e = step _ _ _ e (λ text text-is e₁. step (after (34 ∷ []) (run is_no_quote text).1) (λ rest. Some ((run is_no_quote text).0, rest)) x e₁ (λ rest rest-is e₂.
+    let is : (run is_no_quote text).0 ≡ x.0 = cc in
+    rw (← is) (slice-behind (after-rest (34 ∷ []) t text text-is) (run-slice is_no_quote text))))
 
 pub before-slice : (w t x : List ℕ) → before w t ≡ Some x → IsSlice t x
 before-slice w t x e = record { prior = []; rest = w; is = before-some w t x e }
@@ -65,10 +64,10 @@ before_optional-slice w t = by_found (before w t) refl
 
 before_quotes-slice : (s : List ℕ) → IsSlice s (before_quotes s)
 unfolding before_quotes
-before_quotes-slice s = record { prior = []; rest = reverse (run Quote (reverse s)).0; is = sym (sym (reverse-append (run Quote (reverse s)).0 (run Quote (reverse s)).1) ∙ ap reverse (run-whole Quote (reverse s)) ∙ reverse-reverse s) }
+before_quotes-slice s = record { prior = []; rest = reverse (run is_quote (reverse s)).0; is = sym (sym (reverse-append (run is_quote (reverse s)).0 (run is_quote (reverse s)).1) ∙ ap reverse (run-whole is_quote (reverse s)) ∙ reverse-reverse s) }
 
 pub trimmed-slice : (t : List ℕ) → IsSlice t (trimmed t)
-trimmed-slice t = slice-behind (run-rest Quote t) (before_quotes-slice (run Quote t).1)
+trimmed-slice t = slice-behind (run-rest is_quote t) (before_quotes-slice (run is_quote t).1)
 
 -- ---- as many parts as fit
 

@@ -1,12 +1,12 @@
 -- Where a text is cut: behind a line of only blanks.
 use Rattle.std.specs.Prelude.{ℕ, ◌==◌, if◌then◌else◌, List, [], ◌∷◌, Option, Some, None, unwrap_or}
 use Rattle.std.specs.Option.{option_or}
-use Rattle.yarn_lock_parser.specs.declared.byte_set.ByteSet.TheVariants.{Blank}
+use Rattle.yarn_lock_parser.specs.ByteSet.{is_blank}
 use Rattle.yarn_lock_parser.specs.Front.{run, after_line_end, front, every}
 
 -- what follows a line of only blanks
 unfoldable pub after_empty_line : List ℕ → Option (List ℕ)
-after_empty_line t = after_line_end (run Blank t).1
+after_empty_line t = after_line_end (run is_blank t).1
 
 -- what follows the first line of only blanks that begins behind a line feed
 unfoldable pub after_later_empty_line : List ℕ → Option (List ℕ)

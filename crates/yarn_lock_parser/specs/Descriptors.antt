@@ -1,7 +1,7 @@
 -- The descriptors on an entry's first line.
 use Rattle.std.specs.Prelude.{ℕ, List, [], ◌∷◌, ◌++◌, Option, Some, option_map, codes}
 use Rattle.std.specs.Option.{option_or}
-use Rattle.yarn_lock_parser.specs.declared.byte_set.ByteSet.TheVariants.{Descriptor, NotAt}
+use Rattle.yarn_lock_parser.specs.ByteSet.{is_descriptor_byte, is_no_at}
 use Rattle.sugar_path.specs.Front.{◌>>=◌, after}
 use Rattle.yarn_lock_parser.specs.Front.{after_optional, before, run, some_run, line_at, front, every}
 
@@ -12,7 +12,7 @@ before_colon t = option_or (before (58 ∷ 13 ∷ []) t) (before (58 ∷ []) t)
 -- a descriptor's text, between optional quotes
 unfoldable pub descriptor_at : List ℕ → Option (List ℕ × List ℕ)
 descriptor_at t = do
-  text ← some_run Descriptor (after_optional (34 ∷ []) t)
+  text ← some_run is_descriptor_byte (after_optional (34 ∷ []) t)
   Some (text.0, after_optional (34 ∷ []) text.1)
 
 -- a descriptor behind an optional quote, a comma and a space
@@ -24,8 +24,8 @@ next_descriptor t = do
 -- name and requirement: the name ends at the first `@` that isn't its first byte
 unfoldable pub parted : List ℕ → Option (List ℕ × List ℕ)
 parted t = do
-  requirement ← after (codes "@") (run NotAt (after_optional (codes "@") t)).1
-  Some (front t (run NotAt (after_optional (codes "@") t)).1, requirement)
+  requirement ← after (codes "@") (run is_no_at (after_optional (codes "@") t)).1
+  Some (front t (run is_no_at (after_optional (codes "@") t)).1, requirement)
 
 abbrev pub each_parted : List (List ℕ) → Option (List (List ℕ × List ℕ))
 each_parted [] = Some []

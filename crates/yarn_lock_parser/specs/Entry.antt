@@ -1,13 +1,10 @@
 -- An entry of a lock file, and what a text is refused for as an entry.
 use Rattle.std.specs.Prelude.{◌≡◌, ℕ, Bool, true, false, ◌==◌, ◌-◌, List, [], ◌∷◌, length, map, Result, Ok, Err, ok_or, slice_get}
 use Rattle.std.specs.Option.{option_map_or}
-use Rattle.yarn_lock_parser.specs.declared.byte_set.ByteSet.TheVariants.{Blank}
-use Rattle.yarn_lock_parser.specs.declared.error.EntryError.{EntryError}
-use Rattle.yarn_lock_parser.specs.declared.error.EntryError.TheVariants.{Refused, NoMemory}
+use Rattle.yarn_lock_parser.specs.ByteSet.{is_blank}
 use Rattle.yarn_lock_parser.specs.declared.error.LockCause.{LockCause}
 use Rattle.yarn_lock_parser.specs.declared.error.LockCause.TheVariants.{LastLine, Descriptors, NoItem, Optional, NoVersion}
 use Rattle.yarn_lock_parser.specs.declared.metas.DepMeta.{DepMeta}
-use Rattle.yarn_lock_parser.specs.ByteSet.{has}
 use Rattle.yarn_lock_parser.specs.Descriptors.{descriptors_at}
 use Rattle.yarn_lock_parser.specs.Metas.{as_meta}
 use Rattle.yarn_lock_parser.specs.Fields.{Fields, fields_of}
@@ -36,15 +33,16 @@ refuse_if false cause = Ok tt
 
 -- a text that ends in a blank, so its last line has no line feed
 unfoldable pub ends_in_blank : List ℕ → Bool
-ends_in_blank t = option_map_or (has Blank) (slice_get t (length t - 1)) false
+ends_in_blank t = option_map_or is_blank (slice_get t (length t - 1)) false
 
 abbrev pub first_name : List (List ℕ × List ℕ) → List ℕ
 first_name [] = []
 first_name (d ∷ ds) = d.0
 
-abbrev pub named : List ℕ → List (List ℕ × List ℕ) → Fields → Entry
-named name found f = record {
-  name = name;
+-- an entry is named by its first descriptor
+abbrev pub entry_with : List (List ℕ × List ℕ) → Fields → Entry
+entry_with found f = record {
+  name = first_name found;
   version = f.version;
   resolved = f.resolved;
   integrity = f.integrity;
@@ -56,10 +54,6 @@ named name found f = record {
   descriptors = found;
 }
 
--- an entry is named by its first descriptor
-abbrev pub entry_with : List (List ℕ × List ℕ) → Fields → Entry
-entry_with found f = named (first_name found) found f
-
 -- the entry that a text is, or the first cause against it: an unfinished last line, the descriptors, no item, a meta's flag, no version
 unfoldable pub entry_of : List ℕ → Result Entry LockCause
 entry_of t = do
@@ -69,8 +63,3 @@ entry_of t = do
   readable ← refuse_if fields.is_spoilt Optional
   versioned ← refuse_if (length fields.version == 0) NoVersion
   Ok (entry_with head.0 fields)
-
--- what an error of the reader means of a reading: want of memory means nothing
-abbrev pub Explains : Result Entry LockCause → EntryError → Type 0
-Explains read (Refused cause) = read ≡ Err cause
-Explains read NoMemory = Unit {0}

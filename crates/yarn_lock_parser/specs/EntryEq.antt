@@ -6,7 +6,7 @@ use Rattle.std.specs.Bool.{beq}
 use Rattle.std.specs.Cmp.{IsEquivalence, on_equiv, and_equiv, bool_eq_equiv}
 use Rattle.std.specs.Cmp.Lexicographic.{pointwise, lists_equiv, options_equiv, nat_list_eq_equiv}
 use Rattle.yarn_lock_parser.specs.declared.metas.DepMeta.{DepMeta}
-use Rattle.yarn_lock_parser.specs.declared.metas.Flag.{Flag}
+use Rattle.yarn_lock_parser.specs.Metas.{Flag}
 use Rattle.yarn_lock_parser.specs.Metas.{as_meta}
 use Rattle.yarn_lock_parser.specs.Entry.{Entry}
 

@@ -1,10 +1,9 @@
 -- What the items of an entry say, each kind for itself.
 use Rattle.std.specs.Prelude.{ℕ, Bool, true, false, ◌||◌, List, [], Option, option_map}
 use Rattle.std.specs.List.{fold, list_any}
-use Rattle.yarn_lock_parser.specs.declared.dependencies.DependencyKind.TheVariants.{Regular, Optional, Peer}
-use Rattle.yarn_lock_parser.specs.declared.metas.MetaKind.TheVariants as metas
-use Rattle.yarn_lock_parser.specs.declared.metas.Flag.{Flag}
-use Rattle.yarn_lock_parser.specs.declared.metas.Flag.TheVariants.{Absent, Known, Unreadable}
+use Rattle.yarn_lock_parser.specs.Dependencies.{Regular, Optional, Peer}
+use Rattle.yarn_lock_parser.specs.Metas as metas
+use Rattle.yarn_lock_parser.specs.Metas.{Flag, Absent, Known, Unreadable}
 use Rattle.yarn_lock_parser.specs.Front.{some}
 use Rattle.yarn_lock_parser.specs.Item.{item_at, Item, Version, Dependencies, Integrity, Resolved, Metas, Other}
 

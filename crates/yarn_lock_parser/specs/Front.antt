@@ -1,11 +1,9 @@
 -- What a text's front is, and what follows it. A reading of a front is what the front says, and the text that follows it.
-use Rattle.std.specs.Prelude.{◌≡◌, ◌++◌, ℕ, zero, suc, ◌==◌, ◌-◌, if◌then◌else◌, List, [], ◌∷◌, length, take, drop, reverse, Option, Some, None, option_map, unwrap_or}
+use Rattle.std.specs.Prelude.{◌≡◌, ◌++◌, ℕ, Bool, zero, suc, ◌==◌, ◌-◌, if◌then◌else◌, List, [], ◌∷◌, length, take, drop, reverse, Option, Some, None, option_map, unwrap_or}
 use Rattle.std.specs.Option.{option_or}
 use Rattle.std.specs.List.{prefix_len}
 use Rattle.sugar_path.specs.Front.{◌>>=◌, after}
-use Rattle.yarn_lock_parser.specs.declared.byte_set.ByteSet.{ByteSet}
-use Rattle.yarn_lock_parser.specs.declared.byte_set.ByteSet.TheVariants.{Blank, NotLineFeed, NotQuote}
-use Rattle.yarn_lock_parser.specs.ByteSet.{has}
+use Rattle.yarn_lock_parser.specs.ByteSet.{is_blank, is_no_line_feed, is_no_quote}
 
 -- what follows a word that may stand at the front
 abbrev pub after_optional : List ℕ → List ℕ → List ℕ
@@ -20,16 +18,16 @@ abbrev pub before_optional : List ℕ → List ℕ → List ℕ
 before_optional word t = unwrap_or (before word t) t
 
 -- the longest run of a set's bytes at the front, and what follows it
-unfoldable pub run : ByteSet → List ℕ → List ℕ × List ℕ
-run set t = (take (prefix_len (has set) t) t, drop (prefix_len (has set) t) t)
+unfoldable pub run : (ℕ → Bool) → List ℕ → List ℕ × List ℕ
+run set t = (take (prefix_len set t) t, drop (prefix_len set t) t)
 
 -- the same run, of one byte or more
-unfoldable pub some_run : ByteSet → List ℕ → Option (List ℕ × List ℕ)
+unfoldable pub some_run : (ℕ → Bool) → List ℕ → Option (List ℕ × List ℕ)
 some_run set t = if length (run set t).0 == 0 then None else Some (run set t)
 
 -- what follows one blank or more
 abbrev pub after_blanks : List ℕ → Option (List ℕ)
-after_blanks t = option_map (λ blanks. blanks.1) (some_run Blank t)
+after_blanks t = option_map (λ blanks. blanks.1) (some_run is_blank t)
 
 -- what follows a line feed, or a carriage return and a line feed
 unfoldable pub after_line_end : List ℕ → Option (List ℕ)
@@ -38,15 +36,15 @@ after_line_end t = option_or (after (10 ∷ []) t) (after (13 ∷ 10 ∷ []) t)
 -- a line, without its line feed
 unfoldable pub line_at : List ℕ → Option (List ℕ × List ℕ)
 line_at t = do
-  rest ← after (10 ∷ []) (run NotLineFeed t).1
-  Some ((run NotLineFeed t).0, rest)
+  rest ← after (10 ∷ []) (run is_no_line_feed t).1
+  Some ((run is_no_line_feed t).0, rest)
 
 -- a text between quotes: it ends at the next quote
 unfoldable pub quoted_at : List ℕ → Option (List ℕ × List ℕ)
 quoted_at t = do
   text ← after (34 ∷ []) t
-  rest ← after (34 ∷ []) (run NotQuote text).1
-  Some ((run NotQuote text).0, rest)
+  rest ← after (34 ∷ []) (run is_no_quote text).1
+  Some ((run is_no_quote text).0, rest)
 
 -- the rest of a text behind some front
 pub record IsRest (t rest : List ℕ) : Type 0 where

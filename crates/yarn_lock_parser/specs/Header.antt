@@ -1,11 +1,15 @@
 -- The comment lines that a lock file begins with.
-use Rattle.std.specs.Prelude.{ℕ, List, Option, Some, codes, is_some, unwrap_or}
+use Rattle.std.specs.Prelude.{ℕ, Bool, List, Option, Some, codes, is_some, unwrap_or}
 use Rattle.std.specs.Option.{option_map_or}
-use Rattle.yarn_lock_parser.specs.declared.byte_set.ByteSet.TheVariants.{WhiteSpace}
-use Rattle.yarn_lock_parser.specs.declared.header.Header.{Header}
+use Rattle.yarn_lock_parser.specs.ByteSet.{is_white_space}
+use Rattle.yarn_lock_parser.specs.declared.header.Generator.{Generator}
 use Rattle.yarn_lock_parser.specs.declared.header.Generator.TheVariants.{Yarn, Bun}
 use Rattle.sugar_path.specs.Front.{◌>>=◌, after}
 use Rattle.yarn_lock_parser.specs.Front.{run, line_at}
+
+pub record Header : Type 0 where
+  pub generator : Generator
+  pub is_first_version : Bool
 
 -- what follows the line that Bun adds
 unfoldable pub after_bun_line : List ℕ → Option (List ℕ)
@@ -24,5 +28,5 @@ header_at t = do
       generator = option_map_or (λ _. Bun) (after_bun_line second.1) Yarn;
       is_first_version = is_some (after (codes "# yarn lockfile v1") second.0);
     },
-    (run WhiteSpace (unwrap_or (after_bun_line second.1) second.1)).1,
+    (run is_white_space (unwrap_or (after_bun_line second.1) second.1)).1,
   )

@@ -1,13 +1,13 @@
 -- What holds of the reading, whatever the text.
-use Rattle.std.specs.Prelude.{◌≡◌, ◌⊎◌, ◌++◌, ◌&&◌, ◌||◌, not, ℕ, Bool, true, false, List, [], ◌∷◌, bytes_eq, codes, IsTrue}
-use Rattle.std.specs.List.{concat, fold, list_all, list_any}
-use Rattle.yarn_lock_parser.specs.declared.byte_set.ByteSet.TheVariants.{Blank}
-use Rattle.yarn_lock_parser.specs.declared.metas.Flag.TheVariants.{Absent}
-use Rattle.yarn_lock_parser.specs.ByteSet.{has}
+use Rattle.std.specs.Prelude.{◌≡◌, ◌⊎◌, ◌++◌, ◌&&◌, ◌||◌, not, ℕ, Bool, true, false, List, [], ◌∷◌, Option, Some, None, bytes_eq, codes, IsTrue}
+use Rattle.std.specs.List.{concat, filter_map, fold, list_all, list_any}
+use Rattle.yarn_lock_parser.specs.ByteSet.{is_blank}
+use Rattle.yarn_lock_parser.specs.Dependencies as kinds
+use Rattle.yarn_lock_parser.specs.Metas as meta_kinds
 use Rattle.yarn_lock_parser.specs.Cut.{entry_texts}
 use Rattle.yarn_lock_parser.specs.Item.{Item, Version, Dependencies, Integrity, Resolved, Metas, Other}
-use Rattle.yarn_lock_parser.specs.Metas.{flag_of, noted}
-use Rattle.yarn_lock_parser.specs.Fields.{is_unreadable, no_fields, with_item}
+use Rattle.yarn_lock_parser.specs.Metas.{Flag, Absent, flag_of, noted}
+use Rattle.yarn_lock_parser.specs.Fields.{Fields, is_unreadable, no_fields, with_item}
 
 -- the texts of the entries, joined, are the text that they are cut from
 abbrev pub EntriesAreTheText : Type 0
@@ -28,7 +28,7 @@ pub record EndsWithEmptyLine (t : List ℕ) : Type 0 where
   pub line_end : List ℕ
   pub is : t ≡ prior ++ (blanks ++ line_end)
   pub begins : IsBeforeLine prior
-  pub are_blank : list_all (has Blank) blanks ≡ true
+  pub are_blank : list_all is_blank blanks ≡ true
   pub ends : IsLineEnd line_end
 
 abbrev pub AllButLast : (List ℕ → Type 0) → List (List ℕ) → Type 0
@@ -64,6 +64,55 @@ is_spoilt Other = false
 -- the items of an entry are spoilt exactly where some item is
 abbrev pub SpoiltByOne : Type 0
 SpoiltByOne = (items : List Item) → (fold with_item no_fields items).is_spoilt ≡ list_any is_spoilt items
+
+-- what an item says, where it is of a kind
+abbrev pub version_in : Item → Option (List ℕ)
+version_in (Version text) = Some text
+version_in _ = None
+
+abbrev pub resolved_in : Item → Option (List ℕ)
+resolved_in (Resolved text) = Some text
+resolved_in _ = None
+
+abbrev pub integrity_in : Item → Option (List ℕ)
+integrity_in (Integrity text) = Some text
+integrity_in _ = None
+
+abbrev pub dependencies_in : Item → Option (List (List ℕ × List ℕ))
+dependencies_in (Dependencies kinds.Regular pairs) = Some pairs
+dependencies_in _ = None
+
+abbrev pub optional_dependencies_in : Item → Option (List (List ℕ × List ℕ))
+optional_dependencies_in (Dependencies kinds.Optional pairs) = Some pairs
+optional_dependencies_in _ = None
+
+abbrev pub peer_dependencies_in : Item → Option (List (List ℕ × List ℕ))
+peer_dependencies_in (Dependencies kinds.Peer pairs) = Some pairs
+peer_dependencies_in _ = None
+
+abbrev pub dependencies_meta_in : Item → Option (List (List ℕ × Flag))
+dependencies_meta_in (Metas meta_kinds.Dependencies metas) = Some metas
+dependencies_meta_in _ = None
+
+abbrev pub peer_dependencies_meta_in : Item → Option (List (List ℕ × Flag))
+peer_dependencies_meta_in (Metas meta_kinds.PeerDependencies metas) = Some metas
+peer_dependencies_meta_in _ = None
+
+-- a field of an entry is what the last item of its kind says, whatever other items stand around it; with no such item it is empty
+pub record IsOfLastItem {A : Type 0} (field : Fields → A) (says : Item → Option A) : Type 0 where
+  pub last : (items later : List Item) (item : Item) (said : A) → says item ≡ Some said → filter_map says later ≡ [] → field (fold with_item no_fields (items ++ item ∷ later)) ≡ said
+  pub none : (items : List Item) → filter_map says items ≡ [] → field (fold with_item no_fields items) ≡ field no_fields
+
+-- each field of an entry, by the items of its kind alone
+pub record LastItemCounts : Type 0 where
+  pub version : IsOfLastItem (λ f. f.version) version_in
+  pub resolved : IsOfLastItem (λ f. f.resolved) resolved_in
+  pub integrity : IsOfLastItem (λ f. f.integrity) integrity_in
+  pub dependencies : IsOfLastItem (λ f. f.dependencies) dependencies_in
+  pub optional_dependencies : IsOfLastItem (λ f. f.optional_dependencies) optional_dependencies_in
+  pub peer_dependencies : IsOfLastItem (λ f. f.peer_dependencies) peer_dependencies_in
+  pub dependencies_meta : IsOfLastItem (λ f. f.dependencies_meta) dependencies_meta_in
+  pub peer_dependencies_meta : IsOfLastItem (λ f. f.peer_dependencies_meta) peer_dependencies_meta_in
 
 -- where no property `optional` is neither word, the last one gives the flag
 abbrev pub LastFlagCounts : Type 0

@@ -6,6 +6,7 @@ pub mod Entry
 pub mod EntryEq
 pub mod Fields
 pub mod Front
+pub mod Given
 pub mod Header
 pub mod Item
 pub mod Items
@@ -13,4 +14,6 @@ pub mod Laws
 pub mod Lock
 pub mod Metadata
 pub mod Metas
+pub mod Packed
+pub mod Reader
 pub mod Slices

@@ -1,7 +1,5 @@
 -- A whole lock file, and where and why a text is none.
 use Rattle.std.specs.Prelude.{ℕ, Bool, true, false, ◌+◌, ◌-◌, List, [], ◌∷◌, ◌≡◌, length, Option, Some, None, Result, Ok, Err, ok_or}
-use Rattle.yarn_lock_parser.specs.declared.error.EntryError.{EntryError}
-use Rattle.yarn_lock_parser.specs.declared.error.EntryError.TheVariants as of_entry
 use Rattle.yarn_lock_parser.specs.declared.error.LockCause.{LockCause}
 use Rattle.yarn_lock_parser.specs.declared.error.LockCause.TheVariants as causes
 use Rattle.yarn_lock_parser.specs.declared.error.YarnLockError.{YarnLockError}
@@ -54,11 +52,6 @@ lock_of t = do
   facts ← at_place (place_in t head.1) (ok_or (metadata_after head.0.is_first_version head.1) causes.Metadata)
   entries ← entries_from (place_in t facts.1) (entry_texts facts.1)
   Ok (record { generator = head.0.generator; version = facts.0.version; cache_key = facts.0.cache_key; entries = entries })
-
--- the error of a lock file with an entry at a place
-abbrev pub error_at : ℕ → EntryError → YarnLockError
-error_at place (of_entry.Refused cause) = Parser place cause
-error_at place of_entry.NoMemory = NoMemory
 
 -- what an error of the reader means of a reading: want of memory means nothing
 abbrev pub Explains : {A : Type 0} → Result A Refusal → YarnLockError → Type 0

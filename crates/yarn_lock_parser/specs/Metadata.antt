@@ -2,7 +2,8 @@
 use Rattle.std.specs.Prelude.{ℕ, if◌then◌else◌, List, Option, Some, None, option_map, unwrap_or, nat_le, codes}
 use Rattle.std.specs.Str.Parse.{digits_value}
 use Rattle.std.specs.Option.{option_map_or}
-use Rattle.yarn_lock_parser.specs.declared.byte_set.ByteSet.TheVariants.{WhiteSpace, Digit}
+use Rattle.std.specs.Char.{is_ascii_digit}
+use Rattle.yarn_lock_parser.specs.ByteSet.{is_white_space}
 use Rattle.sugar_path.specs.Front.{◌>>=◌, after}
 use Rattle.yarn_lock_parser.specs.Front.{after_blanks, after_line_end, run, some_run, front}
 use Rattle.yarn_lock_parser.specs.Cut.{after_first_empty_line}
@@ -19,7 +20,7 @@ version_number digits =
 -- a version's number
 unfoldable pub number_at : List ℕ → Option (ℕ × List ℕ)
 number_at t = do
-  digits ← some_run Digit t
+  digits ← some_run is_ascii_digit t
   version ← version_number digits.0
   Some (version, digits.1)
 
@@ -27,7 +28,7 @@ number_at t = do
 unfoldable pub after_compression : List ℕ → Option (List ℕ)
 after_compression t = do
   digits ← after (codes "c") t
-  level ← some_run Digit digits
+  level ← some_run is_ascii_digit digits
   Some level.1
 
 -- the cache key: digits, and a `c` and digits that may follow them
@@ -35,7 +36,7 @@ unfoldable pub cache_key : List ℕ → Option (List ℕ × List ℕ)
 cache_key t = do
   name ← after_blanks t
   key ← after (codes "cacheKey: ") name
-  digits ← some_run Digit key
+  digits ← some_run is_ascii_digit key
   Some (front key (unwrap_or (after_compression digits.1) digits.1), unwrap_or (after_compression digits.1) digits.1)
 
 -- what follows a cache key that may stand at the front
@@ -64,5 +65,5 @@ metadata_at t = do
       version = version.0;
       cache_key = option_map (λ key. key.0) (cache_key version.1);
     },
-    (run WhiteSpace rest).1,
+    (run is_white_space rest).1,
   )

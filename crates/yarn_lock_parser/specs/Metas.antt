@@ -2,23 +2,30 @@
 use Rattle.std.specs.Prelude.{ℕ, Bool, true, false, if◌then◌else◌, List, [], ◌∷◌, bytes_eq, Option, Some, None, codes}
 use Rattle.std.specs.Option.{option_or}
 use Rattle.std.specs.List.{fold}
-use Rattle.yarn_lock_parser.specs.declared.byte_set.ByteSet.TheVariants.{Blank, NotColon}
+use Rattle.yarn_lock_parser.specs.ByteSet.{is_blank, is_no_colon}
 use Rattle.yarn_lock_parser.specs.declared.metas.DepMeta.{DepMeta}
-use Rattle.yarn_lock_parser.specs.declared.metas.MetaKind.{MetaKind}
-use Rattle.yarn_lock_parser.specs.declared.metas.MetaKind.TheVariants.{Dependencies, PeerDependencies}
-use Rattle.yarn_lock_parser.specs.declared.metas.Flag.{Flag}
-use Rattle.yarn_lock_parser.specs.declared.metas.Flag.TheVariants.{Absent, Known, Unreadable}
 use Rattle.sugar_path.specs.Front.{◌>>=◌, after}
 use Rattle.yarn_lock_parser.specs.Front.{before_optional, after_line_end, run, some_run, line_at, quoted_at, some}
 use Rattle.yarn_lock_parser.specs.Dependencies.{deeper, names_kind}
+
+-- which metas a heading names
+pub data MetaKind : Type 0 where
+  Dependencies : MetaKind
+  PeerDependencies : MetaKind
+
+-- what the properties `optional` of a meta say
+pub data Flag : Type 0 where
+  Absent : Flag
+  Known : Bool → Flag
+  Unreadable : Flag
 
 -- a property's key and value, below a meta with an indent of its own
 unfoldable pub property_at : List ℕ → List ℕ → Option ((List ℕ × List ℕ) × List ℕ)
 property_at indent t = do
   own ← deeper indent t
-  value ← after (codes ": ") (run NotColon own.1).1
+  value ← after (codes ": ") (run is_no_colon own.1).1
   rest ← line_at value
-  Some (((run NotColon own.1).0, before_optional (13 ∷ []) rest.0), rest.1)
+  Some (((run is_no_colon own.1).0, before_optional (13 ∷ []) rest.0), rest.1)
 
 abbrev pub flag_of : List ℕ → Flag
 flag_of value =
@@ -41,7 +48,7 @@ flag_under indent t = do
 unfoldable pub meta_at : List ℕ → List ℕ → Option ((List ℕ × Flag) × List ℕ)
 meta_at indent t = do
   own ← deeper indent t
-  name ← option_or (quoted_at own.1) (Some (run NotColon own.1))
+  name ← option_or (quoted_at own.1) (Some (run is_no_colon own.1))
   colon ← after (58 ∷ []) name.1
   body ← after_line_end colon
   flag ← flag_under own.0 body
@@ -53,13 +60,12 @@ meta_kind t =
     option_or (names_kind Dependencies (after (codes "dependenciesMeta:") t))
     (names_kind PeerDependencies (after (codes "peerDependenciesMeta:") t))
 
--- a heading, and the metas below it: one or more
-unfoldable pub metas_at : List ℕ → Option ((MetaKind × List (List ℕ × Flag)) × List ℕ)
-metas_at t = do
-  indent ← some_run Blank t
-  kind ← meta_kind indent.1
+-- a heading with an indent, and the metas below it: one or more
+unfoldable pub metas_at : List ℕ → List ℕ → Option ((MetaKind × List (List ℕ × Flag)) × List ℕ)
+metas_at indent t = do
+  kind ← meta_kind t
   body ← after_line_end kind.1
-  found ← some (meta_at indent.0) body
+  found ← some (meta_at indent) body
   Some ((kind.0, found.0), found.1)
 
 abbrev pub known : Flag → Option Bool

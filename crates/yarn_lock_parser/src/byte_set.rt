@@ -1,7 +1,7 @@
 // The sets of bytes that the parts of a lock file are runs of.
 ghost use Rattle.std.specs.Prelude.{◌≡◌};
-ghost use Rattle.yarn_lock_parser.specs.declared.byte_set.ByteSet.TheVariants.{Version};
-ghost use Rattle.yarn_lock_parser.specs.ByteSet.{has};
+ghost use Rattle.yarn_lock_parser.specs.ByteSet.{is_version_byte};
+ghost use Rattle.yarn_lock_parser.specs.Given.{has};
 
 /// A set of bytes. A byte of a character beyond ASCII is in the set exactly where all such bytes are.
 #[derive(Clone, Copy)]
@@ -10,10 +10,7 @@ pub(crate) enum ByteSet {
     WhiteSpace,
     Digit,
     Version,
-    Quote,
-    NotLineFeed,
     NotLineEnd,
-    NotQuote,
     NotColon,
     NotAt,
     Descriptor,
@@ -30,10 +27,7 @@ impl ByteSet {
             ByteSet::WhiteSpace => byte == b' ' || byte == b'\t' || byte == b'\r' || byte == b'\n',
             ByteSet::Digit => byte.is_ascii_digit(),
             ByteSet::Version => is_version_byte(byte),
-            ByteSet::Quote => byte == b'"',
-            ByteSet::NotLineFeed => byte != b'\n',
             ByteSet::NotLineEnd => byte != b'\r' && byte != b'\n',
-            ByteSet::NotQuote => byte != b'"',
             ByteSet::NotColon => byte != b':',
             ByteSet::NotAt => byte != b'@',
             ByteSet::Descriptor => byte != b',' && byte != b'"' && byte != b'\n',
@@ -44,7 +38,7 @@ impl ByteSet {
 }
 
 fn is_version_byte(byte: u8) -> bool
-    ensures { result ≡ has Version byte }
+    ensures { result ≡ is_version_byte byte }
 {
     match byte {
         b'a'..=b'z' | b'A'..=b'Z' | b'0'..=b'9' => true,

@@ -1,6 +1,7 @@
 // The dependencies that an entry lists under a heading.
 ghost use Rattle.std.specs.Prelude.{◌≡◌, IfOk, option_map};
 ghost use Rattle.yarn_lock_parser.specs.Front.{every, some};
+ghost use Rattle.yarn_lock_parser.specs.Given.{kind_said};
 ghost use Rattle.yarn_lock_parser.specs.Dependencies.{deeper, dependencies_at, dependency_at, dependency_kind, dependency_version, is_lone_return, line_rest, trimmed};
 
 use crate::byte_set::ByteSet;
@@ -16,19 +17,18 @@ pub(crate) enum DependencyKind {
     Peer,
 }
 
-/// The dependencies under a heading, and what follows them.
+/// The dependencies under a heading with an indent, and what follows them.
 #[tactic(auto, unfolding(crate::specs::Dependencies::dependencies_at, crate::specs::Front::some))]
-pub(crate) fn dependencies_at(
+pub(crate) fn dependencies_at<'a>(
     alloc: Global,
-    text: &str,
-) -> Result<Option<(DependencyKind, Vec<Pair<'_>>, &str)>, AllocError>
+    indent: &str,
+    text: &'a str,
+) -> Result<Option<(DependencyKind, Vec<Pair<'a>>, &'a str)>, AllocError>
     ensures { IfOk result (λ o.
-        option_map (λ x. ((x.0, x.1.items), x.2.now)) o ≡ dependencies_at text.now) }
+        option_map (λ x. ((kind_said x.0, x.1.items), x.2.now)) o
+        ≡ dependencies_at indent.now text.now) }
 {
-    let Some((indent, key)) = some_run(ByteSet::Blank, text) else {
-        return Ok(None);
-    };
-    let Some((kind, end)) = dependency_kind(key) else {
+    let Some((kind, end)) = dependency_kind(text) else {
         return Ok(None);
     };
     let Some(body) = after_line_end(end) else {
@@ -59,7 +59,7 @@ fn every_dependency<'a>(
 
 #[tactic(auto, unfolding(crate::specs::Dependencies::dependency_kind))]
 fn dependency_kind(text: &str) -> Option<(DependencyKind, &str)>
-    ensures { option_map (λ x. (x.0, x.1.now)) result ≡ dependency_kind text.now }
+    ensures { option_map (λ x. (kind_said x.0, x.1.now)) result ≡ dependency_kind text.now }
 {
     if let Some(rest) = after("dependencies:", text) {
         return Some((DependencyKind::Regular, rest));
@@ -134,9 +134,5 @@ fn is_lone_return(text: &str) -> bool
 fn trimmed(text: &str) -> &str
     ensures { result.now ≡ trimmed text.now }
 {
-    let (_, mut rest) = run(ByteSet::Quote, text);
-    while let Some(shorter) = before("\"", rest) {
-        rest = shorter;
-    }
-    rest
+    text.trim_start_matches('"').trim_end_matches('"')
 }

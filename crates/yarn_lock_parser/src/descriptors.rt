@@ -1,21 +1,41 @@
 // The descriptors on an entry's first line.
 ghost use Rattle.std.specs.Prelude.{◌≡◌, ◌∷◌, [], IfOk, option_map, List, ℕ};
 ghost use Rattle.yarn_lock_parser.specs.Front.{every};
+ghost use Rattle.yarn_lock_parser.specs.Packed.{listed};
 ghost use Rattle.yarn_lock_parser.specs.Descriptors.{before_colon, descriptor_at, descriptors_at, descriptors_on, each_parted, next_descriptor, parted, put_before};
 
 use crate::byte_set::ByteSet;
 use crate::front::{after, after_optional, before, front, line_at, run, some_run};
 use crate::pair::Pair;
 use std::alloc::{AllocError, Global};
+use std::slice;
+
+/// The descriptors of an entry. Most entries have one, which takes no memory beside the entry's own.
+#[derive(Drop)]
+pub(crate) enum Descriptors<'a> {
+    One(Pair<'a>),
+    Several(Vec<Pair<'a>>),
+}
+
+impl<'a> Descriptors<'a> {
+    pub(crate) fn as_slice(&self) -> &[Pair<'a>]
+        ensures { result.now ≡ listed self.now }
+    {
+        match self {
+            Descriptors::One(pair) => slice::from_ref(pair),
+            Descriptors::Several(pairs) => pairs.as_slice(),
+        }
+    }
+}
 
 /// The descriptors of the first line, and what follows the line.
 #[tactic(auto, unfolding(crate::specs::Descriptors::descriptors_at))]
 pub(crate) fn descriptors_at(
     alloc: Global,
     text: &str,
-) -> Result<Option<(Vec<Pair<'_>>, &str)>, AllocError>
+) -> Result<Option<(Descriptors<'_>, &str)>, AllocError>
     ensures { IfOk result (λ o.
-        option_map (λ x. (x.0.items, x.1.now)) o ≡ descriptors_at text.now) }
+        option_map (λ x. (listed x.0, x.1.now)) o ≡ descriptors_at text.now) }
 {
     let Some((line, rest)) = line_at(text) else {
         return Ok(None);
@@ -40,8 +60,8 @@ fn before_colon(line: &str) -> Option<&str>
 }
 
 #[tactic(auto, unfolding(crate::specs::Descriptors::descriptors_on))]
-fn descriptors_on(alloc: Global, list: &str) -> Result<Option<Vec<Pair<'_>>>, AllocError>
-    ensures { IfOk result (λ o. option_map (λ v. v.items) o ≡ descriptors_on list.now) }
+fn descriptors_on(alloc: Global, list: &str) -> Result<Option<Descriptors<'_>>, AllocError>
+    ensures { IfOk result (λ o. option_map listed o ≡ descriptors_on list.now) }
 {
     let Some((first, rest)) = descriptor_at(list) else {
         return Ok(None);
@@ -54,6 +74,21 @@ fn descriptors_on(alloc: Global, list: &str) -> Result<Option<Vec<Pair<'_>>>, Al
 
 // A first descriptor and those that follow it.
 fn with_further<'a>(
+    alloc: Global,
+    first: Pair<'a>,
+    list: &'a str,
+) -> Result<Option<Descriptors<'a>>, AllocError>
+    ensures { IfOk result (λ o.
+        option_map listed o
+        ≡ put_before (first.entry ∷ []) (each_parted (every next_descriptor list.now).0)) }
+{
+    match next_descriptor(list) {
+        None => Ok(Some(Descriptors::One(first))),
+        Some(_) => Ok(several(alloc, first, list)?.map(Descriptors::Several)),
+    }
+}
+
+fn several<'a>(
     alloc: Global,
     first: Pair<'a>,
     list: &'a str,

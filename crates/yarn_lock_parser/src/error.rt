@@ -41,7 +41,7 @@ pub(crate) enum EntryError {
 }
 
 impl EntryError {
-    ghost use Rattle.yarn_lock_parser.specs.Lock.{error_at};
+    ghost use Rattle.yarn_lock_parser.specs.Reader.{error_at};
 
     /// The error of a lock file with the entry at a place.
     pub(crate) fn at(self, place: usize) -> YarnLockError
@@ -60,6 +60,16 @@ impl From<AllocError> for EntryError {
     ghost from_gives = { λ _ e. e ≡ NoMemory };
 
     fn from(_: AllocError) -> Self {
+        EntryError::NoMemory
+    }
+}
+
+impl<T: Drop> From<AllocFailed<T>> for EntryError {
+    ghost use Rattle.yarn_lock_parser.specs.declared.error.EntryError.TheVariants.{NoMemory};
+
+    ghost from_gives = { λ _ e. e ≡ NoMemory };
+
+    fn from(_: AllocFailed<T>) -> Self {
         EntryError::NoMemory
     }
 }

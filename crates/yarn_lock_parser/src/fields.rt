@@ -3,13 +3,15 @@ ghost use Rattle.std.specs.Prelude.{◌≡◌, IfOk};
 ghost use Rattle.std.specs.List.{fold, list_any};
 ghost use Rattle.yarn_lock_parser.specs.Front.{every};
 ghost use Rattle.yarn_lock_parser.specs.Item as specs;
-ghost use Rattle.yarn_lock_parser.specs.Item.{item_at, said};
+ghost use Rattle.yarn_lock_parser.specs.Item.{item_at};
+ghost use Rattle.yarn_lock_parser.specs.Given.{meta_kind_said};
+ghost use Rattle.yarn_lock_parser.specs.Reader.{said};
 ghost use Rattle.yarn_lock_parser.specs.Fields.{fields_of, is_unreadable, no_fields, with_item};
 
 use crate::dependencies::DependencyKind;
 use crate::item::{Item, item_at};
+use crate::lists::Lists;
 use crate::metas::{Meta, MetaKind};
-use crate::pair::Pair;
 use std::alloc::{AllocError, Global};
 use std::marker::Model;
 
@@ -19,11 +21,7 @@ pub(crate) struct Fields<'a> {
     pub(crate) version: &'a str,
     pub(crate) resolved: &'a str,
     pub(crate) integrity: &'a str,
-    pub(crate) dependencies: Vec<Pair<'a>>,
-    pub(crate) optional_dependencies: Vec<Pair<'a>>,
-    pub(crate) peer_dependencies: Vec<Pair<'a>>,
-    pub(crate) dependencies_meta: Vec<Meta<'a>>,
-    pub(crate) peer_dependencies_meta: Vec<Meta<'a>>,
+    pub(crate) lists: Lists<'a>,
     pub(crate) is_spoilt: bool,
 }
 
@@ -36,11 +34,11 @@ impl<'a> Model for Fields<'a> {
       version = f.version.now;
       resolved = f.resolved.now;
       integrity = f.integrity.now;
-      dependencies = f.dependencies.items;
-      optional_dependencies = f.optional_dependencies.items;
-      peer_dependencies = f.peer_dependencies.items;
-      dependencies_meta = f.dependencies_meta.items;
-      peer_dependencies_meta = f.peer_dependencies_meta.items;
+      dependencies = f.lists.dependencies.items;
+      optional_dependencies = f.lists.optional_dependencies.items;
+      peer_dependencies = f.lists.peer_dependencies.items;
+      dependencies_meta = f.lists.dependencies_meta.items;
+      peer_dependencies_meta = f.lists.peer_dependencies_meta.items;
       is_spoilt = f.is_spoilt;
     } };
 }
@@ -53,11 +51,7 @@ impl<'a> Fields<'a> {
             version: "",
             resolved: "",
             integrity: "",
-            dependencies: Vec::new(alloc),
-            optional_dependencies: Vec::new(alloc),
-            peer_dependencies: Vec::new(alloc),
-            dependencies_meta: Vec::new(alloc),
-            peer_dependencies_meta: Vec::new(alloc),
+            lists: Lists::new(alloc),
             is_spoilt: false,
         }
     }
@@ -70,23 +64,24 @@ impl<'a> Fields<'a> {
             Item::Version(version) => self.version = version,
             Item::Integrity(integrity) => self.integrity = integrity,
             Item::Resolved(resolved) => self.resolved = resolved,
-            Item::Dependencies(DependencyKind::Regular, found) => self.dependencies = found,
-            Item::Dependencies(DependencyKind::Optional, found) => self.optional_dependencies =
-                found,
-            Item::Dependencies(DependencyKind::Peer, found) => self.peer_dependencies = found,
+            Item::Dependencies(DependencyKind::Regular, found) => self.lists.dependencies = found,
+            Item::Dependencies(DependencyKind::Optional, found) => {
+                self.lists.optional_dependencies = found;
+            }
+            Item::Dependencies(DependencyKind::Peer, found) => self.lists.peer_dependencies = found,
             Item::Metas(kind, found) => self.put_metas(kind, found),
             Item::Other => {}
         }
     }
 
     fn put_metas(&mut self, kind: MetaKind, found: Vec<Meta<'a>>)
-        ensures { self.new ≡ with_item self.old (specs.Metas kind found.entry.items) }
+        ensures { self.new ≡ with_item self.old (specs.Metas (meta_kind_said kind) found.entry.items) }
     {
         let is_spoilt = is_any_unreadable(found.as_slice());
         self.is_spoilt = self.is_spoilt || is_spoilt;
         match kind {
-            MetaKind::Dependencies => self.dependencies_meta = found,
-            MetaKind::PeerDependencies => self.peer_dependencies_meta = found,
+            MetaKind::Dependencies => self.lists.dependencies_meta = found,
+            MetaKind::PeerDependencies => self.lists.peer_dependencies_meta = found,
         }
     }
 }

@@ -1,7 +1,7 @@
 // What a text's front is, and what follows it.
 ghost use Rattle.std.specs.Prelude.{◌≡◌, option_map};
 ghost use Rattle.std.specs.List.{prefix_len};
-ghost use Rattle.yarn_lock_parser.specs.ByteSet.{has};
+ghost use Rattle.yarn_lock_parser.specs.Given.{has};
 ghost use Rattle.sugar_path.specs.Front.{after};
 ghost use Rattle.yarn_lock_parser.specs.Front.{after_optional, after_blanks, after_line_end, before, before_optional, front, IsRest, line_at, quoted_at, run, some_run};
 
@@ -38,7 +38,7 @@ pub(crate) fn before_optional<'a>(word: &str, text: &'a str) -> &'a str
 /// The longest run of a set's bytes at the front, and what follows it.
 #[tactic(auto, unfolding(crate::specs::Front::run))]
 pub(crate) fn run<'a>(set: ByteSet, text: &'a str) -> (&'a str, &'a str)
-    ensures { (result.0.now, result.1.now) ≡ run set text.now }
+    ensures { (result.0.now, result.1.now) ≡ run (has set) text.now }
 {
     text.split_at(run_len(set, text))
 }
@@ -52,7 +52,7 @@ fn run_len(set: ByteSet, text: &str) -> usize
 /// The longest run of a set's bytes at the front, where it isn't empty, and what follows it.
 #[tactic(auto, unfolding(crate::specs::Front::some_run))]
 pub(crate) fn some_run<'a>(set: ByteSet, text: &'a str) -> Option<(&'a str, &'a str)>
-    ensures { option_map (λ x. (x.0.now, x.1.now)) result ≡ some_run set text.now }
+    ensures { option_map (λ x. (x.0.now, x.1.now)) result ≡ some_run (has set) text.now }
 {
     let (front, rest) = run(set, text);
     if front.is_empty() {
@@ -82,23 +82,18 @@ pub(crate) fn after_line_end(text: &str) -> Option<&str>
 }
 
 /// A line, without its line feed, and what follows the line feed.
-#[tactic(auto, unfolding(crate::specs::Front::line_at))]
 pub(crate) fn line_at(text: &str) -> Option<(&str, &str)>
     ensures { option_map (λ x. (x.0.now, x.1.now)) result ≡ line_at text.now }
 {
-    let (line, end) = run(ByteSet::NotLineFeed, text);
-    let rest = after("\n", end)?;
-    Some((line, rest))
+    text.split_once('\n')
 }
 
 /// What stands between a quote at the front and the next quote, and what follows that one.
-#[tactic(auto, unfolding(crate::specs::Front::quoted_at))]
 pub(crate) fn quoted_at(text: &str) -> Option<(&str, &str)>
     ensures { option_map (λ x. (x.0.now, x.1.now)) result ≡ quoted_at text.now }
 {
-    let (inner, end) = run(ByteSet::NotQuote, after("\"", text)?);
-    let rest = after("\"", end)?;
-    Some((inner, rest))
+    let inner = after("\"", text)?;
+    inner.split_once('"')
 }
 
 /// The front of a text, up to a rest of it.

@@ -4,6 +4,7 @@ ghost use Rattle.yarn_lock_parser.specs.Header.{after_bun_line, header_at};
 
 use crate::byte_set::ByteSet;
 use crate::front::{after, line_at, run};
+use std::marker::Model;
 
 /// The program that wrote a lock file.
 #[derive(Clone, Copy, Debug, PartialEq, Eq)]
@@ -16,6 +17,17 @@ pub enum Generator {
 pub(crate) struct Header {
     pub(crate) generator: Generator,
     pub(crate) is_first_version: bool,
+}
+
+impl Model for Header {
+    ghost use Rattle.yarn_lock_parser.specs.Header as specs;
+
+    ghost Value = { specs.Header };
+
+    ghost view = { λ h. record {
+      generator = h.generator;
+      is_first_version = h.is_first_version;
+    } };
 }
 
 /// The header, and what follows it and any white space.

@@ -1,6 +1,8 @@
-// The lines of an entry that say one thing: its version, where it was found, and what its files hash to.
-ghost use Rattle.std.specs.Prelude.{◌≡◌, option_map};
-ghost use Rattle.yarn_lock_parser.specs.Items.{at_key, at_value, integrity_at, resolved_at, version_at};
+// The lines of an entry that say one thing: its version, where it was found, and what its files hash to. Each is read from
+// behind the blanks that it begins with.
+ghost use Rattle.std.specs.Prelude.{◌≡◌, ◌∷◌, [], option_map};
+ghost use Rattle.yarn_lock_parser.specs.Front.{after_optional};
+ghost use Rattle.yarn_lock_parser.specs.Items.{at_value, integrity_at, resolved_at, version_at};
 
 use crate::byte_set::ByteSet;
 use crate::front::{after, after_blanks, after_line_end, after_optional, run, some_run};
@@ -10,7 +12,7 @@ use crate::front::{after, after_blanks, after_line_end, after_optional, run, som
 pub(crate) fn version_at(text: &str) -> Option<(&str, &str)>
     ensures { option_map (λ x. (x.0.now, x.1.now)) result ≡ version_at text.now }
 {
-    let value = at_value(after("version", at_key(text)?)?)?;
+    let value = at_value(after("version", at_key(text))?)?;
     let (version, end) = run(ByteSet::Version, after_optional("\"", value));
     let rest = after_line_end(after_optional("\"", end))?;
     Some((version, rest))
@@ -21,7 +23,7 @@ pub(crate) fn version_at(text: &str) -> Option<(&str, &str)>
 pub(crate) fn integrity_at(text: &str) -> Option<(&str, &str)>
     ensures { option_map (λ x. (x.0.now, x.1.now)) result ≡ integrity_at text.now }
 {
-    let key = at_key(text)?;
+    let key = at_key(text);
     let end = after("checksum", key).or(after("integrity", key))?;
     let value = at_value(end)?;
     Some(run(ByteSet::Unquoted, after_optional("\"", value)))
@@ -32,7 +34,7 @@ pub(crate) fn integrity_at(text: &str) -> Option<(&str, &str)>
 pub(crate) fn resolved_at(text: &str) -> Option<(&str, &str)>
     ensures { option_map (λ x. (x.0.now, x.1.now)) result ≡ resolved_at text.now }
 {
-    let key = at_key(text)?;
+    let key = at_key(text);
     let end = after("resolved", key).or(after("resolution", key))?;
     let quote = after("\"", at_value(end)?)?;
     let (resolved, end) = some_run(ByteSet::Unquoted, quote)?;
@@ -40,12 +42,11 @@ pub(crate) fn resolved_at(text: &str) -> Option<(&str, &str)>
     Some((resolved, rest))
 }
 
-// What follows the blanks before a key, and a quote that may open it.
-fn at_key(text: &str) -> Option<&str>
-    ensures { option_map (λ t. t.now) result ≡ at_key text.now }
+// What follows a quote that may open a key.
+fn at_key(text: &str) -> &str
+    ensures { result.now ≡ after_optional (34 ∷ []) text.now }
 {
-    let key = after_blanks(text)?;
-    Some(after_optional("\"", key))
+    after_optional("\"", text)
 }
 
 // What follows a quote that may close a key, a colon that may stand there, and blanks.

@@ -14,6 +14,7 @@ mod header;
 mod item;
 mod items;
 pub mod laws;
+mod lists;
 mod lockfile;
 mod metadata;
 mod metas;

@@ -1,5 +1,5 @@
 // A whole lock file.
-ghost use Rattle.std.specs.Prelude.{◌≡◌, Ok, IfOk, IfErr, option_map};
+ghost use Rattle.std.specs.Prelude.{◌≡◌, Ok, IfOk, IfErr, length, option_map};
 ghost use Rattle.yarn_lock_parser.specs.Front.{IsRest};
 ghost use Rattle.yarn_lock_parser.specs.Cut.{entry_texts};
 ghost use Rattle.yarn_lock_parser.specs.Lock.{entries_from, Explains, lock_of, metadata_after, place_in};
@@ -134,7 +134,7 @@ fn entries_of<'a>(
     ensures refused { IfErr result (Explains
         (entries_from (place_in content.now text.now) (entry_texts text.now))) }
 {
-    let mut found = Vec::new(alloc);
+    let mut found = Vec::with_capacity(alloc, entry_count(text))?;
     let mut rest = text;
     while let Some((one, behind)) = entry_text(rest) {
         match entry_of(alloc, one) {
@@ -147,4 +147,17 @@ fn entries_of<'a>(
         rest = behind;
     }
     Ok(found)
+}
+
+// How many entries there are: room for just as many is made, since a vector that grows takes more memory than it keeps.
+fn entry_count(text: &str) -> usize
+    ensures { result ≡ length (entry_texts text.now) }
+{
+    let mut count = 0;
+    let mut rest = text;
+    while let Some((_, behind)) = entry_text(rest) {
+        count += 1;
+        rest = behind;
+    }
+    count
 }

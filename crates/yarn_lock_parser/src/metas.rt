@@ -1,8 +1,8 @@
 // What an entry says of its dependencies under a heading.
 ghost use Rattle.std.specs.Prelude.{◌≡◌, IfOk, option_map};
 ghost use Rattle.std.specs.List.{fold};
-ghost use Rattle.yarn_lock_parser.specs.declared.metas.Flag.TheVariants.{Absent};
 ghost use Rattle.yarn_lock_parser.specs.Front.{every, some};
+ghost use Rattle.yarn_lock_parser.specs.Given.{flag_said, meta_kind_said};
 ghost use Rattle.yarn_lock_parser.specs.Metas.{flag_of, flag_under, meta_at, meta_kind, metas_at, noted, property_at};
 
 use crate::byte_set::ByteSet;
@@ -29,9 +29,10 @@ pub(crate) enum Flag {
 
 impl Flag {
     ghost use Rattle.yarn_lock_parser.specs.Metas.{known};
+    ghost use Rattle.yarn_lock_parser.specs.Given.{flag_said};
 
     pub(crate) fn known(self) -> Option<bool>
-        ensures { result ≡ known self }
+        ensures { result ≡ known (flag_said self) }
     {
         match self {
             Flag::Absent | Flag::Unreadable => None,
@@ -56,11 +57,12 @@ pub(crate) struct Meta<'a> {
 
 impl<'a> Model for Meta<'a> {
     ghost use Rattle.std.specs.Prelude.{List, ℕ};
-    ghost use Rattle.yarn_lock_parser.specs.declared.metas.Flag.{Flag};
+    ghost use Rattle.yarn_lock_parser.specs.Metas.{Flag};
+    ghost use Rattle.yarn_lock_parser.specs.Given.{flag_said};
 
     ghost Value = { List ℕ × Flag };
 
-    ghost view = { λ m. (m.name.now, m.flag) };
+    ghost view = { λ m. (m.name.now, flag_said m.flag) };
 }
 
 impl<'a> Meta<'a> {
@@ -74,19 +76,18 @@ impl<'a> Meta<'a> {
     }
 }
 
-/// The metas under a heading, and what follows them.
+/// The metas under a heading with an indent, and what follows them.
 #[tactic(auto, unfolding(crate::specs::Metas::metas_at, crate::specs::Front::some))]
-pub(crate) fn metas_at(
+pub(crate) fn metas_at<'a>(
     alloc: Global,
-    text: &str,
-) -> Result<Option<(MetaKind, Vec<Meta<'_>>, &str)>, AllocError>
+    indent: &str,
+    text: &'a str,
+) -> Result<Option<(MetaKind, Vec<Meta<'a>>, &'a str)>, AllocError>
     ensures { IfOk result (λ o.
-        option_map (λ x. ((x.0, x.1.items), x.2.now)) o ≡ metas_at text.now) }
+        option_map (λ x. ((meta_kind_said x.0, x.1.items), x.2.now)) o
+        ≡ metas_at indent.now text.now) }
 {
-    let Some((indent, key)) = some_run(ByteSet::Blank, text) else {
-        return Ok(None);
-    };
-    let Some((kind, end)) = meta_kind(key) else {
+    let Some((kind, end)) = meta_kind(text) else {
         return Ok(None);
     };
     let Some(body) = after_line_end(end) else {
@@ -117,7 +118,7 @@ fn every_meta<'a>(
 
 #[tactic(auto, unfolding(crate::specs::Metas::meta_kind))]
 fn meta_kind(text: &str) -> Option<(MetaKind, &str)>
-    ensures { option_map (λ x. (x.0, x.1.now)) result ≡ meta_kind text.now }
+    ensures { option_map (λ x. (meta_kind_said x.0, x.1.now)) result ≡ meta_kind text.now }
 {
     if let Some(rest) = after("dependenciesMeta:", text) {
         return Some((MetaKind::Dependencies, rest));
@@ -143,7 +144,8 @@ fn meta_at<'a>(indent: &str, text: &'a str) -> Option<(Meta<'a>, &'a str)>
 // What the properties under a meta say, one or more, and what follows them.
 #[tactic(auto, unfolding(crate::specs::Metas::flag_under))]
 fn flag_under<'a>(indent: &str, text: &'a str) -> Option<(Flag, &'a str)>
-    ensures { option_map (λ x. (x.0, x.1.now)) result ≡ flag_under indent.now text.now }
+    ensures { option_map (λ x. (flag_said x.0, x.1.now)) result
+        ≡ flag_under indent.now text.now }
 {
     let (key, value, rest) = property_at(indent, text)?;
     Some(further_flag(indent, noted(Flag::Absent, key, value), rest))
@@ -151,7 +153,8 @@ fn flag_under<'a>(indent: &str, text: &'a str) -> Option<(Flag, &'a str)>
 
 // What the properties say, after those that gave a flag already, and what follows them.
 fn further_flag<'a>(indent: &str, flag: Flag, text: &'a str) -> (Flag, &'a str)
-    ensures flag { result.0 ≡ fold noted flag (every (property_at indent.now) text.now).0 }
+    ensures flag { flag_said result.0
+        ≡ fold noted (flag_said flag) (every (property_at indent.now) text.now).0 }
     ensures rest { result.1.now ≡ (every (property_at indent.now) text.now).1 }
 {
     let mut flag = flag;
@@ -176,7 +179,7 @@ fn property_at<'a>(indent: &str, text: &'a str) -> Option<(&'a str, &'a str, &'a
 }
 
 fn noted(flag: Flag, key: &str, value: &str) -> Flag
-    ensures { result ≡ noted flag (key.now, value.now) }
+    ensures { flag_said result ≡ noted (flag_said flag) (key.now, value.now) }
 {
     match flag {
         Flag::Unreadable => Flag::Unreadable,
@@ -186,7 +189,7 @@ fn noted(flag: Flag, key: &str, value: &str) -> Flag
 }
 
 fn flag_of(value: &str) -> Flag
-    ensures { result ≡ flag_of value.now }
+    ensures { flag_said result ≡ flag_of value.now }
 {
     match value {
         "true" => Flag::Known(true),
@@ -229,6 +232,12 @@ impl<'e, 'a> Metas<'e, 'a> {
         ensures { result ≡ map as_meta metas.now }
     {
         Metas { metas }
+    }
+
+    pub(crate) fn none() -> Self
+        ensures { result ≡ [] }
+    {
+        Metas { metas: &[] }
     }
 
     pub fn len(&self) -> usize

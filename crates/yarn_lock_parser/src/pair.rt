@@ -41,6 +41,12 @@ impl<'e, 'a> Pairs<'e, 'a> {
         Pairs { pairs }
     }
 
+    pub(crate) fn none() -> Self
+        ensures { result ≡ [] }
+    {
+        Pairs { pairs: &[] }
+    }
+
     pub(crate) fn as_slice(&self) -> &'e [Pair<'a>]
         ensures { result.now ≡ self.now }
     {

@@ -2,7 +2,7 @@ use Rattle.std.proofs.Common.{◌≡◌, ◌∷◌, [], length}
 use denote.Text.{Utf8}
 use denote.Shadow.{shadow}
 use Rattle.yarn_lock_parser.proofs.Parted.{found_at}
-use Rattle.yarn_lock_parser.proofs.descriptors.with_further.Given as goal
+use Rattle.yarn_lock_parser.proofs.descriptors.several.Given as goal
 
 -- what is found and what is left are the whole
 abbrev pub invariant-loop-descriptor : goal.invariant-loop-descriptor
