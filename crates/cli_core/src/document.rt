@@ -42,7 +42,8 @@ pub fn report_for(alloc: Global, bytes: &[u8]) -> Result<String, DocumentError>
 
 // The tree of a document's files.
 pub(crate) fn tree_of(alloc: Global, files: &[GivenFile]) -> Result<MemoryTree, DocumentError>
-    ensures { Meets (result_map_both (λ t. t.files) (λ e. e) result) (put_files finite.empty files.now) }
+    ensures { Meets (result_map_both (λ t. t.files) (λ e. e) result)
+        (put_files finite.empty files.now) }
 {
     let mut tree = MemoryTree::new(alloc);
     for file in files {
@@ -54,7 +55,8 @@ pub(crate) fn tree_of(alloc: Global, files: &[GivenFile]) -> Result<MemoryTree, 
 // Puts one file into the tree.
 #[tactic(auto, unfolding(crate::specs::Document::put_file))]
 fn put(alloc: Global, tree: &mut MemoryTree, file: &GivenFile) -> Result<(), DocumentError>
-    ensures { Meets (result_map_both (λ _. tree.new.files) (λ e. e) result) (put_file tree.old.files file.now) }
+    ensures { Meets (result_map_both (λ _. tree.new.files) (λ e. e) result)
+        (put_file tree.old.files file.now) }
 {
     let put = tree.put(
         file.path.as_str(),
