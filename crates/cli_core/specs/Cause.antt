@@ -1,5 +1,6 @@
 -- The causes against a document, and what a call that may find one answers.
 use Rattle.std.specs.Prelude.{◌≡◌, ℕ, List, codes, Result, Ok, Err}
+pub use Rattle.sugar_path.specs.Results.{◌>>=◌}
 use Rattle.cli_core.specs.declared.cause.Field.{Field}
 use Rattle.cli_core.specs.declared.cause.Field.TheVariants.{Cwd, Target, PreserveSymlinks, NodeModules, Alias, Ts, Lock, Files, Requests}
 use Rattle.cli_core.specs.declared.cause.Cause.{Cause}
@@ -23,9 +24,3 @@ abbrev pub Meets : {A : Type 0} → Result A DocumentError → Result A Cause �
 Meets (Ok a) wanted = wanted ≡ Ok a
 Meets (Err (Refused cause)) wanted = wanted ≡ Err cause
 Meets (Err NoMemory) wanted = Unit {0}
-
--- one step behind the other: the first cause ends all
-infixl 10 ◌>>=◌
-abbrev pub ◌>>=◌ : {A B : Type 0} → Result A Cause → (A → Result B Cause) → Result B Cause
-Ok a >>= next = next a
-Err cause >>= next = Err cause

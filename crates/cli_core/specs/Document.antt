@@ -29,7 +29,8 @@ other_path (Conflict other) = Some other
 other_path NoMemory = None
 
 abbrev pub put_unless : Option PutError → Files → GivenFile → Result Files Cause
-put_unless None t file = Ok (with_file t file.path (record { content = file.content; canonical = file.canonical }))
+put_unless None t file =
+    Ok (with_file t file.path (record { content = file.content; canonical = file.canonical }))
 put_unless (Some error) t file = Err (BadTree file.path (other_path error))
 
 -- a tree with one file put in, or the cause against that file

@@ -81,7 +81,8 @@ refusal_value (Outside file location) = object
 refusal_value (NotFound text) = object
     (member (codes "kind") (string (codes "NotFound"))
     (member (codes "text") (string text) no_members))
-refusal_value BaseNotAFile = object (member (codes "kind") (string (codes "BaseNotAFile")) no_members)
+refusal_value BaseNotAFile =
+    object (member (codes "kind") (string (codes "BaseNotAFile")) no_members)
 refusal_value (MalformedPackage path) = object
     (member (codes "kind") (string (codes "MalformedPackage"))
     (member (codes "path") (string path) no_members))
@@ -89,7 +90,8 @@ refusal_value NotBuilt = object (member (codes "kind") (string (codes "NotBuilt"
 
 abbrev pub verdict_value : Verdict → Data
 verdict_value (Answered answer) = answer_value answer
-verdict_value (Refused refusal) = object (member (codes "refused") (refusal_value refusal) no_members)
+verdict_value (Refused refusal) =
+    object (member (codes "refused") (refusal_value refusal) no_members)
 
 -- the line of a verdict
 unfoldable pub verdict_line : Verdict → List ℕ

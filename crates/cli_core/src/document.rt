@@ -1,7 +1,7 @@
 // What a document asks, and the report on it.
 ghost use Rattle.std.specs.Prelude.{◌≡◌, ◌++◌, IfOk, OnErr, string_bytes};
 ghost use Rattle.std.specs.FinMap as finite;
-ghost use Rattle.json_reading.specs.Bytes.{answer_seen};
+ghost use Rattle.std.specs.Result.{result_map_both};
 ghost use Rattle.cli_core.specs.Cause.{Meets};
 ghost use Rattle.cli_core.specs.Document.{lines_of, project_of, put_file, put_files, report, verdict_on};
 ghost use Rattle.cli_core.specs.Report.{verdict_line};
@@ -18,7 +18,7 @@ use tree_core::{MemoryTree, PutError};
 /// The report on a document's bytes: the lines of the verdicts on its requests, in order; or the first cause against it.
 #[tactic(auto, unfolding(crate::specs::Document::report, crate::specs::Document::document))]
 pub fn report_for(alloc: Global, bytes: &[u8]) -> Result<String, DocumentError>
-    ensures { Meets (answer_seen string_bytes result) (report bytes.now) }
+    ensures { Meets (result_map_both string_bytes (λ e. e) result) (report bytes.now) }
 {
     let value = read_json(alloc, bytes)?;
     let Document {
@@ -44,7 +44,8 @@ pub fn report_for(alloc: Global, bytes: &[u8]) -> Result<String, DocumentError>
 
 // The tree of a document's files.
 pub(crate) fn tree_of(alloc: Global, files: &[GivenFile]) -> Result<MemoryTree, DocumentError>
-    ensures { Meets (answer_seen (λ t. t.files) result) (put_files finite.empty files.now) }
+    ensures { Meets (result_map_both (λ t. t.files) (λ e. e) result)
+        (put_files finite.empty files.now) }
 {
     let mut tree = MemoryTree::new(alloc);
     for file in files {
@@ -56,7 +57,8 @@ pub(crate) fn tree_of(alloc: Global, files: &[GivenFile]) -> Result<MemoryTree, 
 // Puts one file into the tree.
 #[tactic(auto, unfolding(crate::specs::Document::put_file))]
 fn put(alloc: Global, tree: &mut MemoryTree, file: &GivenFile) -> Result<(), DocumentError>
-    ensures { Meets (answer_seen (λ _. tree.new.files) result) (put_file tree.old.files file.now) }
+    ensures { Meets (result_map_both (λ _. tree.new.files) (λ e. e) result)
+        (put_file tree.old.files file.now) }
 {
     let put = tree.put(
         file.path.as_str(),

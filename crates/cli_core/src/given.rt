@@ -95,7 +95,8 @@ fn is_lower_hex_digit(c: u8) -> bool
 
 // A text, or a copy of what stands for one that is missing.
 fn text_or_copy(alloc: Global, value: Option<&Value>, absent: &Text) -> Result<Text, FromJsonError>
-    ensures { ReadsAs result (present_or absent.now as_str (option_map (λ v. view v.now) value.entry)) }
+    ensures { ReadsAs result
+        (present_or absent.now as_str (option_map (λ v. view v.now) value.entry)) }
 {
     match value {
         None => Ok(absent.try_clone(alloc)?),

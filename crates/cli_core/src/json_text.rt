@@ -1,6 +1,6 @@
 // Reads a document's bytes as JSON.
+ghost use Rattle.std.specs.Result.{result_map_both};
 ghost use Rattle.serde_json.specs.View.{view};
-ghost use Rattle.json_reading.specs.Bytes.{answer_seen};
 ghost use Rattle.cli_core.specs.Cause.{Meets};
 ghost use Rattle.cli_core.specs.Json.{json_value};
 
@@ -11,7 +11,7 @@ use std::alloc::Global;
 
 /// The value of bytes that are UTF-8 and read as JSON of at most 127 levels.
 pub fn read_json(alloc: Global, bytes: &[u8]) -> Result<Value, DocumentError>
-    ensures { Meets (answer_seen view result) (json_value bytes.now) }
+    ensures { Meets (result_map_both view (λ e. e) result) (json_value bytes.now) }
 {
     match json_reading::read_json(alloc, bytes) {
         Ok(value) => Ok(value),

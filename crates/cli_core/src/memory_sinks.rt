@@ -1,5 +1,5 @@
 // Sinks in memory.
-ghost use Rattle.std.specs.Prelude.{◌≡◌, ◌-◌, ◌≤◌, ◌++◌, [], Some, cond, min, IfOk, OnErr, is_err, length, take};
+ghost use Rattle.std.specs.Prelude.{◌≡◌, ◌-◌, ◌≤◌, ◌++◌, [], Some, if◌then◌else◌, min, IfOk, OnErr, is_err, length, take};
 ghost use Rattle.cli_core.specs.Streams.{Appends, CountsFault, is_fault_of_sink};
 ghost use Rattle.cli_core.specs.MemoryStreams.{is_listed};
 ghost use Rattle.tree_core.specs.Tree.{one_more};
@@ -24,7 +24,8 @@ impl Model for Room {
 
     ghost view = { λ r. record { written = r.written.items; room = r.room } };
 
-    ghost invariant = { λ r. (length r.written.items ≤ r.room) × (r.room ≤ vec_capacity r.written) };
+    ghost invariant = { λ r.
+        (length r.written.items ≤ r.room) × (r.room ≤ vec_capacity r.written) };
 }
 
 impl Room {
@@ -38,7 +39,8 @@ impl Room {
     // Appends as many of the first bytes of the piece as there is room for, and tells how many.
     fn append(&mut self, piece: &[u8]) -> usize
         ensures count { result ≡ min (length piece.now) (self.old.room - length self.old.written) }
-        ensures after { self.new ≡ record self.old { written = self.old.written ++ take result piece.now } }
+        ensures after { self.new
+            ≡ record self.old { written = self.old.written ++ take result piece.now } }
     {
         let n = piece.len().min(self.room - self.written.len());
         self.written.extend_from_slice(&piece[..n]).unwrap();
@@ -64,7 +66,8 @@ impl Model for PlainSink {
 
     ghost Value = { CountingRoom };
 
-    ghost view = { λ s. record { written = s.room.written; room = s.room.room; faults = s.faults } };
+    ghost view = { λ s.
+        record { written = s.room.written; room = s.room.room; faults = s.faults } };
 }
 
 impl PlainSink {
@@ -94,17 +97,22 @@ impl Sink for PlainSink {
     ghost faults = { λ s. s.faults };
 
     fn write(&mut self, piece: &[u8]) -> Result<usize, SinkFault>
-        ensures fills { result ≡ Ok (min (length piece.now) (self.old.room - length self.old.written)) }
+        ensures fills { result
+            ≡ Ok (min (length piece.now) (self.old.room - length self.old.written)) }
         ensures after { IfOk result (λ n. self.new ≡ record self.old {
           written = self.old.written ++ take n piece.now;
-          faults = cond (is_fault_of_sink piece.now result) (one_more self.old.faults) self.old.faults;
+          faults =
+              if is_fault_of_sink piece.now result then one_more self.old.faults
+              else self.old.faults;
         }) }
 
         // What every sink owes.
         ensures bound { IfOk result (λ n. n ≤ length piece.now) }
-        ensures appended { IfOk result (λ n. Appends (take n piece.now) (Some self.old.written) (Some self.new.written)) }
+        ensures appended { IfOk result (λ n.
+            Appends (take n piece.now) (Some self.old.written) (Some self.new.written)) }
         ensures kept { OnErr result (self.new.written ≡ self.old.written) }
-        ensures counted { CountsFault (is_fault_of_sink piece.now result) self.old.faults self.new.faults }
+        ensures counted { CountsFault (is_fault_of_sink piece.now result)
+            self.old.faults self.new.faults }
     {
         let n = self.room.append(piece);
         if n == 0 && !piece.is_empty() {
@@ -128,13 +136,20 @@ impl Model for BytesSink {
 
     ghost Value = { FailingRoom };
 
-    ghost view = { λ s. record { written = s.room.written; room = s.room.room; fail_at = s.fail_at; calls = s.calls; faults = s.faults } };
+    ghost view = { λ s. record {
+      written = s.room.written;
+      room = s.room.room;
+      fail_at = s.fail_at;
+      calls = s.calls;
+      faults = s.faults;
+    } };
 }
 
 impl BytesSink {
     /// Takes the whole room at once.
     pub fn new(alloc: Global, room: usize, fail_at: List<u64>) -> Result<BytesSink, AllocError>
-        ensures { IfOk result (λ s. s ≡ record { written = []; room = room; fail_at = fail_at; calls = 0; faults = 0 }) }
+        ensures { IfOk result (λ s.
+            s ≡ record { written = []; room = room; fail_at = fail_at; calls = 0; faults = 0 }) }
     {
         Ok(BytesSink {
             room: Room::new(alloc, room)?,
@@ -166,18 +181,23 @@ impl Sink for BytesSink {
           calls = one_more self.old.calls;
           faults = one_more self.old.faults;
         }) }
-        ensures fills { IfOk result (λ n. n ≡ min (length piece.now) (self.old.room - length self.old.written)) }
+        ensures fills { IfOk result (λ n.
+            n ≡ min (length piece.now) (self.old.room - length self.old.written)) }
         ensures after { IfOk result (λ n. self.new ≡ record self.old {
           written = self.old.written ++ take n piece.now;
           calls = one_more self.old.calls;
-          faults = cond (is_fault_of_sink piece.now result) (one_more self.old.faults) self.old.faults;
+          faults =
+              if is_fault_of_sink piece.now result then one_more self.old.faults
+              else self.old.faults;
         }) }
 
         // What every sink owes.
         ensures bound { IfOk result (λ n. n ≤ length piece.now) }
-        ensures appended { IfOk result (λ n. Appends (take n piece.now) (Some self.old.written) (Some self.new.written)) }
+        ensures appended { IfOk result (λ n.
+            Appends (take n piece.now) (Some self.old.written) (Some self.new.written)) }
         ensures kept { OnErr result (self.new.written ≡ self.old.written) }
-        ensures counted { CountsFault (is_fault_of_sink piece.now result) self.old.faults self.new.faults }
+        ensures counted { CountsFault (is_fault_of_sink piece.now result)
+            self.old.faults self.new.faults }
     {
         self.calls = self.calls.saturating_add(1);
         if self.fail_at.as_slice().contains(&self.calls) {

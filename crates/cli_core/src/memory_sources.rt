@@ -86,7 +86,8 @@ impl Source for PlainSource {
 
         // What every source owes.
         ensures bound { IfOk result (λ n. n ≤ length buffer.new) }
-        ensures taken { IfOk result (λ n. ForSome (Some self.old) (λ bytes. Takes n buffer.new bytes (Some self.new))) }
+        ensures taken { IfOk result (λ n. ForSome (Some self.old) (λ bytes.
+            Takes n buffer.new bytes (Some self.new))) }
         ensures kept { OnErr result (self.new ≡ self.old) }
         ensures counted { CountsFault (is_err result) 0 0 }
     {
@@ -108,7 +109,8 @@ impl Model for BytesSource {
 
     ghost Value = { FailingReads };
 
-    ghost view = { λ s. record { left = s.rest; fail_at = s.fail_at; calls = s.calls; faults = s.faults } };
+    ghost view = { λ s.
+        record { left = s.rest; fail_at = s.fail_at; calls = s.calls; faults = s.faults } };
 }
 
 impl BytesSource {
@@ -148,7 +150,8 @@ impl Source for BytesSource {
 
         // What every source owes.
         ensures bound { IfOk result (λ n. n ≤ length buffer.new) }
-        ensures taken { IfOk result (λ n. ForSome (Some self.old.left) (λ bytes. Takes n buffer.new bytes (Some self.new.left))) }
+        ensures taken { IfOk result (λ n. ForSome (Some self.old.left) (λ bytes.
+            Takes n buffer.new bytes (Some self.new.left))) }
         ensures kept { OnErr result (self.new.left ≡ self.old.left) }
         ensures counted { CountsFault (is_err result) self.old.faults self.new.faults }
     {

@@ -59,7 +59,8 @@ pub fn read_all<S: Source>(alloc: Global, source: &mut S) -> Result<Vec<u8>, Rea
         LeavesEnd LONGEST bytes (S.left source.new)) }
     ensures end { ForSome (S.left source.old) (λ bytes.
         LeavesEnd (LONGEST + CHUNK) bytes (S.left source.new)) }
-    ensures counted { CountsFault (is_read_fault result) (S.faults source.old) (S.faults source.new) }
+    ensures counted { CountsFault (is_read_fault result)
+        (S.faults source.old) (S.faults source.new) }
 {
     let mut all = Vec::new(alloc);
     let mut buffer = [0u8; CHUNK];

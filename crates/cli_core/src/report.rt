@@ -123,7 +123,8 @@ fn value_of_undeclared(
     alloc: Global,
     undeclared: &UndeclaredDependency,
 ) -> Result<Value, AllocError>
-    ensures { IfOk result (λ value. view value ≡ refusal_value (refusal.UndeclaredDependency undeclared.now)) }
+    ensures { IfOk result (λ value.
+        view value ≡ refusal_value (refusal.UndeclaredDependency undeclared.now)) }
 {
     let issuer = value_of_issuer(alloc, &undeclared.issuer_locator)?;
     json!(in alloc; {

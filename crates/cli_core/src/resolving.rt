@@ -27,7 +27,8 @@ pub(crate) fn resolve<S: Source, K: Sink>(alloc: Global, source: &mut S, sink: &
         Finishes bytes text (S.left source.new) (K.written sink.old) (K.written sink.new))) }
     ensures refused { result ≡ Status.Refused → ForSome (S.left source.old) (λ bytes.
         IsErrAnd (report bytes) (λ cause.
-        Finishes bytes (cause_line cause) (S.left source.new) (K.written sink.old) (K.written sink.new))) }
+        Finishes bytes (cause_line cause)
+        (S.left source.new) (K.written sink.old) (K.written sink.new))) }
     ensures command { result ≢ Status.Usage }
     ensures too_long { result ≡ Status.TooLong → ForSome (S.left source.old) (λ bytes.
         LONGEST < length bytes) }
@@ -37,7 +38,8 @@ pub(crate) fn resolve<S: Source, K: Sink>(alloc: Global, source: &mut S, sink: &
     ensures no_tree_fault { result ≢ Status.TreeFault }
 
     // Each fault has its cause, and none is passed over.
-    ensures source_faults { CountsFault (is_of_source result) (S.faults source.old) (S.faults source.new) }
+    ensures source_faults { CountsFault (is_of_source result)
+        (S.faults source.old) (S.faults source.new) }
     ensures sink_faults { CountsFault (is_of_sink result) (K.faults sink.old) (K.faults sink.new) }
 
     // Without a fault a document that nothing is against is answered, or no memory was found.

@@ -27,28 +27,32 @@ pub fn run<S: Source, K: Sink, T: Tree>(
     sink: &mut K,
     disk: &mut T,
 ) -> Status
-    // How each status comes.
-    ensures done { result ≡ Status.Done → ForSome (S.left source.old) (λ bytes.
-        IsOkAnd (report bytes) (λ text.
-        Finishes bytes text (S.left source.new) (K.written sink.old) (K.written sink.new))) }
-    ensures refused { result ≡ Status.Refused → ForSome (S.left source.old) (λ bytes.
-        IsErrAnd (report bytes) (λ cause.
-        Finishes bytes (cause_line cause) (S.left source.new) (K.written sink.old) (K.written sink.new))) }
+    // Words that are no command, and the status that no command has yet.
     ensures usage { (result ≡ Status.Usage) ↔ (asked words.now ≡ None) }
-    ensures too_long { result ≡ Status.TooLong → ForSome (S.left source.old) (λ bytes.
-        LONGEST < length bytes) }
-    ensures cut { result ≡ Status.WriteFault → ForSome (S.left source.old) (λ bytes.
-        ReadsAll bytes (S.left source.new)
-        × AppendsFront ((reply_for bytes).1) (K.written sink.old) (K.written sink.new)) }
     ensures no_tree_fault { result ≢ Status.TreeFault }
 
+    // How the other statuses come, command by command.
+    ensures done { asked words.now ≡ Some Command.Resolve → result ≡ Status.Done
+        → ForSome (S.left source.old) (λ bytes. IsOkAnd (report bytes) (λ text.
+        Finishes bytes text (S.left source.new) (K.written sink.old) (K.written sink.new))) }
+    ensures refused { asked words.now ≡ Some Command.Resolve → result ≡ Status.Refused
+        → ForSome (S.left source.old) (λ bytes. IsErrAnd (report bytes) (λ cause.
+        Finishes bytes (cause_line cause)
+        (S.left source.new) (K.written sink.old) (K.written sink.new))) }
+    ensures too_long { asked words.now ≡ Some Command.Resolve → result ≡ Status.TooLong
+        → ForSome (S.left source.old) (λ bytes. LONGEST < length bytes) }
+    ensures cut { asked words.now ≡ Some Command.Resolve → result ≡ Status.WriteFault
+        → ForSome (S.left source.old) (λ bytes. ReadsAll bytes (S.left source.new)
+        × AppendsFront ((reply_for bytes).1) (K.written sink.old) (K.written sink.new)) }
+
     // Each fault has its cause, and none is passed over.
-    ensures source_faults { CountsFault (is_of_source result) (S.faults source.old) (S.faults source.new) }
+    ensures source_faults { CountsFault (is_of_source result)
+        (S.faults source.old) (S.faults source.new) }
     ensures sink_faults { CountsFault (is_of_sink result) (K.faults sink.old) (K.faults sink.new) }
 
     // Without a fault a document that nothing is against is answered, or no memory was found.
-    ensures complete { asked words.now ≡ Some Command.Resolve → ForSome (S.left source.old) (λ bytes.
-        length bytes ≤ LONGEST → IsOk (report bytes)
+    ensures complete { asked words.now ≡ Some Command.Resolve
+        → ForSome (S.left source.old) (λ bytes. length bytes ≤ LONGEST → IsOk (report bytes)
         → IsSteady (S.faults source.old) (S.faults source.new)
         → IsSteady (K.faults sink.old) (K.faults sink.new)
         → (result ≡ Status.Done) ⊎ (result ≡ Status.NoMemory)) }

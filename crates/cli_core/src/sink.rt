@@ -17,7 +17,9 @@ pub trait Sink {
     /// Writes the first bytes of a piece, and tells how many.
     fn write(&mut self, piece: &[u8]) -> Result<usize, SinkFault>
         ensures bound { IfOk result (λ n. n ≤ length piece.now) }
-        ensures appended { IfOk result (λ n. Appends (take n piece.now) (written self.old) (written self.new)) }
+        ensures appended { IfOk result (λ n.
+            Appends (take n piece.now) (written self.old) (written self.new)) }
         ensures kept { OnErr result (written self.new ≡ written self.old) }
-        ensures counted { CountsFault (is_fault_of_sink piece.now result) (faults self.old) (faults self.new) };
+        ensures counted { CountsFault (is_fault_of_sink piece.now result)
+            (faults self.old) (faults self.new) };
 }

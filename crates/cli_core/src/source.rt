@@ -18,7 +18,8 @@ pub trait Source {
     /// Puts the next bytes at the front of the buffer, and tells how many. None for a buffer that isn't empty means the end.
     fn read(&mut self, buffer: &mut [u8]) -> Result<usize, SourceFault>
         ensures bound { IfOk result (λ n. n ≤ length buffer.new) }
-        ensures taken { IfOk result (λ n. ForSome (left self.old) (λ bytes. Takes n buffer.new bytes (left self.new))) }
+        ensures taken { IfOk result (λ n. ForSome (left self.old) (λ bytes.
+            Takes n buffer.new bytes (left self.new))) }
         ensures kept { OnErr result (left self.new ≡ left self.old) }
         ensures counted { CountsFault (is_err result) (faults self.old) (faults self.new) };
 }

@@ -137,7 +137,7 @@ static PATHS: [(&'static str, &'static str); 16] = [
         "/`abcdefghijklmnopqrstuvwxyz{|}~\x7f",
         "file:///%60abcdefghijklmnopqrstuvwxyz%7B%7C%7D~%7F",
     ),
-    // Each byte from 80 to BF behind C2, and then each other lead byte, C3 to F4.
+    // Each byte from 128 to 191 behind the lead byte 194, and then each other lead byte, up to 244.
     (
         "/\u{80}\u{81}\u{82}\u{83}\u{84}\u{85}\u{86}\u{87}\u{88}\u{89}\u{8a}\u{8b}\u{8c}\u{8d}\u{8e}\u{8f}",
         "file:///%C2%80%C2%81%C2%82%C2%83%C2%84%C2%85%C2%86%C2%87%C2%88%C2%89%C2%8A%C2%8B%C2%8C%C2%8D%C2%8E%C2%8F",

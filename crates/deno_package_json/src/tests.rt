@@ -190,7 +190,7 @@ fn is_absolute(path: &str) -> bool
     }
 }
 
-// The table has each byte that a text can hold. C0, C1 and F5 to FF are in no character's UTF-8.
+// The table has each byte that a text can hold. The bytes 192, 193 and above 244 are in no character's UTF-8.
 #[test]
 fn bytes_of_a_path_are_escaped(rt: HostRuntime) -> Result<(), Fail> {
     for (path, url) in paths() {

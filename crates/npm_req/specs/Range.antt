@@ -1,6 +1,7 @@
 -- Ranges: alternatives between `||`, each empty, two partial versions around `-`, or parts between spaces.
 use Rattle.std.specs.Prelude.{ℕ, zero, suc, if◌then◌else◌, List, [], ◌∷◌, ◌++◌, length, Option, Some, None, option_and_then, option_map, Result, Ok, Err, codes}
 use Rattle.sugar_path.specs.Front.{after}
+pub use Rattle.sugar_path.specs.Results.{◌>>=◌}
 use Rattle.npm_req.specs.Comparators.{comparators}
 use Rattle.npm_req.specs.Front.{after_all, is_space}
 use Rattle.npm_req.specs.Part.{Reading, part}
@@ -9,12 +10,6 @@ use Rattle.npm_req.specs.Word.{after_bars, after_word, ends_alternative, word}
 use Rattle.npm_req.specs.declared.comparator.Comparator.{Comparator}
 use Rattle.npm_req.specs.declared.comparator.Operator.TheVariants as op
 use Rattle.npm_req.specs.declared.partial.Partial.{Partial}
-
--- the second step, if the first one read
-infixl 10 ◌>>=◌
-abbrev pub ◌>>=◌ : {A B : Type 0} → Result A ℕ → (A → Result B ℕ) → Result B ℕ
-Ok read >>= next = next read
-Err left >>= next = Err left
 
 -- the parts up to the end of the alternative, of which there are no more than bytes
 abbrev pub parts_of : ℕ → List ℕ → Reading (List Comparator)

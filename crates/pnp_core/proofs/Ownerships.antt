@@ -7,7 +7,7 @@ use Rattle.std.proofs.lemmas.List.Elements.{All-from_recursion, All-contains, Co
 use Rattle.sugar_path.specs.Path.{Path, path_eq}
 use Rattle.sugar_path.specs.PathEq.{path_eq-Decides}
 use Rattle.pnp_core.specs.declared.manifest.PackageLocator.{PackageLocator}
-use Rattle.pnp_core.specs.Payload.{or_else}
+use Rattle.std.specs.Option.{option_or}
 use Rattle.pnp_core.specs.Manifest.{Contents, Row, rows}
 use Rattle.pnp_core.specs.Owner.{owns, last_at, nearest_owner, owner}
 use Rattle.pnp_core.specs.Ownership.{names, row_location, IsComponentPrefix, Claims, Owns, OwnerOwns}
@@ -46,7 +46,7 @@ last_at-none (row ∷ rest) q h = by_rest (last_at rest q) refl h (λ k. last_at
     by_test true e g = absurd (cc)
     by_test false e g = e
 
-    by_rest : (o : Option PackageLocator) → last_at rest q ≡ o → or_else o (cond (owns row q) (Some row.0) None) ≡ None
+    by_rest : (o : Option PackageLocator) → last_at rest q ≡ o → option_or o (cond (owns row q) (Some row.0) None) ≡ None
         → (last_at rest q ≡ None → AllByRecursion (λ other. owns other q ≡ false) rest)
         → AllByRecursion (λ other. owns other q ≡ false) (row ∷ rest)
     by_rest (Some k) e g f = absurd (cc)
@@ -60,7 +60,7 @@ last_at-some (row ∷ rest) q l h = by_rest (last_at rest q) refl h (λ k. last_
     by_test true e g none = record { earlier = []; row = row; later = rest; in_order = refl; locator = cc; here = e; last = none }
     by_test false e g none = absurd (cc)
 
-    by_rest : (o : Option PackageLocator) → last_at rest q ≡ o → or_else o (cond (owns row q) (Some row.0) None) ≡ Some l
+    by_rest : (o : Option PackageLocator) → last_at rest q ≡ o → option_or o (cond (owns row q) (Some row.0) None) ≡ Some l
         → (last_at rest q ≡ Some l → HasLast rest q l)
         → HasLast (row ∷ rest) q l
     by_rest (Some k) e g f =
@@ -126,7 +126,7 @@ nearest_owner-none : (rs : List Row) (p : Path) → nearest_owner rs p ≡ None 
 nearest_owner-none rs [] h = mapped no_claim-root rs (last_at-none rs [] h)
 nearest_owner-none rs (n ∷ p) h = by_here (last_at rs (n ∷ p)) refl h (λ k. nearest_owner-none rs p k)
   where
-    by_here : (o : Option PackageLocator) → last_at rs (n ∷ p) ≡ o → or_else o (nearest_owner rs p) ≡ None
+    by_here : (o : Option PackageLocator) → last_at rs (n ∷ p) ≡ o → option_or o (nearest_owner rs p) ≡ None
         → (nearest_owner rs p ≡ None → AllByRecursion (λ row. ¬ Claims row p) rs)
         → AllByRecursion (λ row. ¬ Claims row (n ∷ p)) rs
     by_here (Some k) e g f = absurd (cc)
@@ -141,7 +141,7 @@ nearest_owner-some rs [] l h = record {
 }
 nearest_owner-some rs (n ∷ p) l h = by_here (last_at rs (n ∷ p)) refl h (λ k. nearest_owner-some rs p l k)
   where
-    by_here : (o : Option PackageLocator) → last_at rs (n ∷ p) ≡ o → or_else o (nearest_owner rs p) ≡ Some l
+    by_here : (o : Option PackageLocator) → last_at rs (n ∷ p) ≡ o → option_or o (nearest_owner rs p) ≡ Some l
         → (nearest_owner rs p ≡ Some l → HasNearest rs p l)
         → HasNearest rs (n ∷ p) l
     by_here (Some k) e g f = record {

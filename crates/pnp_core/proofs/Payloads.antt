@@ -9,7 +9,8 @@ use Rattle.std.proofs.lemmas.Str.{encode_ascii, length-encode, len_utf8_bounds}
 use Rattle.std.proofs.Math.Seq.{drop-cons}
 use Rattle.std.proofs.lemmas.List.{take_all, drop_all, append-nil}
 use Rattle.memchr.specs.Find.{IsFirstByte, is_byte2}
-use Rattle.pnp_core.specs.Payload.{after_word, is_blank, after_blank, after_blanks, after_constant, after_call, after_opening, after_leftmost, quoted, kept}
+use Rattle.sugar_path.specs.Front.{after}
+use Rattle.pnp_core.specs.Payload.{is_blank, after_blank, after_blanks, after_constant, after_call, after_opening, after_leftmost, quoted, kept}
 
 -- two numbers that differ
 differs : (a b : ℕ) → a ≢ b → (a == b) ≡ false
@@ -28,29 +29,31 @@ same a = by_test (eqb_tells a a)
 
 -- ---- a word at the front
 
-after_word-append : (w t : List ℕ) → after_word w (w ++ t) ≡ Some t
-after_word-append [] t = refl
-after_word-append (c ∷ cs) t = rw (same c) (after_word-append cs t)
+after-append : (w t : List ℕ) → after w (w ++ t) ≡ Some t
+unfolding after
+after-append [] t = refl
+after-append (c ∷ cs) t = rw (same c) (after-append cs t)
 
-after_word-some : (w s t : List ℕ) → after_word w s ≡ Some t → s ≡ w ++ t
-after_word-some [] s t e = cc
-after_word-some (c ∷ cs) [] t e = cc
-after_word-some (c ∷ cs) (d ∷ s) t e = by_test (eqb_tells d c) (after_word-some cs s t)
+after-some : (w s t : List ℕ) → after w s ≡ Some t → s ≡ w ++ t
+unfolding after
+after-some [] s t e = cc
+after-some (c ∷ cs) [] t e = cc
+after-some (c ∷ cs) (d ∷ s) t e = by_test (eqb_tells d c) (after-some cs s t)
   where
-    by_test : ((d == c) ≡ true) × (d ≡ c) ⊎ ((d == c) ≡ false) × (d ≢ c) → (after_word cs s ≡ Some t → s ≡ cs ++ t) → d ∷ s ≡ c ∷ cs ++ t
+    by_test : ((d == c) ≡ true) × (d ≡ c) ⊎ ((d == c) ≡ false) × (d ≢ c) → (after cs s ≡ Some t → s ≡ cs ++ t) → d ∷ s ≡ c ∷ cs ++ t
     by_test (inl w) rest = let found = rw w.0 at e in let tail = rest found in rw (w.1, tail) refl
     by_test (inr w) rest = let none = rw w.0 at e in cc
 
-after_word-lacks : (w s : List ℕ) → LacksTextAt w s 0 → after_word w s ≡ None
-after_word-lacks w s lacks = by_found (after_word w s) (after_word-some w s)
+after-lacks : (w s : List ℕ) → LacksTextAt w s 0 → after w s ≡ None
+after-lacks w s lacks = by_found (after w s) (after-some w s)
   where
     by_found : (o : Option (List ℕ)) → ((t : List ℕ) → o ≡ Some t → s ≡ w ++ t) → o ≡ None
     by_found None h = refl
     by_found (Some t) h = absurd (lacks t (h t refl))
 
-pub after_word-strip_prefix : (w s : List ℕ) (r : Option (Bor (List ℕ))) → MatchOption r (FindsTextPrefix w s None) (λ x. StripsPrefix (FindsTextPrefix w) s x.now) → option_map (λ t. t.now) r ≡ after_word w s
-after_word-strip_prefix w s None h = sym (after_word-lacks w s h)
-after_word-strip_prefix w s (Some x) (n, found, is, len) = ap Some is ∙ sym (ap (after_word w) found.1 ∙ after_word-append w (drop n s))
+pub after-strip_prefix : (w s : List ℕ) (r : Option (Bor (List ℕ))) → MatchOption r (FindsTextPrefix w s None) (λ x. StripsPrefix (FindsTextPrefix w) s x.now) → option_map (λ t. t.now) r ≡ after w s
+after-strip_prefix w s None h = sym (after-lacks w s h)
+after-strip_prefix w s (Some x) (n, found, is, len) = ap Some is ∙ sym (ap (after w) found.1 ∙ after-append w (drop n s))
 
 -- ---- blanks
 
@@ -190,7 +193,7 @@ quoted-goes_on made t whole rest n c e cut escape step =
     ∙ e
 
 opening-high : (b : ℕ) (s : List ℕ) → 128 ≤ b → after_opening (b ∷ s) ≡ None
-unfolding after_constant after_call
+unfolding after after_constant after_call
 opening-high b s h = rw (differs b 99 (λ e. absurd (omega arith)), differs b 104 (λ e. absurd (omega arith))) refl
 
 leftmost-high : (bs t : List ℕ) → IsHigh bs → after_leftmost (bs ++ t) ≡ after_leftmost t
@@ -199,7 +202,7 @@ leftmost-high (b ∷ bs) t h = rw (opening-high b (bs ++ t) h.0) (leftmost-high 
 
 -- an opening that is there is the leftmost
 pub leftmost-here : (s t : List ℕ) → after_opening s ≡ Some t → after_leftmost s ≡ Some t
-unfolding after_constant after_call
+unfolding after after_constant after_call
 leftmost-here [] t e = cc
 leftmost-here (c ∷ s) t e = rw e refl
 

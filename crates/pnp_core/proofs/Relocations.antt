@@ -9,7 +9,7 @@ use Rattle.std.specs.HashMap.{HashMap}
 use Rattle.sugar_path.specs.Path.{Path, IsPath, is_absolute, path_eq, join, parent, text_of}
 use Rattle.pnp_core.specs.declared.manifest.PackageLocator.{PackageLocator}
 use Rattle.pnp_core.specs.NormalizePath.{location_path}
-use Rattle.pnp_core.specs.Payload.{or_else}
+use Rattle.std.specs.Option.{option_or}
 use Rattle.pnp_core.specs.Manifest.{Contents, Dependencies, Package, Registry, Row, at, top_level, locator, rows, rows_under, package_at}
 use Rattle.pnp_core.specs.ManifestReading.{located, located_rows, located_registry, filled_by, initialized}
 use Rattle.pnp_core.specs.Owner.{owns, last_at, IsLocated}
@@ -44,24 +44,24 @@ changed-all dir (named ∷ reg) = rw (changed-placed dir named.1, changed-all di
 
 -- ---- rows over a trie
 
-or_else-none : {A : Type 0} (x : Option A) → or_else x None ≡ x
-or_else-none None = refl
-or_else-none (Some a) = refl
+option_or-none : {A : Type 0} (x : Option A) → option_or x None ≡ x
+option_or-none None = refl
+option_or-none (Some a) = refl
 
-or_else-assoc : {A : Type 0} (x y z : Option A) → or_else (or_else x y) z ≡ or_else x (or_else y z)
-or_else-assoc None y z = refl
-or_else-assoc (Some a) y z = refl
+option_or-assoc : {A : Type 0} (x y z : Option A) → option_or (option_or x y) z ≡ option_or x (option_or y z)
+option_or-assoc None y z = refl
+option_or-assoc (Some a) y z = refl
 
-last_at-append : (rs ss : List Row) (l : Path) → last_at (rs ++ ss) l ≡ or_else (last_at ss l) (last_at rs l)
-last_at-append [] ss l = sym (or_else-none (last_at ss l))
-last_at-append (r ∷ rs) ss l = rw (last_at-append rs ss l) (or_else-assoc (last_at ss l) (last_at rs l) (cond (owns r l) (Some r.0) None))
+last_at-append : (rs ss : List Row) (l : Path) → last_at (rs ++ ss) l ≡ option_or (last_at ss l) (last_at rs l)
+last_at-append [] ss l = sym (option_or-none (last_at ss l))
+last_at-append (r ∷ rs) ss l = rw (last_at-append rs ss l) (option_or-assoc (last_at ss l) (last_at rs l) (cond (owns r l) (Some r.0) None))
 
 pub overlaid-append : (rs ss : List Row) (old new : Locations PackageLocator) (l : Path) → value_at new l ≡ overlaid rs old l → overlaid ss new l ≡ overlaid (rs ++ ss) old l
-overlaid-append rs ss old new l e = rw (e, last_at-append rs ss l) (sym (or_else-assoc (last_at ss l) (last_at rs l) (value_at old l)))
+overlaid-append rs ss old new l e = rw (e, last_at-append rs ss l) (sym (option_or-assoc (last_at ss l) (last_at rs l) (value_at old l)))
 
 -- nothing lies under the rows of an empty trie
 pub overlaid-nil : (rs : List Row) (l : Path) → overlaid rs [] l ≡ last_at rs l
-overlaid-nil rs l = or_else-none (last_at rs l)
+overlaid-nil rs l = option_or-none (last_at rs l)
 
 -- a discarded row changes nothing
 pub overlaid-discarded : (dir n r : List ℕ) (p : Package) (t : Locations PackageLocator) (l : Path) → p.discard_from_lookup ≡ true → value_at t l ≡ overlaid ((locator n r, located dir p) ∷ []) t l
@@ -72,7 +72,7 @@ pub overlaid-row : (dir n r : List ℕ) (p : Package) (old new : Locations Packa
 overlaid-row dir n r p old new l abs path kept puts =
     puts l path ∙ rw (kept, location_path-normalize_path (join dir p.package_location) (join-absolute dir p.package_location abs)) (by_test (path_eq (location_path (join dir p.package_location)) l))
   where
-    by_test : (b : Bool) → cond b (Some (locator n r)) (value_at old l) ≡ or_else (cond b (Some (locator n r)) None) (value_at old l)
+    by_test : (b : Bool) → cond b (Some (locator n r)) (value_at old l) ≡ option_or (cond b (Some (locator n r)) None) (value_at old l)
     by_test true = refl
     by_test false = refl
 

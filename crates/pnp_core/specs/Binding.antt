@@ -6,7 +6,7 @@ use Rattle.pnp_core.specs.declared.manifest.Binding.TheVariants.{Bound, MissingP
 use Rattle.pnp_core.specs.declared.manifest.PackageLocator.{PackageLocator}
 use Rattle.pnp_core.specs.declared.manifest.PackageDependency.{PackageDependency}
 use Rattle.pnp_core.specs.declared.manifest.PackageDependency.TheVariants.{Reference, Alias}
-use Rattle.pnp_core.specs.Payload.{or_else}
+use Rattle.std.specs.Option.{option_or}
 use Rattle.pnp_core.specs.Manifest.{Contents, at, locator, locator_eq, top_level, package_at}
 
 -- the locator that a binding of a name means
@@ -41,7 +41,7 @@ may_fall_back m o = not (bytes_eq o.name []) && m.enable_top_level_fallback && n
 
 -- the top-level row's binding if it isn't null, else the pool's
 abbrev pub fallback : Contents → List ℕ → Option PackageDependency
-fallback m name = or_else (given (own m top_level name)) (given (at name m.fallback_pool))
+fallback m name = option_or (given (own m top_level name)) (given (at name m.fallback_pool))
 
 abbrev pub allowed_fallback : Contents → PackageLocator → List ℕ → Option PackageDependency
 allowed_fallback m o name = if may_fall_back m o then fallback m name else None
@@ -59,7 +59,7 @@ bound_or other name (Some dependency) = Bound (bound_to name dependency)
 abbrev pub bind : Contents → PackageLocator → List ℕ → Binding
 bind m o name =
     bound_or (unbound (own m o name)) name
-    (or_else (given (own m o name)) (allowed_fallback m o name))
+    (option_or (given (own m o name)) (allowed_fallback m o name))
 
 -- the owner's own row binds the name, or no fallback is allowed: its row alone decides
 abbrev pub is_settled : Contents → PackageLocator → List ℕ → Bool

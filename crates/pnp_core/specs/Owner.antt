@@ -4,7 +4,7 @@ use Rattle.std.specs.List.{AllByRecursion}
 use Rattle.sugar_path.specs.Path.{Path, IsCleanPath, is_absolute, path_eq, text_of}
 use Rattle.pnp_core.specs.declared.manifest.PackageLocator.{PackageLocator}
 use Rattle.pnp_core.specs.NormalizePath.{location_path, normalize_path}
-use Rattle.pnp_core.specs.Payload.{or_else}
+use Rattle.std.specs.Option.{option_or}
 use Rattle.pnp_core.specs.Manifest.{Contents, Row, rows, top_level, package_at}
 
 -- a row that isn't discarded owns its location
@@ -14,12 +14,12 @@ owns row l = not row.1.discard_from_lookup && path_eq (location_path row.1.packa
 -- the last of the rows that own a location
 abbrev pub last_at : List Row → Path → Option PackageLocator
 last_at [] l = None
-last_at (row ∷ rest) l = or_else (last_at rest l) (if owns row l then Some row.0 else None)
+last_at (row ∷ rest) l = option_or (last_at rest l) (if owns row l then Some row.0 else None)
 
 -- the nearest of a path and the folders above it that is the location of rows; the last of them owns it
 abbrev pub nearest_owner : List Row → Path → Option PackageLocator
 nearest_owner rs [] = last_at rs []
-nearest_owner rs (n ∷ p) = or_else (last_at rs (n ∷ p)) (nearest_owner rs p)
+nearest_owner rs (n ∷ p) = option_or (last_at rs (n ∷ p)) (nearest_owner rs p)
 
 -- the owner of the path that an absolute text names; `\` separates names there, as in a manifest
 abbrev pub owner_of_text : Contents → List ℕ → Option PackageLocator

@@ -1,11 +1,7 @@
 -- The JSON text inside a manifest's program file.
 use Rattle.std.specs.Prelude.{ℕ, Bool, ◌==◌, ◌||◌, if◌then◌else◌, List, [], ◌∷◌, Option, Some, None, option_map, option_and_then, codes}
-
--- what follows a front that is the word
-abbrev pub after_word : List ℕ → List ℕ → Option (List ℕ)
-after_word [] t = Some t
-after_word (w ∷ ws) [] = None
-after_word (w ∷ ws) (c ∷ cs) = if c == w then after_word ws cs else None
+use Rattle.std.specs.Option.{option_or}
+use Rattle.sugar_path.specs.Front.{after}
 
 -- a space, a carriage return or a line feed
 abbrev pub is_blank : ℕ → Bool
@@ -26,31 +22,27 @@ after_some_blanks t = option_map after_blanks (after_blank t)
 
 -- what follows a text that is there, and then the blanks
 abbrev pub then_word : List ℕ → List ℕ → Option (List ℕ)
-then_word word t = after_word word (after_blanks t)
+then_word word t = after word (after_blanks t)
 
 -- `const`, blanks, `RAW_RUNTIME_STATE`, `=` and `'`, with any blanks before the last two
 unfoldable pub after_constant : List ℕ → Option (List ℕ)
 after_constant t =
     option_and_then (then_word (codes "'"))
     (option_and_then (then_word (codes "="))
-    (option_and_then (after_word (codes "RAW_RUNTIME_STATE"))
-    (option_and_then after_some_blanks (after_word (codes "const") t))))
+    (option_and_then (after (codes "RAW_RUNTIME_STATE"))
+    (option_and_then after_some_blanks (after (codes "const") t))))
 
 unfoldable pub after_call : List ℕ → Option (List ℕ)
-after_call t = after_word (codes "hydrateRuntimeState(JSON.parse('") t
-
-abbrev pub or_else : {A : Type 0} → Option A → Option A → Option A
-or_else None other = other
-or_else (Some a) other = Some a
+after_call t = after (codes "hydrateRuntimeState(JSON.parse('") t
 
 -- what follows one of the two openings, where the text begins with it
 abbrev pub after_opening : List ℕ → Option (List ℕ)
-after_opening t = or_else (after_constant t) (after_call t)
+after_opening t = option_or (after_constant t) (after_call t)
 
 -- what follows the leftmost opening
 abbrev pub after_leftmost : List ℕ → Option (List ℕ)
 after_leftmost [] = None
-after_leftmost (c ∷ cs) = or_else (after_opening (c ∷ cs)) (after_leftmost cs)
+after_leftmost (c ∷ cs) = option_or (after_opening (c ∷ cs)) (after_leftmost cs)
 
 -- up to the next `'` that no backslash takes, or to the end: a backslash is dropped, and the character after it is kept
 abbrev mutual

@@ -3,7 +3,7 @@ use Rattle.std.specs.Prelude.{ℕ, List, [], ◌∷◌, map, filter, is_none, Op
 use Rattle.sugar_path.specs.Path.{Path, join}
 use Rattle.pnp_core.specs.declared.manifest.PackageLocator.{PackageLocator}
 use Rattle.pnp_core.specs.NormalizePath.{normalize_path}
-use Rattle.pnp_core.specs.Payload.{or_else}
+use Rattle.std.specs.Option.{option_or}
 use Rattle.pnp_core.specs.Manifest.{Contents, Dependencies, Package, Registry, Row, at, top_level, package_at}
 use Rattle.pnp_core.specs.Owner.{last_at}
 use Rattle.pnp_core.specs.Trie.{Locations, value_at}
@@ -27,7 +27,7 @@ all_locations dir registry = map (λ named. locations_of dir named.1) registry
 
 -- rows put over values: the last row that owns a location, else the value that was there
 abbrev pub overlaid : List Row → Locations PackageLocator → Path → Option PackageLocator
-overlaid rs t l = or_else (last_at rs l) (value_at t l)
+overlaid rs t l = option_or (last_at rs l) (value_at t l)
 
 -- the bindings of a package that a pool lacks
 abbrev pub missing_from : Dependencies → Option Package → Dependencies

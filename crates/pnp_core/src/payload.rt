@@ -1,6 +1,7 @@
 // The JSON text inside a manifest's program file.
 ghost use Rattle.std.specs.Prelude.{◌≡◌, IfOk, option_map, string_bytes};
-ghost use Rattle.pnp_core.specs.Payload.{payload, quoted, after_leftmost, after_opening, after_constant, after_call, after_word, is_blank, after_blank, after_blanks};
+ghost use Rattle.sugar_path.specs.Front.{after};
+ghost use Rattle.pnp_core.specs.Payload.{payload, quoted, after_leftmost, after_opening, after_constant, after_call, is_blank, after_blank, after_blanks};
 
 use memchr::memchr2;
 use std::alloc::{AllocError, Global};
@@ -54,7 +55,7 @@ fn after_constant(text: &str) -> Option<&str>
 }
 
 fn after_word<'a>(text: &'a str, word: &str) -> Option<&'a str>
-    ensures { option_map (λ t. t.now) result ≡ after_word word.now text.now }
+    ensures { option_map (λ t. t.now) result ≡ after word.now text.now }
 {
     text.strip_prefix(word)
 }

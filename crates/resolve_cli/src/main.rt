@@ -1,16 +1,21 @@
 //! The program: a document on the standard input, and a line for each of its requests on the standard output.
 #![tactic(auto)]
 
+ghost use Rattle.std.specs.Prelude.{◌≡◌, ◌≢◌, ◌⊎◌, ◌↔◌, Err, IfOk, IfErr, IsOkAnd, IsErrAnd, drop};
+ghost use Rattle.std.specs.IoError.{error_kind};
+ghost use Rattle.std.specs.Vec.Iter.{into_iter_items};
+
 use cli_core::{ReaderSource, Status, WriterSink, run};
-use std::env;
+use std::alloc::{AllocError, Global};
+use std::env::Args;
 use std::io::ErrorKind;
 use std::process::ExitCode;
-use std::rt::Env;
+use std::{env, io};
 use tree_core::MemoryTree;
 
 fn main(rt: HostRuntime) -> ExitCode {
     let alloc = rt.alloc();
-    let status = match words(&rt) {
+    let status = match words(alloc, env::args(&rt)) {
         Ok(words) => run(
             alloc,
             &words,
@@ -23,20 +28,23 @@ fn main(rt: HostRuntime) -> ExitCode {
     ExitCode::from(status.code())
 }
 
-// The words behind the program's name. Words that aren't UTF-8 are no command.
-fn words(rt: &(impl Env + AllocGlobal)) -> Result<Vec<String>, Status> {
-    let args = match env::args(rt) {
-        Ok(args) => args,
-        Err(e) => {
-            return Err(if e.kind() == ErrorKind::OutOfMemory {
-                Status::NoMemory
-            } else {
-                Status::Usage
-            });
-        }
-    };
-    match args.skip(1).collect(rt.alloc()) {
-        Ok(words) => Ok(words),
-        Err(_) => Err(Status::NoMemory),
+// The words behind the program's name, or how a run ends without them. Words that aren't UTF-8 are no command.
+fn words(alloc: Global, args: io::Result<Args>) -> Result<Vec<String>, Status>
+    ensures behind { IfOk result (λ words. IsOkAnd args (λ all.
+        words.items ≡ drop 1 (into_iter_items all))) }
+    ensures usage { (result ≡ Err Status.Usage) ↔ IsErrAnd args (λ e.
+        error_kind e ≢ ErrorKind.OutOfMemory) }
+    ensures status { IfErr result (λ status. (status ≡ Status.Usage) ⊎ (status ≡ Status.NoMemory)) }
+{
+    match args {
+        Ok(args) => behind_name(alloc, args).map_err(|_| Status::NoMemory),
+        Err(e) if e.kind() == ErrorKind::OutOfMemory => Err(Status::NoMemory),
+        Err(_) => Err(Status::Usage),
     }
+}
+
+fn behind_name(alloc: Global, args: Args) -> Result<Vec<String>, AllocError>
+    ensures { IfOk result (λ words. words.items ≡ drop 1 (into_iter_items args)) }
+{
+    args.skip(1).collect(alloc)
 }

@@ -11,5 +11,6 @@ pub mod PathEq
 pub mod PathTypes
 pub mod Reading
 pub mod Relative
+pub mod Results
 pub mod Route
 pub mod SharedTexts

@@ -1,9 +1,9 @@
 -- Calls that go by an order, row by row.
-use Rattle.std.proofs.Common.{◌≡◌, Option, Some, None, Result, Ok, Err, IsErrAnd, refl, sym, ap, ◌∙◌, subst}
+use Rattle.std.proofs.Common.{◌≡◌, Result, Ok, Err, IsErrAnd, refl, sym, ap, ◌∙◌, subst}
 use Rattle.tree_core.specs.declared.tree.ReadError.{ReadError}
 use Rattle.tree_core.specs.declared.resolve_error.ResolveError.{ResolveError}
 use Rattle.tree_core.specs.Plan.{Plan, Done, ◌>>=◌, ◌>>=?◌, on_ok}
-use Rattle.tree_core.specs.Asks.{Asking, Asks, seen}
+use Rattle.tree_core.specs.Asks.{Asking, Asks}
 use Rattle.tree_core.specs.Resolving.{resolving, Resolves, IsDecided, IsDecidedTo}
 use Rattle.tree_core.specs.Rows.{Row, end_of, order, decided, refuses_by, ends_by}
 use Rattle.tree_core.proofs.Asking.{asks_then, asks_as, asks_done, asks_stops, asks_fails_in, stops_decided, stops_decided_to, after_decided}

@@ -1,7 +1,7 @@
 -- How an order goes by its rows.
-use Rattle.std.proofs.Common.{◌≡◌, Result, Ok, Err, refl, sym, ap, ◌∙◌}
+use Rattle.std.proofs.Common.{◌≡◌, Result, Ok, Err, refl, ap, ◌∙◌}
 use Rattle.tree_core.specs.Plan.{Plan, Done, Ask, ◌>>=◌, ◌>>=?◌, on_ok}
-use Rattle.tree_core.specs.Rows.{Going, Row, end_of, order, or_refused, decided, refuses_by, ends_by, never_refuses}
+use Rattle.tree_core.specs.Rows.{Going, Row, end_of, order, or_refused, refuses_by, ends_by}
 
 -- plans one after the other, however they are grouped
 pub then-then : {A B C : Type 0} (p : Plan A) (k : A → Plan B) (l : B → Plan C) → (p >>= k) >>= l ≡ p >>= λ a. k a >>= l

@@ -1,5 +1,5 @@
 -- A plan: which questions are put to a tree, in what order, and what their replies come to.
-use Rattle.std.specs.Prelude.{ℕ, Bool, false, cond, List, [], ◌∷◌, Option, Some, None, Result, Ok, Err}
+use Rattle.std.specs.Prelude.{ℕ, Bool, false, if◌then◌else◌, List, [], ◌∷◌, Option, Some, None, Result, Ok, Err}
 use Rattle.tree_core.specs.declared.question.Question.{Question}
 use Rattle.tree_core.specs.declared.question.Question.TheVariants.{File, Dir, Exists, Read, Canon}
 use Rattle.tree_core.specs.declared.question.Reply.{Reply}
@@ -25,8 +25,8 @@ asked t (Ask q next) = q ∷ asked t (next (reply t q))
 -- one plan, and then the plan that its answer gives
 infixl 10 ◌>>=◌
 unfoldable pub ◌>>=◌ : {A B : Type 0} → Plan A → (A → Plan B) → Plan B
-Done a >>= then = then a
-Ask q next >>= then = Ask q (λ r. next r >>= then)
+Done a >>= rest = rest a
+Ask q next >>= rest = Ask q (λ r. next r >>= rest)
 
 abbrev pub flag : Reply → Bool
 flag (Flag b) = b
@@ -65,20 +65,21 @@ abbrev pub first_file : List Path → Plan (Option Path)
 first_file [] = Done None
 first_file (p ∷ ps) = do
   found ← file p
-  cond found (Done (Some p)) (first_file ps)
+  if found then Done (Some p) else first_file ps
 
 -- the first of the paths that is a file or a folder
 abbrev pub first_existing : List Path → Plan (Option Path)
 first_existing [] = Done None
 first_existing (p ∷ ps) = do
   found ← exists p
-  cond found (Done (Some p)) (first_existing ps)
+  if found then Done (Some p) else first_existing ps
 
 -- a plan that may refuse, and then the plan that its answer gives
 abbrev pub on_ok : {A B X : Type 0} → (A → Plan (Result B X)) → Result A X → Plan (Result B X)
-on_ok then (Ok a) = then a
-on_ok then (Err x) = Done (Err x)
+on_ok rest (Ok a) = rest a
+on_ok rest (Err x) = Done (Err x)
 
 infixl 10 ◌>>=?◌
-abbrev pub ◌>>=?◌ : {A B X : Type 0} → Plan (Result A X) → (A → Plan (Result B X)) → Plan (Result B X)
-p >>=? then = p >>= on_ok then
+abbrev pub ◌>>=?◌ :
+    {A B X : Type 0} → Plan (Result A X) → (A → Plan (Result B X)) → Plan (Result B X)
+p >>=? rest = p >>= on_ok rest

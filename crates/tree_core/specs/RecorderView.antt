@@ -8,7 +8,8 @@ use Rattle.tree_core.specs.Asks.{Asking}
 
 -- the reference that it holds, the tree behind it, and the trail
 abbrev pub asking_of : {T : Type 0} {g : Ghosts T} → Recorder T g → Asking
-asking_of {g = g} r = record { name = r.tree.ghost_name; tree = g.state r.tree.now; trail = r.trail }
+asking_of {g = g} r =
+    record { name = r.tree.ghost_name; tree = g.state r.tree.now; trail = r.trail }
 
 -- the tree that is lent to it, as it is now
 abbrev pub tree_of : {T : Type 0} {g : Ghosts T} → Recorder T g → T

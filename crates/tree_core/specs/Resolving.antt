@@ -26,7 +26,8 @@ abbrev pub resolving : {X : Type 0} → Layer (ResolveError X) X
 resolving = record { kind = kind; into = into; carries = carries }
 
 -- A search by a plan that answers or refuses.
-abbrev pub Resolves : {A X : Type 0} → Asking → Asking → Result A (ResolveError X) → Plan (Result A X) → Type 0
+abbrev pub Resolves :
+    {A X : Type 0} → Asking → Asking → Result A (ResolveError X) → Plan (Result A X) → Type 0
 Resolves old new result plan = Asks old new (seen resolving result) plan
 
 -- A step that puts no question comes to this answer or refusal, unless memory is wanting.
@@ -38,7 +39,8 @@ IsDecided (Err error.NoMemory) r = Unit {0}
 
 -- one step, and then what its answer gives: a refusal ends the order. A text by `do` over plans that may refuse reads so
 infixl 10 ◌>>=◌
-abbrev pub ◌>>=◌ : {A B X : Type 0} → Plan (Result A X) → (A → Plan (Result B X)) → Plan (Result B X)
+abbrev pub ◌>>=◌ :
+    {A B X : Type 0} → Plan (Result A X) → (A → Plan (Result B X)) → Plan (Result B X)
 p >>= then = p >>=? then
 
 -- the same for a step that lends its answer

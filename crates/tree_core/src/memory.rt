@@ -91,9 +91,13 @@ impl MemoryTree {
 
     /// Puts a file, in place of an earlier one at the path.
     pub fn put(&mut self, path: &str, bytes: &[u8], canonical: &str) -> Result<(), PutError>
-        ensures ok { OnOk result (self.new ≡ record self.old { files = with_file self.old.files path.now (record { content = bytes.now; canonical = canonical.now }) }) }
+        ensures ok { OnOk result (self.new ≡ record self.old {
+          files = with_file self.old.files path.now
+              (record { content = bytes.now; canonical = canonical.now });
+        }) }
         ensures fits { OnOk result (refusal self.old.files path.now canonical.now ≡ None) }
-        ensures refused { IfErr result (λ e. e ≢ NoMemory → refusal self.old.files path.now canonical.now ≡ Some e) }
+        ensures refused { IfErr result (λ e.
+            e ≢ NoMemory → refusal self.old.files path.now canonical.now ≡ Some e) }
         ensures err { OnErr result (self.new ≡ self.old) }
     {
         if !is_file_path(path) || !is_file_path(canonical) {
@@ -163,7 +167,8 @@ impl MemoryTree {
     }
 
     pub(crate) fn content_at(&self, alloc: Global, p: &str) -> Result<Option<Bytes>, AllocError>
-        ensures { IfOk result (λ o. o ≡ option_map (λ f. f.content) (map.get self.now.files p.now)) }
+        ensures { IfOk result (λ o.
+            o ≡ option_map (λ f. f.content) (map.get self.now.files p.now)) }
     {
         match self.files.get(p) {
             None => Ok(None),
@@ -172,7 +177,8 @@ impl MemoryTree {
     }
 
     pub(crate) fn canonical_at(&self, alloc: Global, p: &str) -> Result<Option<Text>, AllocError>
-        ensures { IfOk result (λ o. o ≡ option_map (λ f. f.canonical) (map.get self.now.files p.now)) }
+        ensures { IfOk result (λ o.
+            o ≡ option_map (λ f. f.canonical) (map.get self.now.files p.now)) }
     {
         match self.files.get(p) {
             None => Ok(None),
@@ -256,7 +262,8 @@ fn put_at(
     path: String,
     file: TreeFile,
 ) -> Result<(), PutError>
-    ensures ok { OnOk result (files_of files.new.entries ≡ with_file (files_of files.old.entries) (string_bytes path) file) }
+    ensures ok { OnOk result (files_of files.new.entries
+        ≡ with_file (files_of files.old.entries) (string_bytes path) file) }
     ensures err { OnErr result (files_of files.new.entries ≡ files_of files.old.entries) }
     ensures memory { IfErr result (λ e. e ≡ NoMemory) }
 {
@@ -266,7 +273,9 @@ fn put_at(
 
 // The first path of a file, in byte order, that begins with a text.
 fn first_with_prefix<'a>(files: &'a BTreeMap<String, TreeFile>, prefix: &String) -> Option<&'a str>
-    ensures { option_map (λ p. p.now) result ≡ find (λ p. starts_with nat_eq p (string_bytes prefix.now)) (map.keys (files_of files.now.entries)) }
+    ensures { option_map (λ p. p.now) result
+        ≡ find (λ p. starts_with nat_eq p (string_bytes prefix.now))
+        (map.keys (files_of files.now.entries)) }
 {
     match files
         .range((Bound::Included(prefix), Bound::Unbounded))

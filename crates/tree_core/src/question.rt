@@ -21,7 +21,7 @@ pub enum Question {
 }
 
 /// What a tree replies: a flag to the first three questions, bytes to `Read` and a name to `Canon`.
-#[derive(Debug, Drop, PartialEq, Eq)]
+#[derive(Debug, Drop, PartialEq, Eq, Hash)]
 pub enum Reply {
     Flag(bool),
     Bytes(Option<Bytes>),

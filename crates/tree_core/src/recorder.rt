@@ -40,9 +40,11 @@ impl<'t, T: Tree> Recorder<'t, T> {
     /// Whether there is a file.
     pub fn is_file(&mut self, p: &str) -> Result<bool, ReadError>
         requires { IsCleanPath p.now }
-        ensures recorded { IsRecorded Flag (File p.now) (asking_of self.old) (asking_of self.new) result }
+        ensures recorded { IsRecorded Flag (File p.now)
+            (asking_of self.old) (asking_of self.new) result }
         // Where the trail has the reply, the lent tree is left as it is.
-        ensures untouched { IsSome (reply_in (trail_of self.old) (File p.now)) → tree_of self.new ≡ tree_of self.old }
+        ensures untouched { IsSome (reply_in (trail_of self.old) (File p.now))
+            → tree_of self.new ≡ tree_of self.old }
     {
         self.flag(FlagQuestion::File, p)
     }
@@ -50,9 +52,11 @@ impl<'t, T: Tree> Recorder<'t, T> {
     /// Whether there is a folder.
     pub fn is_dir(&mut self, p: &str) -> Result<bool, ReadError>
         requires { IsCleanPath p.now }
-        ensures recorded { IsRecorded Flag (Dir p.now) (asking_of self.old) (asking_of self.new) result }
+        ensures recorded { IsRecorded Flag (Dir p.now)
+            (asking_of self.old) (asking_of self.new) result }
         // Where the trail has the reply, the lent tree is left as it is.
-        ensures untouched { IsSome (reply_in (trail_of self.old) (Dir p.now)) → tree_of self.new ≡ tree_of self.old }
+        ensures untouched { IsSome (reply_in (trail_of self.old) (Dir p.now))
+            → tree_of self.new ≡ tree_of self.old }
     {
         self.flag(FlagQuestion::Dir, p)
     }
@@ -60,9 +64,11 @@ impl<'t, T: Tree> Recorder<'t, T> {
     /// Whether there is a file or a folder.
     pub fn exists(&mut self, p: &str) -> Result<bool, ReadError>
         requires { IsCleanPath p.now }
-        ensures recorded { IsRecorded Flag (Exists p.now) (asking_of self.old) (asking_of self.new) result }
+        ensures recorded { IsRecorded Flag (Exists p.now)
+            (asking_of self.old) (asking_of self.new) result }
         // Where the trail has the reply, the lent tree is left as it is.
-        ensures untouched { IsSome (reply_in (trail_of self.old) (Exists p.now)) → tree_of self.new ≡ tree_of self.old }
+        ensures untouched { IsSome (reply_in (trail_of self.old) (Exists p.now))
+            → tree_of self.new ≡ tree_of self.old }
     {
         self.flag(FlagQuestion::Exists, p)
     }
@@ -70,9 +76,11 @@ impl<'t, T: Tree> Recorder<'t, T> {
     /// The bytes of a file.
     pub fn read(&mut self, p: &str) -> Result<Option<Bytes>, ReadError>
         requires { IsCleanPath p.now }
-        ensures recorded { IsRecorded BytesReply (Read p.now) (asking_of self.old) (asking_of self.new) result }
+        ensures recorded { IsRecorded BytesReply (Read p.now)
+            (asking_of self.old) (asking_of self.new) result }
         // Where the trail has the reply, the lent tree is left as it is.
-        ensures untouched { IsSome (reply_in (trail_of self.old) (Read p.now)) → tree_of self.new ≡ tree_of self.old }
+        ensures untouched { IsSome (reply_in (trail_of self.old) (Read p.now))
+            → tree_of self.new ≡ tree_of self.old }
     {
         let question = Question::Read(Text::of(self.alloc, p)?);
         if let Some(reply) = self.trail.reply_to(&question) {
@@ -90,9 +98,11 @@ impl<'t, T: Tree> Recorder<'t, T> {
     /// The canonical name of a file.
     pub fn canonical(&mut self, p: &str) -> Result<Option<Text>, ReadError>
         requires { IsCleanPath p.now }
-        ensures recorded { IsRecorded Name (Canon p.now) (asking_of self.old) (asking_of self.new) result }
+        ensures recorded { IsRecorded Name (Canon p.now)
+            (asking_of self.old) (asking_of self.new) result }
         // Where the trail has the reply, the lent tree is left as it is.
-        ensures untouched { IsSome (reply_in (trail_of self.old) (Canon p.now)) → tree_of self.new ≡ tree_of self.old }
+        ensures untouched { IsSome (reply_in (trail_of self.old) (Canon p.now))
+            → tree_of self.new ≡ tree_of self.old }
     {
         let question = Question::Canon(Text::of(self.alloc, p)?);
         if let Some(reply) = self.trail.reply_to(&question) {
@@ -110,9 +120,11 @@ impl<'t, T: Tree> Recorder<'t, T> {
     // The reply to a question with a flag: the one recorded, or the tree's, which is then recorded.
     fn flag(&mut self, kind: FlagQuestion, p: &str) -> Result<bool, ReadError>
         requires { IsCleanPath p.now }
-        ensures recorded { IsRecorded Flag (flag_question kind p.now) (asking_of self.old) (asking_of self.new) result }
+        ensures recorded { IsRecorded Flag (flag_question kind p.now)
+            (asking_of self.old) (asking_of self.new) result }
         // Where the trail has the reply, the lent tree is left as it is.
-        ensures untouched { IsSome (reply_in (trail_of self.old) (flag_question kind p.now)) → tree_of self.new ≡ tree_of self.old }
+        ensures untouched { IsSome (reply_in (trail_of self.old) (flag_question kind p.now))
+            → tree_of self.new ≡ tree_of self.old }
     {
         let question = question_on(kind, Text::of(self.alloc, p)?);
         if let Some(reply) = self.trail.reply_to(&question) {
@@ -191,7 +203,8 @@ fn ask_flag<T: Tree>(tree: &mut T, kind: FlagQuestion, p: &str) -> Result<bool, 
 fn note(trail: &mut Trail, question: Question, reply: Reply) -> Result<(), ReadError>
     requires { IsTrue (fits question reply) }
     ensures ok { OnOk result (trail.new ≡ trail.old ++ (question, reply) ∷ []) }
-    ensures known { OnOk result (reply_in trail.old question ≡ None → reply_in trail.new question ≡ Some reply) }
+    ensures known { OnOk result (reply_in trail.old question ≡ None
+        → reply_in trail.new question ≡ Some reply) }
     ensures refused { OnErr result (trail.new ≡ trail.old) }
     ensures memory { IfErr result (λ e. e ≡ NoMemory) }
 {

@@ -2,6 +2,7 @@
 use Rattle.std.specs.Prelude.{◌≡◌, ℕ, Bool, true, false, ◌==◌, ◌-◌, List, [], ◌∷◌, length, map, Result, Ok, Err, ok_or, slice_get}
 use Rattle.std.specs.Option.{option_map_or}
 use Rattle.yarn_lock_parser.specs.ByteSet.{is_blank}
+pub use Rattle.sugar_path.specs.Results.{◌>>=◌}
 use Rattle.yarn_lock_parser.specs.declared.error.LockCause.{LockCause}
 use Rattle.yarn_lock_parser.specs.declared.error.LockCause.TheVariants.{LastLine, Descriptors, NoItem, Optional, NoVersion}
 use Rattle.yarn_lock_parser.specs.declared.metas.DepMeta.{DepMeta}
@@ -20,12 +21,6 @@ pub record Entry : Type 0 where
   pub dependencies_meta : List (List ℕ × DepMeta)
   pub peer_dependencies_meta : List (List ℕ × DepMeta)
   pub descriptors : List (List ℕ × List ℕ)
-
--- one part, and then the next, up to the first error
-infixl 10 ◌>>=◌
-abbrev pub ◌>>=◌ : {A B X : Type 0} → Result A X → (A → Result B X) → Result B X
-(Ok x) >>= next = next x
-(Err e) >>= next = Err e
 
 abbrev pub refuse_if : Bool → LockCause → Result (Unit {0}) LockCause
 refuse_if true cause = Err cause

@@ -1,5 +1,5 @@
-use Rattle.pnp_core.proofs.Payloads.{after_word-strip_prefix}
+use Rattle.pnp_core.proofs.Payloads.{after-strip_prefix}
 use Rattle.pnp_core.proofs.payload.after_word.Goals as goal
 
 pub returns : goal.returns
-returns c = after_word-strip_prefix c.args.word.now c.args.text.now c.strip_prefix.result c.strip_prefix.ensures.cases
+returns c = after-strip_prefix c.args.word.now c.args.text.now c.strip_prefix.result c.strip_prefix.ensures.cases
