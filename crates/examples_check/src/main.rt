@@ -56,7 +56,8 @@ fn gives(alloc: Global, document: Vec<u8>, wanted: &[u8]) -> Result<bool, AllocE
 
 // What the program writes for the document, where that is written whole.
 fn written(alloc: Global, document: Vec<u8>, room: usize) -> Result<Option<PlainSink>, AllocError>
-    ensures { IfOk result (λ sink. IfSome sink (λ sink. sink.written ≡ (reply_for document.items).1)) }
+    ensures { IfOk result (λ sink. IfSome sink (λ sink.
+        sink.written ≡ (reply_for document.items).1)) }
 {
     let words = words(alloc)?;
     let mut source = PlainSource::new(Bytes::from(document));

@@ -62,7 +62,8 @@ fn each_member<T: FromJson>(
     alloc: Global,
     members: &Map<String, Value>,
 ) -> Result<IndexMap<Text, T>, FromJsonError>
-    ensures ok { IfOk result (λ read. members_by T.reads (members_view members.now.entries) ≡ Some read.entries) }
+    ensures ok { IfOk result (λ read.
+        members_by T.reads (members_view members.now.entries) ≡ Some read.entries) }
     ensures refused { IsErrOf result OtherKind
         → members_by T.reads (members_view members.now.entries) ≡ None }
 {

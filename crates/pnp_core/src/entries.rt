@@ -61,7 +61,8 @@ impl<V: FromJson> FromJson for NullableEntries<V> {
     ghost use Rattle.pnp_core.specs.ManifestReading.{entries_of, named};
 
     ghost reads = { λ d.
-        option_map (λ pairs. entries_of (map named pairs)) (list_by (pair_by (nullable_by as_str) V.reads) d) };
+        option_map (λ pairs. entries_of (map named pairs))
+        (list_by (pair_by (nullable_by as_str) V.reads) d) };
 
     fn from_json(alloc: Global, value: &Value) -> Result<Self, FromJsonError> {
         let pairs = List::<(Option<Text>, V)>::from_json(alloc, value)?;

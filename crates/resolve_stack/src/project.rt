@@ -54,8 +54,9 @@ impl Model for Project {
 impl Project {
     /// A project of these settings.
     pub fn new(alloc: Global, settings: Settings) -> Result<Project, ProjectError>
-        ensures ok { IfOk result (λ p. p.node ≡ settings_of (path_in settings.cwd)
-            settings.target settings.alias.entries settings.preserve_symlinks settings.node_modules) }
+        ensures ok { IfOk result (λ p. p.node ≡
+            settings_of (path_in settings.cwd) settings.target settings.alias.entries
+            settings.preserve_symlinks settings.node_modules) }
         ensures clean { OnOk result (IsCleanPath settings.cwd) }
         ensures fault { IfErr result (IsFaultOf settings.cwd) }
     {

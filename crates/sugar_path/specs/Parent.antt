@@ -1,5 +1,5 @@
 -- The parent of a path: the text as far as its last component but one, as Rust's `std::path` has it.
-use Rattle.std.specs.Prelude.{ℕ, ◌||◌, ◌&&◌, Bool, true, false, cond, List, [], ◌∷◌, bytes_eq, Option, Some, None}
+use Rattle.std.specs.Prelude.{ℕ, ◌||◌, ◌&&◌, Bool, true, false, if◌then◌else◌, List, [], ◌∷◌, bytes_eq, Option, Some, None}
 use Rattle.std.specs.List.{join_with_byte}
 use Rattle.sugar_path.specs.Path.{parts}
 
@@ -14,7 +14,7 @@ is_nil (part ∷ rest) = false
 -- parts as far as the last component
 abbrev pub trimmed : List (List ℕ) → List (List ℕ)
 trimmed [] = []
-trimmed (part ∷ rest) = cond (is_nil (trimmed rest) && is_silent part) [] (part ∷ trimmed rest)
+trimmed (part ∷ rest) = if is_nil (trimmed rest) && is_silent part then [] else (part ∷ trimmed rest)
 
 abbrev pub but_last : List (List ℕ) → List (List ℕ)
 but_last [] = []

@@ -1,5 +1,5 @@
 -- Clean paths: lists of names, the last name first, and their texts.
-use Rattle.std.specs.Prelude.{◌≡◌, ◌==◌, ◌&&◌, ◌||◌, ℕ, Bool, true, false, not, cond, IsTrue, List, [], ◌∷◌, ◌++◌, bytes_eq, get_or}
+use Rattle.std.specs.Prelude.{◌≡◌, ◌==◌, ◌&&◌, ◌||◌, ℕ, Bool, true, false, not, if◌then◌else◌, IsTrue, List, [], ◌∷◌, ◌++◌, bytes_eq, get_or}
 use Rattle.std.specs.List.{AllByRecursion, slice_split}
 
 abbrev pub has_no_slash : List ℕ → Bool
@@ -44,8 +44,8 @@ IsCleanPath t = (p : Path) × IsPath p × (t ≡ text_of p)
 
 -- a `/` begins a name, and another byte is the latest name's next one
 abbrev pub with_byte : Path → ℕ → Path
-with_byte [] c = cond (c == 47) ([] ∷ []) ((c ∷ []) ∷ [])
-with_byte (n ∷ p) c = cond (c == 47) ([] ∷ n ∷ p) ((n ++ c ∷ []) ∷ p)
+with_byte [] c = if c == 47 then ([] ∷ []) else ((c ∷ []) ∷ [])
+with_byte (n ∷ p) c = if c == 47 then ([] ∷ n ∷ p) else ((n ++ c ∷ []) ∷ p)
 
 abbrev pub with_bytes : Path → List ℕ → Path
 with_bytes p [] = p
@@ -75,8 +75,9 @@ is_plain part = not (bytes_eq part []) && not (bytes_eq part (46 ∷ [])) && not
 -- a path read on by one part: an empty one and `.` stay, `..` goes to the folder above, where `/` stays, and a name goes to the child
 abbrev pub by_part : Path → List ℕ → Path
 by_part p part =
-    cond (bytes_eq part [] || bytes_eq part (46 ∷ [])) p
-    (cond (bytes_eq part (46 ∷ 46 ∷ [])) (parent p) (part ∷ p))
+    if bytes_eq part [] || bytes_eq part (46 ∷ []) then p
+    else if bytes_eq part (46 ∷ 46 ∷ []) then parent p
+    else (part ∷ p)
 
 -- a path read on by parts in order
 abbrev pub by_parts : Path → List (List ℕ) → Path
@@ -89,7 +90,7 @@ path_in t = by_parts [] (parts t)
 
 -- the path that a text names, read from a folder
 unfoldable pub clean : Path → List ℕ → Path
-clean cwd t = by_parts (cond (is_absolute t) [] cwd) (parts t)
+clean cwd t = by_parts (if is_absolute t then [] else cwd) (parts t)
 
 -- the last byte of a text is `/`
 abbrev pub ends_in_slash : List ℕ → Bool
@@ -99,11 +100,11 @@ ends_in_slash (c ∷ d ∷ cs) = ends_in_slash (d ∷ cs)
 
 -- a base that is empty or ends in `/` needs no `/` before what follows
 abbrev pub with_slash : List ℕ → List ℕ
-with_slash b = cond (bytes_eq b [] || ends_in_slash b) b (b ++ 47 ∷ [])
+with_slash b = if bytes_eq b [] || ends_in_slash b then b else (b ++ 47 ∷ [])
 
 -- one text behind another, as a path behind a folder: an absolute one stands alone
 abbrev pub join : List ℕ → List ℕ → List ℕ
-join b t = cond (is_absolute t) t (with_slash b ++ t)
+join b t = if is_absolute t then t else (with_slash b ++ t)
 
 -- two paths have the same names
 abbrev pub path_eq : Path → Path → Bool

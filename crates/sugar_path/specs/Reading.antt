@@ -1,5 +1,5 @@
 -- A path being read part by part.
-use Rattle.std.specs.Prelude.{◌≡◌, ◌≤◌, ℕ, ◌&&◌, Bool, true, false, cond, bytes_eq, suc, zero, List, [], ◌∷◌, ◌++◌, length}
+use Rattle.std.specs.Prelude.{◌≡◌, ◌≤◌, ℕ, ◌&&◌, Bool, true, false, if◌then◌else◌, bytes_eq, suc, zero, List, [], ◌∷◌, ◌++◌, length}
 use Rattle.sugar_path.specs.declared.reading.Reading.{Reading}
 use Rattle.sugar_path.specs.declared.normal.Climb.{Climb}
 use Rattle.sugar_path.specs.Path.{Path, IsPath, with_slash, is_plain, has_no_slash}
@@ -23,7 +23,8 @@ base_text (Relative ups p) = dots_text ups
 -- parts that a route's text may have: names, behind some `..` where `up` allows them
 abbrev pub are_steps : Bool → List (List ℕ) → Bool
 are_steps up [] = true
-are_steps up (part ∷ rest) = cond (is_plain part) (are_steps false rest) (up && bytes_eq part (46 ∷ 46 ∷ []) && are_steps up rest)
+are_steps up (part ∷ rest) =
+    if is_plain part then are_steps false rest else (up && bytes_eq part (46 ∷ 46 ∷ []) && are_steps up rest)
 
 -- the folder that a relative path is read from
 abbrev pub is_start : Route → Bool

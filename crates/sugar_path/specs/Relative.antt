@@ -1,5 +1,5 @@
 -- The path from one place to another, by root, parents and names.
-use Rattle.std.specs.Prelude.{ℕ, ◌-◌, ◌==◌, Bool, true, false, not, cond, List, [], ◌∷◌, ◌++◌, length, drop, bytes_eq, reverse, replicate}
+use Rattle.std.specs.Prelude.{ℕ, ◌-◌, ◌==◌, Bool, true, false, not, if◌then◌else◌, List, [], ◌∷◌, ◌++◌, length, drop, bytes_eq, reverse, replicate}
 use Rattle.std.specs.List.{join_with_byte, common_prefix_len}
 use Rattle.sugar_path.specs.Path.{join}
 use Rattle.sugar_path.specs.Route.{Route, Rooted, Relative, route_names, route_of}
@@ -28,4 +28,6 @@ needs_folder base target = not (same_start (route_of target) (route_of base))
 -- the relative path from a base to a target, which are read from a working folder where that is needed
 unfoldable pub relative_from : List ℕ → List ℕ → List ℕ → List ℕ
 relative_from cwd base target =
-    cond (needs_folder base target) (way (route_of (join cwd base)) (route_of (join cwd target))) (way (route_of base) (route_of target))
+    if needs_folder base target
+    then way (route_of (join cwd base)) (route_of (join cwd target))
+    else way (route_of base) (route_of target)

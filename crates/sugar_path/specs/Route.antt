@@ -1,5 +1,5 @@
 -- What a path says, absolute or not: its root, the folders that it first goes up, and its names.
-use Rattle.std.specs.Prelude.{Bool, true, false, ℕ, ◌+◌, ◌&&◌, ◌||◌, not, cond, List, [], ◌∷◌, ◌++◌, bytes_eq, reverse, replicate}
+use Rattle.std.specs.Prelude.{Bool, true, false, ℕ, ◌+◌, ◌&&◌, ◌||◌, not, if◌then◌else◌, List, [], ◌∷◌, ◌++◌, bytes_eq, reverse, replicate}
 use Rattle.std.specs.List.{join_with_byte}
 use Rattle.sugar_path.specs.Path.{Path, parent, is_absolute, parts, ends_in_slash, join}
 
@@ -34,8 +34,9 @@ route_parts (Relative ups p) = replicate ups (46 ∷ 46 ∷ []) ++ reverse p
 -- a route read on by one part: an empty one and `.` stay, `..` goes up, and a name goes down
 abbrev pub route_by_part : Route → List ℕ → Route
 route_by_part r part =
-    cond (bytes_eq part [] || bytes_eq part (46 ∷ [])) r
-    (cond (bytes_eq part (46 ∷ 46 ∷ [])) (route_up r) (route_down r part))
+    if bytes_eq part [] || bytes_eq part (46 ∷ []) then r
+    else if bytes_eq part (46 ∷ 46 ∷ []) then route_up r
+    else route_down r part
 
 -- a route read on by parts in order
 abbrev pub route_by_parts : Route → List (List ℕ) → Route
@@ -44,7 +45,7 @@ route_by_parts r (part ∷ rest) = route_by_parts (route_by_part r part) rest
 
 -- where a text begins: at `/`, or in some folder
 abbrev pub route_start : List ℕ → Route
-route_start t = cond (is_absolute t) (Rooted []) (Relative 0 [])
+route_start t = if is_absolute t then Rooted [] else Relative 0 []
 
 -- the route that a text names
 unfoldable pub route_of : List ℕ → Route
@@ -66,7 +67,7 @@ place t = or_dot (route_text (route_of t))
 
 -- the normal form of a path: its place, and one `/` behind it where the path ends in `/` and its place isn't the root
 unfoldable pub normal : List ℕ → List ℕ
-normal t = cond (ends_in_slash t && not (bytes_eq (place t) (47 ∷ []))) (place t ++ 47 ∷ []) (place t)
+normal t = if ends_in_slash t && not (bytes_eq (place t) (47 ∷ [])) then (place t ++ 47 ∷ []) else place t
 
 -- a path read from a folder: an absolute one stands alone
 abbrev pub from_folder : List ℕ → List ℕ → List ℕ

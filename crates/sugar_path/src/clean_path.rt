@@ -143,7 +143,8 @@ impl CleanPath {
 
     /// The last name of the path. `/` has none.
     pub fn last_name(&self) -> Option<&str>
-        ensures { MatchOption result (self.now ≡ []) (λ n. (self.now ≡ n.now ∷ parent self.now) × IsName n.now) }
+        ensures { MatchOption result (self.now ≡ [])
+            (λ n. (self.now ≡ n.now ∷ parent self.now) × IsName n.now) }
     {
         let steps = self.steps.as_str();
         match steps.rfind('/') {

@@ -10,7 +10,8 @@ use std::alloc::{AllocError, Global};
 impl CleanPath {
     /// The relative path from a base to this path. Where both are one path, it is empty.
     pub fn relative_to(&self, alloc: Global, base: &CleanPath) -> Result<Text, AllocError>
-        ensures { IfOk result (λ t. t ≡ relative_from (text_of base.now) (text_of base.now) (text_of self.now)) }
+        ensures { IfOk result (λ t.
+            t ≡ relative_from (text_of base.now) (text_of base.now) (text_of self.now)) }
     {
         let room = base.as_str().len().saturating_add(self.as_str().len());
         let mut text = String::with_capacity(alloc, room)?;

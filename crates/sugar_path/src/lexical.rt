@@ -5,7 +5,7 @@ ghost use Rattle.std.specs.Str.Lossy.{utf8_lossy};
 ghost use Rattle.std.specs.Cow.{cow_str_bytes, IsBorrowedStr};
 ghost use Rattle.sugar_path.specs.Path.{is_absolute};
 ghost use Rattle.sugar_path.specs.Route.{place, normal, from_folder};
-ghost use Rattle.sugar_path.specs.Lent.{IsWayLent};
+ghost use Rattle.sugar_path.specs.Lent.{IsNormalLent, IsPlaceLent, IsWayLent};
 ghost use Rattle.sugar_path.specs.Relative.{needs_folder, relative_from};
 ghost use Rattle.sugar_path.specs.PathTypes.{path_bytes, cow_bytes, is_borrowed, folder_of, is_known, absolute_if_known};
 
@@ -28,38 +28,37 @@ pub trait SugarPath<'a>: Sealed {
     fn normalize(self, alloc: Global) -> Result<PathCow<'a>, AllocError>
         ensures path { IfOk result (λ p. cow_bytes p ≡ normal (bytes self)) }
         ensures borrowed { IfOk result (λ p. IsTrue (is_borrowed p) ↔
-            ((IsUtf8 (bytes self) × (normal (bytes self) ≡ bytes self)) ⊎ (normal (bytes self) ≡ 46 ∷ []))) }
+            IsNormalLent (bytes self)) }
 
         // What is lent takes no memory.
-        ensures lent { ((IsUtf8 (bytes self) × (normal (bytes self) ≡ bytes self)) ⊎ (normal (bytes self) ≡ 46 ∷ [])) →
-            IsOk result };
+        ensures lent { IsNormalLent (bytes self) → IsOk result };
 
     /// The path from the root: itself, or behind the folder `cwd`, without `.`, `..`, repeated or trailing separators.
     fn absolutize_with(self, alloc: Global, cwd: Path<'_>) -> Result<PathCow<'a>, AllocError>
         requires { IsTrue (is_absolute (bytes self) || is_absolute (path_bytes cwd)) }
-        ensures path { IfOk result (λ p. cow_bytes p ≡ from_folder (path_bytes cwd.entry) (bytes self)) }
+        ensures path { IfOk result (λ p.
+            cow_bytes p ≡ from_folder (path_bytes cwd.entry) (bytes self)) }
         ensures borrowed { IfOk result (λ p. IsTrue (is_borrowed p) ↔
-            (IsTrue (is_absolute (bytes self)) × IsUtf8 (bytes self) × (place (bytes self) ≡ bytes self))) }
-        ensures lent { (IsTrue (is_absolute (bytes self)) × IsUtf8 (bytes self) × (place (bytes self) ≡ bytes self)) →
-            IsOk result };
+            IsPlaceLent (bytes self)) }
+        ensures lent { IsPlaceLent (bytes self) → IsOk result };
 
     /// As `absolutize_with`, where the working folder is known if it is needed.
     fn absolutize(self, alloc: Global, cwd: &CwdAnswer) -> Result<PathCow<'a>, AllocError>
         requires { IsTrue (is_absolute (bytes self) || is_absolute (folder_of cwd.now)) }
-        ensures path { IfOk result (λ p. cow_bytes p ≡ from_folder (folder_of cwd.now) (bytes self)) }
+        ensures path { IfOk result (λ p.
+            cow_bytes p ≡ from_folder (folder_of cwd.now) (bytes self)) }
         ensures borrowed { IfOk result (λ p. IsTrue (is_borrowed p) ↔
-            (IsTrue (is_absolute (bytes self)) × IsUtf8 (bytes self) × (place (bytes self) ≡ bytes self))) }
-        ensures lent { (IsTrue (is_absolute (bytes self)) × IsUtf8 (bytes self) × (place (bytes self) ≡ bytes self)) →
-            IsOk result };
+            IsPlaceLent (bytes self)) }
+        ensures lent { IsPlaceLent (bytes self) → IsOk result };
 
     /// As `absolutize_with`, with a fault where the working folder is needed and unknown.
     fn try_absolutize(self, alloc: Global, cwd: &CwdAnswer) -> Result<PathCow<'a>, TryError>
         requires { IsTrue (absolute_if_known cwd.now) }
-        ensures path { IfOk result (λ p. cow_bytes p ≡ from_folder (folder_of cwd.now) (bytes self)) }
+        ensures path { IfOk result (λ p.
+            cow_bytes p ≡ from_folder (folder_of cwd.now) (bytes self)) }
         ensures borrowed { IfOk result (λ p. IsTrue (is_borrowed p) ↔
-            (IsTrue (is_absolute (bytes self)) × IsUtf8 (bytes self) × (place (bytes self) ≡ bytes self))) }
-        ensures lent { (IsTrue (is_absolute (bytes self)) × IsUtf8 (bytes self) × (place (bytes self) ≡ bytes self)) →
-            IsOk result }
+            IsPlaceLent (bytes self)) }
+        ensures lent { IsPlaceLent (bytes self) → IsOk result }
         ensures no_cwd { (result ≡ Err TryError.NoCwd) ↔
             (IsTrue (not (is_absolute (bytes self))) × IsTrue (not (is_known cwd.now))) };
 
@@ -108,7 +107,8 @@ pub trait SugarPath<'a>: Sealed {
             IsWayLent (path_bytes base.entry) (bytes self)) }
         ensures lent { IsWayLent (path_bytes base.entry) (bytes self) → IsOk result }
         ensures no_cwd { (result ≡ Err TryError.NoCwd) ↔
-            (IsTrue (needs_folder (path_bytes base.entry) (bytes self)) × IsTrue (not (is_known cwd.now))) };
+            (IsTrue (needs_folder (path_bytes base.entry) (bytes self)) ×
+            IsTrue (not (is_known cwd.now))) };
 
     /// The path as text.
     fn to_slash(self) -> &'a str

@@ -25,7 +25,8 @@ pub fn common_prefix_len(left: &[u8], right: &[u8]) -> usize
 fn equal_lanes(left: &[u8], right: &[u8], at: usize) -> usize
     requires left { at + 32 ≤ length left.now }
     requires right { at + 32 ≤ length right.now }
-    ensures { result ≡ common_prefix_len nat_eq (take 32 (drop at left.now)) (take 32 (drop at right.now)) }
+    ensures { result ≡ common_prefix_len nat_eq
+        (take 32 (drop at left.now)) (take 32 (drop at right.now)) }
 {
     let differ = u8x32::from_slice(&left[at..]).simd_ne(u8x32::from_slice(&right[at..]));
     differ.to_bitmask().trailing_zeros().min(32) as usize

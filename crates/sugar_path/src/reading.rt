@@ -31,7 +31,8 @@ impl Reading {
 
     // Goes on by the parts of a path.
     fn follow_all(&mut self, path: &[u8]) -> Result<(), AllocError>
-        ensures { (r : Route) → HasRead r self.old → OnOk result (HasRead (route_by_parts r (parts path.now)) self.new) }
+        ensures { (r : Route) → HasRead r self.old →
+            OnOk result (HasRead (route_by_parts r (parts path.now)) self.new) }
     {
         for part in path.split(|b| *b == b'/') {
             self.follow(part)?;
@@ -42,7 +43,8 @@ impl Reading {
     // Goes on by one part.
     fn follow(&mut self, part: &[u8]) -> Result<(), AllocError>
         requires { IsTrue (has_no_slash part.now) }
-        ensures { (r : Route) → HasRead r self.old → OnOk result (HasRead (route_by_part r part.now) self.new) }
+        ensures { (r : Route) → HasRead r self.old →
+            OnOk result (HasRead (route_by_part r part.now) self.new) }
     {
         if part.is_empty() || part == b".".as_slice() {
             return Ok(());
@@ -64,7 +66,8 @@ impl Reading {
 
     // The text, or `.` where it is empty.
     fn into_place(self) -> Result<Vec<u8>, AllocError>
-        ensures { (r : Route) → HasRead r self → IfOk result (λ v. v.items ≡ or_dot (route_text r)) }
+        ensures { (r : Route) → HasRead r self →
+            IfOk result (λ v. v.items ≡ or_dot (route_text r)) }
     {
         let Reading { mut text, .. } = self;
         if text.is_empty() {
@@ -142,7 +145,8 @@ pub(crate) fn ends_in_slash(path: &[u8]) -> bool
 
 // Takes the last name away, but nothing of the first `base` bytes.
 fn pop_name(text: &mut Vec<u8>, base: usize)
-    ensures { (front n : List ℕ) → StandsOn base front → IsName n → text.old.items ≡ with_slash front ++ n → text.new.items ≡ front }
+    ensures { (front n : List ℕ) → StandsOn base front → IsName n →
+        text.old.items ≡ with_slash front ++ n → text.new.items ≡ front }
 {
     let slash = memrchr(b'/', text.as_slice()).unwrap_or(0);
     text.truncate(base.max(slash));

@@ -138,7 +138,8 @@ fn entry_text<'a>(
 
 // The text of the first field that has one.
 fn first_text<'a>(fields: &[&str], package_json: &'a Value) -> Option<&'a str>
-    ensures { option_copied result ≡ first_text (map (λ f. f.now) fields.now) (view package_json.now) }
+    ensures { option_copied result ≡
+        first_text (map (λ f. f.now) fields.now) (view package_json.now) }
 {
     for field in fields {
         if let Some(text) = text_at(field, package_json) {
