@@ -1,4 +1,4 @@
--- The order of search: how a request ends on a tree, as a plan of questions. `join_rows` is one text, a line for each of the join rows of docs/ORDER.md; each row stands by itself in Rows.antt.
+-- The order of search: how a request ends on a tree, as a plan of questions. `join_rows` is one text over the join rows of docs/ORDER.md, in their order; the rows stand in Rows.antt.
 use Rattle.std.specs.Prelude.{Result}
 use Rattle.tree_core.specs.Plan.{Plan}
 use Rattle.tree_core.specs.Rows.{Row, order, decided, refuses_by}

@@ -1,4 +1,4 @@
--- The rows of the order of search, each by itself, as docs/ORDER.md lists the join rows. A row gives what the next one goes on with, or ends the order.
+-- The rows of the order of search, as docs/ORDER.md lists the join rows. A row gives what the next one goes on with, or ends the order.
 use Rattle.std.specs.Prelude.{ℕ, Bool, false, ◌&&◌, if◌then◌else◌, List, [], Option, Some, None, Result, Ok, Err, is_some}
 use Rattle.sugar_path.specs.Path.{Path, text_of, clean, below}
 use Rattle.tree_core.specs.Asks.{raised}
@@ -130,12 +130,12 @@ unlocked bound = Ok bound
 abbrev pub folder_of : List ℕ → Result Path JoinRefusal
 folder_of location = if is_plain location then Ok (clean [] location) else Err NotBuilt
 
--- Join row 11: a file, and whether a rule for browsers led to it. One that a rule ignores ends the order by its name.
+-- The end of join row 11: a file, and whether a rule for browsers led to it. One that a rule hides ends the order by its name.
 abbrev pub unless_ignored : Placed → Row (Path × Bool) Resolution JoinRefusal
 unless_ignored (File f rewritten) = Done (Ok (f, rewritten))
 unless_ignored (Ignored name) = Done (Err (Ok (custom name)))
 
--- Join row 10: what is found at the location
+-- Join rows 10 and 11: what is found at the location, by the rules for it
 abbrev pub found_at : ProjectSettings → Path → Option (List ℕ) → Plan (Result Placed JoinRefusal)
 found_at project folder subpath = raised of_node (resolve_at project.node folder subpath)
 

@@ -21,8 +21,8 @@ use Rattle.swc_loader.specs.Conventions.{Conventions}
 use Rattle.swc_loader.specs.Search.{package_file}
 use Rattle.swc_loader.specs.Specifier.{begins_in}
 use Rattle.swc_loader.specs.Settings.{NodeSettings}
-use Rattle.swc_loader.specs.BrowserRules.{is_false, place_behind, file_or_specifier, source_of, hides, stands_for, rule_by, rule_of, with_rule, rules_of, browser_entries, rules_at, root, rules_if, rules_over, ruled, rule_by_target, rule_for, placed_by, ruled_file}
-use Rattle.swc_loader.specs.BrowserRulesOnTree.{places_behind, source_on, rule_by_on, rule_on, rules_on, source_asks, asks_by, entry_asks, entries_asks, entries_at, rules_at_on, rules_at_asks, root_on, root_asks, rules_if_on, rules_if_asks, rule_by_target_on, asks_by_target, rule_asks, ruled_file_on, RulesOnTree, RuleOnTree}
+use Rattle.swc_loader.specs.BrowserRules.{is_false, place_behind, file_or_specifier, source_of, hides, stands_for, rule_by, rule_of, with_rule, rules_of, browser_entries, rules_at, rules_by_target, root, rules_if, rules_over, ruled, rule_by_target, rule_for, placed_by, ruled_file}
+use Rattle.swc_loader.specs.BrowserRulesOnTree.{places_behind, source_on, rule_by_on, rule_on, rules_on, source_asks, asks_by, entry_asks, entries_asks, entries_at, rules_at_on, rules_at_asks, rules_by_target_on, rules_asks_by_target, root_on, root_asks, rules_if_on, rules_if_asks, rule_by_target_on, asks_by_target, rule_asks, ruled_file_on, RulesOnTree, RuleOnTree}
 
 answer-source : (t : Files) (c : Conventions) (r : Path) (key : List ℕ) → answer t (source_of c r key) ≡ source_on t c r key
 answer-source t c r key = by_test (begins_in key (codes "."))
@@ -100,8 +100,19 @@ asked-rules_at t c folder =
     ∙ ap (λ content. first ∷ asked t (next content)) (answer-read t (package_file folder))
     ∙ ap (λ qs. first ∷ qs) (asked-rules t c folder (entries_at t c folder))
 
+answer-rules_for : (t : Files) (env : TargetEnv) (c : Conventions) (folder : Path) → answer t (rules_by_target env c folder) ≡ rules_by_target_on t env c folder
+answer-rules_for t Browser c folder = answer-rules_at t c folder
+answer-rules_for t Node c folder = answer-done t _
+
+asked-rules_for : (t : Files) (env : TargetEnv) (c : Conventions) (folder : Path) → asked t (rules_by_target env c folder) ≡ rules_asks_by_target t env c folder
+asked-rules_for t Browser c folder = asked-rules_at t c folder
+asked-rules_for t Node c folder = asked-done {A = List Rule} t _
+
 pub rules_on_tree : RulesOnTree
-rules_on_tree = record { answers = answer-rules_at; asks = asked-rules_at }
+rules_on_tree = record {
+  answers = λ t s folder. answer-rules_for t s.target s.conventions folder;
+  asks = λ t s folder. asked-rules_for t s.target s.conventions folder;
+}
 
 answer-root : (t : Files) (p : Path) → answer t (root p) ≡ root_on t p
 unfolding root

@@ -90,6 +90,14 @@ rules_at c root = do
   content ← read (package_file root)
   rules_of c root (browser_entries c content)
 
+abbrev pub rules_by_target : TargetEnv → Conventions → Path → Plan (List Rule)
+rules_by_target Browser c folder = rules_at c folder
+rules_by_target Node c folder = Done []
+
+-- the rules of a folder's package.json by a resolver's settings: for the target Node there are none
+abbrev pub rules_for : NodeSettings → Path → Plan (List Rule)
+rules_for s folder = rules_by_target s.target s.conventions folder
+
 -- the nearest folder above a path that has a package.json
 unfoldable pub root : Path → Plan (Option Path)
 root p = do
@@ -112,7 +120,7 @@ is_source (source.File f) (source.Specifier t) = false
 is_source (source.Specifier t) (source.File f) = false
 is_source (source.Specifier t) (source.Specifier u) = bytes_eq t u
 
--- what a rule says of its source, where a later rule says something
+-- what a rule says of its source, before what later rules say of it
 abbrev pub or_later : Option Path → ModuleRule → ModuleRule
 or_later None later = Ignored
 or_later (Some f) Ignored = Ignored

@@ -20,7 +20,7 @@ use Rattle.swc_loader.specs.Conventions.{Conventions}
 use Rattle.swc_loader.specs.Search.{places, package_file}
 use Rattle.swc_loader.specs.Specifier.{begins_in}
 use Rattle.swc_loader.specs.Settings.{NodeSettings}
-use Rattle.swc_loader.specs.BrowserRules.{is_false, file_or_specifier, hides, stands_for, with_rule, browser_entries, ruled, placed_by, rules_at, rule_for, ruled_file}
+use Rattle.swc_loader.specs.BrowserRules.{is_false, file_or_specifier, hides, stands_for, with_rule, browser_entries, ruled, placed_by, rules_for, rule_for, ruled_file}
 
 -- where a text behind a root may be found
 abbrev pub places_behind : Conventions → Path → List ℕ → List Path
@@ -82,6 +82,14 @@ abbrev pub rules_at_asks : Files → Conventions → Path → List Question
 rules_at_asks t c folder =
     question.Read (text_of (package_file folder)) ∷ entries_asks t c folder (entries_at t c folder)
 
+abbrev pub rules_by_target_on : Files → TargetEnv → Conventions → Path → List Rule
+rules_by_target_on t Browser c folder = rules_at_on t c folder
+rules_by_target_on t Node c folder = []
+
+abbrev pub rules_asks_by_target : Files → TargetEnv → Conventions → Path → List Question
+rules_asks_by_target t Browser c folder = rules_at_asks t c folder
+rules_asks_by_target t Node c folder = []
+
 -- the nearest folder above a path that has a package.json
 abbrev pub root_on : Files → Path → Option Path
 root_on t p = option_map parent (first_key t (map package_file (up p)))
@@ -120,10 +128,10 @@ ruled_file_on t s f = placed_by f (rule_for_on t s f (source.File f))
 
 -- the rules of a package.json, on each tree
 pub record RulesOnTree : Type 0 where
-  pub answers : (t : Files) (c : Conventions) (folder : Path) →
-      answer t (rules_at c folder) ≡ rules_at_on t c folder
-  pub asks : (t : Files) (c : Conventions) (folder : Path) →
-      asked t (rules_at c folder) ≡ rules_at_asks t c folder
+  pub answers : (t : Files) (s : NodeSettings) (folder : Path) →
+      answer t (rules_for s folder) ≡ rules_by_target_on t s.target s.conventions folder
+  pub asks : (t : Files) (s : NodeSettings) (folder : Path) →
+      asked t (rules_for s folder) ≡ rules_asks_by_target t s.target s.conventions folder
 
 -- what the rules for a path say, on each tree
 pub record RuleOnTree : Type 0 where

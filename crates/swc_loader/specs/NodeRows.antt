@@ -105,7 +105,7 @@ base_folder importer = do
   is_file ← file importer
   Done (folder_from importer is_file)
 
--- A file that a rule led to is told from the working folder where it lies below it; any other as its row tells it.
+-- Where links are preserved, a file that a rule led to is told from the working folder if it lies below it, and any other as its row tells it.
 abbrev pub is_told_relative : NodeSettings → Bool → Path → Bool → Bool
 is_told_relative s relative f rewritten = if rewritten then below f s.cwd else relative
 
@@ -140,7 +140,7 @@ walked s base target = do
   found ← walk s.conventions s.target target (folder ∷ up folder)
   told s target true (found_or_nothing found)
 
--- Node row 8, where the walk finds nothing because `node_modules` is off
+-- Node row 8; where `node_modules` is off, nothing is found and nothing is asked
 abbrev pub by_modules : NodeSettings → List ℕ → List ℕ → Plan (Result Resolution NodeRefusal)
 by_modules s base target = if s.node_modules then walked s base target else Done (Err (NotFound target))
 

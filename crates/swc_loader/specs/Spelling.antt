@@ -37,7 +37,7 @@ abbrev pub answer_of : Option Via → Path → FileName → Resolution
 answer_of via f name =
     record { filename = name; slug = None; found = Some (record { file = text_of f; via = via }) }
 
--- A name that no file has is answered without a file.
+-- A name that isn't looked for as a file: that of one of Node's own modules, or of what a rule hides. It is answered without a file.
 abbrev pub custom : List ℕ → Resolution
 custom name = record { filename = Custom name; slug = None; found = None }
 

@@ -1,4 +1,4 @@
-//! The search for Node's modules: file candidates, folders with their entries, and the walk through `node_modules`.
+//! The search for Node's modules: file candidates, folders with their entries, the walk through `node_modules`, and the rules for browsers.
 #![tactic(auto)]
 
 mod before;

@@ -8,7 +8,7 @@ pub enum NodeRefusal {
     /// The search found no file.
     #[error("nothing is found for {text}")]
     NotFound {
-        /// The text that was searched.
+        /// What was searched: the target, or at a package's location the text behind it.
         text: Text,
     },
     /// The base is no path.

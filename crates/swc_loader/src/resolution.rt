@@ -6,7 +6,7 @@ use sugar_path::Text;
 pub enum FileName {
     /// A path, read from the project's working folder where it is relative.
     Real(Text),
-    /// A name that no file of the tree has.
+    /// A name that isn't looked for as a file: one of Node's own modules, or what a rule for browsers hides.
     Custom(Text),
     /// A source without a name.
     Anon,
@@ -45,7 +45,7 @@ impl Resolution {
     ghost use Rattle.std.specs.Prelude.{◌≡◌};
     ghost use Rattle.swc_loader.specs.Spelling.{custom};
 
-    /// The answer by a name that no file has.
+    /// The answer by a name, without a file.
     pub fn custom(name: Text) -> Resolution
         ensures { result ≡ custom name }
     {

@@ -14,7 +14,8 @@ use std::marker::Model;
 use sugar_path::{CleanPath, List, Text};
 use tree_core::{Asker, ReadError, ResolveError};
 
-/// A resolver of Node's modules: relative and absolute paths, Node's own modules, aliases, and packages in `node_modules`.
+/// A resolver of Node's modules: relative and absolute paths, Node's own modules, aliases, packages in `node_modules`, and for
+/// browsers the rules of their `browser` maps.
 #[derive(Drop)]
 pub struct NodeModulesResolver {
     cwd: CleanPath,
@@ -49,7 +50,7 @@ impl NodeModulesResolver {
     ghost use Rattle.swc_loader.specs.Settings.{settings_of};
     ghost use Rattle.swc_loader.specs.Spelling.{spelled, answered};
     ghost use Rattle.swc_loader.specs.NodeOrder.{node};
-    ghost use Rattle.swc_loader.specs.BrowserRules.{module_rule, rules_at};
+    ghost use Rattle.swc_loader.specs.BrowserRules.{module_rule, rules_for};
     ghost use Rattle.swc_loader.specs.Located.{resolve_at};
 
     /// A resolver that reads relative texts from this working folder.
@@ -136,7 +137,8 @@ impl NodeModulesResolver {
         rule_for(alloc, tree, self, importer, &about)
     }
 
-    /// The rules of the `browser` map in a folder's package.json, in the byte order of their keys.
+    /// The rules of the `browser` map in a folder's package.json, in the byte order of their keys. For the target Node there
+    /// are none, and nothing is asked.
     pub fn rules_at<R: Asker>(
         &self,
         alloc: Global,
@@ -144,9 +146,12 @@ impl NodeModulesResolver {
         root: &CleanPath,
     ) -> Result<List<Rule>, ReadError>
         ensures { Asks (R.asking tree.old) (R.asking tree.new) result
-            (rules_at self.now.conventions root.now) }
+            (rules_for self.now root.now) }
     {
-        rules_at(alloc, tree, &self.conventions, root)
+        match self.target() {
+            TargetEnv::Browser => rules_at(alloc, tree, self.conventions(), root),
+            TargetEnv::Node => Ok(List::new(alloc)),
+        }
     }
 
     /// The name that a file is answered by: its canonical name, or, where links are preserved, its path, from the working
