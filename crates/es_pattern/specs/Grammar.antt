@@ -77,7 +77,7 @@ pub data Before : Type 0 where
   character : Before
   range_or_set : Before
 
--- such a character, or the `-` with which a class begins
+-- a character of a class that isn't `-`, or the `-` with which one begins
 pub data FirstChar : Before → ℕ → List ℕ → List ℕ → Type 0 where
   other_char : {before : Before} {c : ℕ} {text rest : List ℕ} → ClassChar c text rest → FirstChar before c text rest
   first_dash : {rest : List ℕ} → FirstChar bracket 45 (codes "-" ++ rest) rest
