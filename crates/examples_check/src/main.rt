@@ -1,4 +1,4 @@
-//! Whether each document of the folder that it runs in gives the text that stands beside it: `NAME.out` for `NAME.json`.
+//! Whether each document of a folder gives the text that stands beside it: `NAME.out` for `NAME.json`. It is given the folder.
 #![tactic(auto)]
 
 ghost use Rattle.std.specs.Prelude.{◌≡◌, true, Some, IfOk, IfSome};
@@ -8,13 +8,17 @@ ghost use Rattle.cli_core.specs.Run.{reply_for};
 use cli_core::{Command, PlainSink, PlainSource, Status, run};
 use std::alloc::{AllocError, Global};
 use std::fs::Files;
-use std::{fs, io};
+use std::io::ErrorKind;
+use std::{env, fs, io};
 use sugar_path::Bytes;
 use tree_core::MemoryTree;
 
 fn main(rt: HostRuntime) -> io::Result<()> {
-    for name in documents(&rt)? {
-        let tells = if is_as_written(&rt, &name)? {
+    let Some(folder) = env::args(&rt)?.nth(1) else {
+        return Err(io::Error::from(ErrorKind::InvalidInput));
+    };
+    for name in documents(&rt, &folder)? {
+        let tells = if is_as_written(&rt, &folder, &name)? {
             "as written"
         } else {
             "differs"
@@ -25,9 +29,12 @@ fn main(rt: HostRuntime) -> io::Result<()> {
 }
 
 // The names of the documents, in order.
-fn documents(rt: &(impl Files + AllocGlobal + Clone + Drop)) -> io::Result<Vec<String>> {
+fn documents(
+    rt: &(impl Files + AllocGlobal + Clone + Drop),
+    folder: &str,
+) -> io::Result<Vec<String>> {
     let mut names = Vec::new(rt.alloc());
-    for entry in fs::read_dir(rt, ".")? {
+    for entry in fs::read_dir(rt, folder)? {
         let entry = entry?;
         if let Some(name) = entry.file_name().strip_suffix(".json") {
             names.push(String::from_str(rt.alloc(), name)?)?;
@@ -37,9 +44,9 @@ fn documents(rt: &(impl Files + AllocGlobal + Clone + Drop)) -> io::Result<Vec<S
     Ok(names)
 }
 
-fn is_as_written(rt: &(impl Files + AllocGlobal), name: &str) -> io::Result<bool> {
-    let document = fs::read(rt, format!(in rt.alloc(); "{name}.json")?)?;
-    let wanted = fs::read(rt, format!(in rt.alloc(); "{name}.out")?)?;
+fn is_as_written(rt: &(impl Files + AllocGlobal), folder: &str, name: &str) -> io::Result<bool> {
+    let document = fs::read(rt, format!(in rt.alloc(); "{folder}/{name}.json")?)?;
+    let wanted = fs::read(rt, format!(in rt.alloc(); "{folder}/{name}.out")?)?;
     Ok(gives(rt.alloc(), document, &wanted)?)
 }
 
