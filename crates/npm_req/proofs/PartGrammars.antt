@@ -1,6 +1,6 @@
 -- Partial versions and parts of ranges are read exactly where the grammar has them.
-use Rattle.std.proofs.Common.{◌≡◌, ◌≢◌, ◌<◌, ◌==◌, ◌⊎◌, inl, inr, ℕ, Bool, true, false, not, cond, List, [], ◌∷◌, ◌++◌, length, refl, sym, ap, ◌∙◌, subst, Option, Some, None, Result, Ok, Err, arith, append_assoc}
-use Rattle.std.specs.Prelude.{◌&&◌, ◌||◌, codes, option_map, is_some, unwrap_or}
+use Rattle.std.proofs.Common.{◌≡◌, ◌<◌, ◌==◌, ◌⊎◌, inl, inr, ℕ, Bool, true, false, not, cond, List, [], ◌∷◌, ◌++◌, refl, sym, ap, ◌∙◌, subst, Option, Some, None, Ok, arith}
+use Rattle.std.specs.Prelude.{◌&&◌, ◌||◌, codes, option_map, unwrap_or}
 use Rattle.std.specs.Char.{digit_value, is_ascii_digit}
 use Rattle.std.specs.Fmt.{decimal}
 use Rattle.std.specs.List.{join_with_byte, list_all}
@@ -10,7 +10,6 @@ use Rattle.std.proofs.lemmas.Bool.Decides.{eqb_tells}
 use Rattle.std.proofs.lemmas.Fmt.{decimal_is_IsNumeral}
 use Rattle.std.proofs.lemmas.List.Splits.{join_with_byte-slice_split}
 use Rattle.sugar_path.specs.Front.{after}
-use Rattle.semver.specs.Identifiers.{parts_text}
 use Rattle.semver.specs.Grammar.{has_leading_zero}
 use Rattle.semver.specs.Order.{is_numeric, parts}
 use Rattle.semver.specs.Parse.{Parts}
@@ -22,7 +21,7 @@ use Rattle.npm_req.specs.Part.{Reading, after_sign, behind, operator_of, or_equa
 use Rattle.npm_req.specs.Partial as read
 use Rattle.npm_req.specs.Partial.{component, components, is_x, of_components, partial_of, without_build}
 use Rattle.npm_req.specs.Version.{semver_of}
-use Rattle.npm_req.specs.Word.{after_bars, after_word, ends_part, word}
+use Rattle.npm_req.specs.Word.{after_word, ends_part, word}
 use Rattle.npm_req.specs.declared.comparator.Comparator.{Comparator}
 use Rattle.npm_req.specs.declared.comparator.Operator.{Operator}
 use Rattle.npm_req.specs.declared.comparator.Operator.TheVariants as op

@@ -1,22 +1,22 @@
 -- Ranges are read exactly where the grammar has them.
-use Rattle.std.proofs.Common.{◌≡◌, ◌≢◌, ◌<◌, ◌≤◌, ◌+◌, ◌==◌, ◌⊎◌, inl, inr, ℕ, zero, suc, Bool, true, false, cond, List, [], ◌∷◌, ◌++◌, length, length-append, refl, sym, ap, ◌∙◌, subst, Option, Some, None, Result, Ok, Err, arith, append_assoc}
+use Rattle.std.proofs.Common.{◌≡◌, ◌<◌, ◌≤◌, ◌==◌, ◌⊎◌, inl, inr, ℕ, zero, suc, Bool, true, false, cond, List, [], ◌∷◌, ◌++◌, length, length-append, refl, sym, ap, ◌∙◌, subst, Option, Some, None, Result, Ok, Err, arith}
 use Rattle.std.specs.Prelude.{◌&&◌, ◌||◌, codes, is_some, option_and_then, option_map}
 use Rattle.std.specs.List.{list_all}
 use Rattle.sugar_path.specs.Front.{after}
 use Rattle.semver.specs.Parse.{digits_from}
 use Rattle.npm_req.specs.Comparators.{comparators}
 use Rattle.npm_req.specs.Front.{after_all, is_space}
-use Rattle.npm_req.specs.Grammar.{PartialVersion, Mark, unmarked, IsPart, IsParts, no_more, further, IsHyphen, IsAlternative, in_parts, hyphened, IsRange, last, and_next, RangesAgree}
-use Rattle.npm_req.specs.Part.{Reading, part, part_with}
+use Rattle.npm_req.specs.Grammar.{unmarked, IsPart, IsParts, no_more, further, IsHyphen, IsAlternative, in_parts, hyphened, IsRange, last, and_next, RangesAgree}
+use Rattle.npm_req.specs.Part.{Reading, part}
 use Rattle.npm_req.specs.Partial.{partial_of}
-use Rattle.npm_req.specs.Range.{◌>>=◌, after_hyphen, alternative, alternative_with, alternatives, and_others, hyphen_of, parts_of, range, up_to}
+use Rattle.npm_req.specs.Range.{◌>>=◌, after_hyphen, alternative, alternative_with, alternatives, and_others, hyphen_of, parts_of, up_to}
 use Rattle.npm_req.specs.Word.{after_bars, after_word, ends_alternative, ends_part, word}
 use Rattle.npm_req.specs.declared.comparator.Comparator.{Comparator}
 use Rattle.npm_req.specs.declared.comparator.Operator.TheVariants as op
 use Rattle.npm_req.specs.declared.partial.Partial.{Partial}
 use Rattle.npm_req.proofs.Endings.{end_of_all}
 use Rattle.npm_req.proofs.Grammars.{after_all-behind, front-parts}
-use Rattle.npm_req.proofs.PartGrammars.{IsPlain, pair_same, read_pair, byte-some, mark-parts, partial-plain, partial-sound, partial-complete, part-sound, part-complete, word-parts, word-whole}
+use Rattle.npm_req.proofs.PartGrammars.{IsPlain, pair_same, byte-some, mark-parts, partial-plain, partial-sound, partial-complete, part-sound, part-complete, word-parts, word-whole}
 
 -- ---- lengths
 

@@ -2,10 +2,10 @@
 use Rattle.std.specs.Prelude.{ℕ, Bool, true, false, if◌then◌else◌, List, [], ◌∷◌, bytes_eq, Option, Some, None, codes}
 use Rattle.std.specs.Option.{option_or}
 use Rattle.std.specs.List.{fold}
-use Rattle.yarn_lock_parser.specs.ByteSet.{is_blank, is_no_colon}
+use Rattle.yarn_lock_parser.specs.ByteSet.{is_no_colon}
 use Rattle.yarn_lock_parser.specs.declared.metas.DepMeta.{DepMeta}
 use Rattle.sugar_path.specs.Front.{◌>>=◌, after}
-use Rattle.yarn_lock_parser.specs.Front.{before_optional, after_line_end, run, some_run, line_at, quoted_at, some}
+use Rattle.yarn_lock_parser.specs.Front.{before_optional, after_line_end, run, line_at, quoted_at, some}
 use Rattle.yarn_lock_parser.specs.Dependencies.{deeper, names_kind}
 
 -- which metas a heading names

@@ -1,5 +1,5 @@
 -- How an entry is kept: what most entries don't have takes no memory. Contracts of private functions alone read this.
-use Rattle.std.specs.Prelude.{◌≡◌, ℕ, Bool, ◌==◌, ◌&&◌, List, [], ◌∷◌, length}
+use Rattle.std.specs.Prelude.{ℕ, Bool, ◌==◌, ◌&&◌, List, [], ◌∷◌, length}
 use Rattle.yarn_lock_parser.specs.declared.descriptors.Descriptors.{Descriptors}
 use Rattle.yarn_lock_parser.specs.declared.descriptors.Descriptors.TheVariants.{One, Several}
 use Rattle.yarn_lock_parser.specs.declared.lists.Lists.{Lists}

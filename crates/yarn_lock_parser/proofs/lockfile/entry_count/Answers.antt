@@ -1,5 +1,5 @@
-use Rattle.std.proofs.Common.{sym, ap, length, ◌∙◌, arith, rules}
-use Rattle.yarn_lock_parser.specs.Cut.{entry_text, entry_texts}
+use Rattle.std.proofs.Common.{sym, ap, length, arith, rules}
+use Rattle.yarn_lock_parser.specs.Cut.{entry_text}
 use Rattle.yarn_lock_parser.proofs.Every.{every-none, every-more}
 use Rattle.yarn_lock_parser.proofs.Locks.{entry_text-cut, entry_text-shortens}
 use Rattle.yarn_lock_parser.proofs.lockfile.entry_count.Goals as goal
