@@ -21,7 +21,7 @@ use Rattle.swc_loader.specs.Conventions.{Conventions}
 use Rattle.swc_loader.specs.Search.{package_file}
 use Rattle.swc_loader.specs.Specifier.{begins_in}
 use Rattle.swc_loader.specs.Settings.{NodeSettings}
-use Rattle.swc_loader.specs.BrowserRules.{is_false, place_behind, file_or_specifier, source_of, hides, stands_for, rule_by, rule_of, with_rule, rules_of, browser_entries, rules_at, rules_by_target, root, rules_if, rules_over, ruled, rule_by_target, rule_for, placed_by, ruled_file}
+use Rattle.swc_loader.specs.BrowserRules.{is_false, place_behind, file_or_specifier, source_of, hidden_rule, placed_rule, rule_by, rule_of, with_rule, rules_of, browser_entries, rules_at, rules_by_target, root, rules_if, rules_over, ruled, rule_by_target, rule_for, placed_by, ruled_file}
 use Rattle.swc_loader.specs.BrowserRulesOnTree.{places_behind, source_on, rule_by_on, rule_on, rules_on, source_asks, asks_by, entry_asks, entries_asks, entries_at, rules_at_on, rules_at_asks, rules_by_target_on, rules_asks_by_target, root_on, root_asks, rules_if_on, rules_if_asks, rule_by_target_on, asks_by_target, rule_asks, ruled_file_on, RulesOnTree, RuleOnTree}
 
 answer-source : (t : Files) (c : Conventions) (r : Path) (key : List ℕ) → answer t (source_of c r key) ≡ source_on t c r key
@@ -40,16 +40,16 @@ asked-source t c r key = by_test (begins_in key (codes "."))
 
 -- the rule of a text, whatever its source
 by_text : Conventions → Path → List ℕ → Source → Plan (Option Rule)
-by_text c r text about = place_behind c r text >>= λ target. Done (stands_for about target)
+by_text c r text about = place_behind c r text >>= λ target. Done (placed_rule about target)
 
 answer-rule_by : (t : Files) (c : Conventions) (r : Path) (key : List ℕ) (text : Option (List ℕ)) (hidden : Bool) → answer t (rule_by c r key text hidden) ≡ rule_by_on t c r key text hidden
 unfolding by_text
 answer-rule_by t c r key (Some text) hidden =
     answer-then t (source_of c r key) (by_text c r text)
     ∙ ap (λ about. answer t (by_text c r text about)) (answer-source t c r key)
-    ∙ answer-made t (place_behind c r text) (stands_for (source_on t c r key))
-    ∙ ap (stands_for (source_on t c r key)) (answer-first_file t (places_behind c r text))
-answer-rule_by t c r key None true = answer-made t (source_of c r key) hides ∙ ap hides (answer-source t c r key)
+    ∙ answer-made t (place_behind c r text) (placed_rule (source_on t c r key))
+    ∙ ap (placed_rule (source_on t c r key)) (answer-first_file t (places_behind c r text))
+answer-rule_by t c r key None true = answer-made t (source_of c r key) hidden_rule ∙ ap hidden_rule (answer-source t c r key)
 answer-rule_by t c r key None false = answer-done t _
 
 answer-rule : (t : Files) (c : Conventions) (r : Path) (key : List ℕ) (d : Data) → answer t (rule_of c r key d) ≡ rule_on t c r key d
@@ -60,8 +60,8 @@ unfolding by_text
 asked-rule_by t c r key (Some text) hidden =
     asked-then t (source_of c r key) (by_text c r text)
     ∙ ap (λ qs. qs ++ asked t (by_text c r text (answer t (source_of c r key)))) (asked-source t c r key)
-    ∙ ap (λ qs. source_asks t c r key ++ qs) (asked-made t (place_behind c r text) (stands_for (answer t (source_of c r key))) ∙ asked-first_file t (places_behind c r text))
-asked-rule_by t c r key None true = asked-made t (source_of c r key) hides ∙ asked-source t c r key
+    ∙ ap (λ qs. source_asks t c r key ++ qs) (asked-made t (place_behind c r text) (placed_rule (answer t (source_of c r key))) ∙ asked-first_file t (places_behind c r text))
+asked-rule_by t c r key None true = asked-made t (source_of c r key) hidden_rule ∙ asked-source t c r key
 asked-rule_by t c r key None false = asked-done {A = Option Rule} t _
 
 asked-rule : (t : Files) (c : Conventions) (r : Path) (key : List ℕ) (d : Data) → asked t (rule_of c r key d) ≡ entry_asks t c r key d

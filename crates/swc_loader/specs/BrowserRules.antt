@@ -36,12 +36,12 @@ source_of c root key =
     else Done (source.Specifier key)
 
 -- the rule that hides its source
-abbrev pub hides : Source → Option Rule
-hides about = Some (record { source = about; target = None })
+abbrev pub hidden_rule : Source → Option Rule
+hidden_rule about = Some (record { source = about; target = None })
 
 -- the rule by which a file stands for its source; without a place there is none
-abbrev pub stands_for : Source → Option Path → Option Rule
-stands_for about target = option_map (λ f. record { source = about; target = Some f }) target
+abbrev pub placed_rule : Source → Option Path → Option Rule
+placed_rule about target = option_map (λ f. record { source = about; target = Some f }) target
 
 abbrev pub is_false : Data → Bool
 is_false null = false
@@ -56,8 +56,8 @@ abbrev pub rule_by : Conventions → Path → List ℕ → Option (List ℕ) →
 rule_by c root key (Some text) hidden = do
   about ← source_of c root key
   target ← place_behind c root text
-  Done (stands_for about target)
-rule_by c root key None true = source_of c root key >>= λ about. Done (hides about)
+  Done (placed_rule about target)
+rule_by c root key None true = source_of c root key >>= λ about. Done (hidden_rule about)
 rule_by c root key None false = Done None
 
 -- the rule of an entry

@@ -20,7 +20,7 @@ use Rattle.swc_loader.specs.Conventions.{Conventions}
 use Rattle.swc_loader.specs.Search.{places, package_file}
 use Rattle.swc_loader.specs.Specifier.{begins_in}
 use Rattle.swc_loader.specs.Settings.{NodeSettings}
-use Rattle.swc_loader.specs.BrowserRules.{is_false, file_or_specifier, hides, stands_for, with_rule, browser_entries, ruled, placed_by, rules_for, rule_for, ruled_file}
+use Rattle.swc_loader.specs.BrowserRules.{is_false, file_or_specifier, hidden_rule, placed_rule, with_rule, browser_entries, ruled, placed_by, rules_for, rule_for, ruled_file}
 
 -- where a text behind a root may be found
 abbrev pub places_behind : Conventions → Path → List ℕ → List Path
@@ -36,8 +36,8 @@ source_on t c root key =
 -- the rule of an entry, on a tree
 abbrev pub rule_by_on : Files → Conventions → Path → List ℕ → Option (List ℕ) → Bool → Option Rule
 rule_by_on t c root key (Some text) hidden =
-    stands_for (source_on t c root key) (first_key t (places_behind c root text))
-rule_by_on t c root key None true = hides (source_on t c root key)
+    placed_rule (source_on t c root key) (first_key t (places_behind c root text))
+rule_by_on t c root key None true = hidden_rule (source_on t c root key)
 rule_by_on t c root key None false = None
 
 abbrev pub rule_on : Files → Conventions → Path → List ℕ → Data → Option Rule

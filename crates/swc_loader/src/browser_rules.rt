@@ -225,7 +225,7 @@ fn entry_rule<R: Asker>(
     if let Some(text) = value.as_str() {
         let about = source_of(alloc, tree, conventions, root, key)?;
         let target = place_behind(alloc, tree, conventions, root, text)?;
-        return Ok(standing_for(about, target));
+        return Ok(placed_rule(about, target));
     }
     if !is_false(value) {
         return Ok(None);
@@ -245,8 +245,8 @@ fn is_false(value: &Value) -> bool
 }
 
 // The rule by which a file stands for a source; without a file there is none.
-fn standing_for(source: Source, target: Option<CleanPath>) -> Option<Rule>
-    ensures { result ≡ plan.stands_for source target }
+fn placed_rule(source: Source, target: Option<CleanPath>) -> Option<Rule>
+    ensures { result ≡ plan.placed_rule source target }
 {
     match target {
         Some(file) => Some(Rule {

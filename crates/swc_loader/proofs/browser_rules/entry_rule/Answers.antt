@@ -18,7 +18,7 @@ returns-in_err-target g c =
 pub returns-in-Some : goal.returns-in-Some
 returns-in-Some g c =
     let text : as_str (view c.args.value.now) ≡ Some c.in-Some.text.now = sym c.as_str.ensures ∙ ap (option_map (λ s. s.now)) c.in-Some.is in
-    by_text c.args.conventions.now c.args.root.now c.args.key.now (view c.args.value.now) text (asks_then _ c.in_ok-about.ensures (asks_then _ c.in_ok-target.ensures (asks_done c.standing_for.ensures)))
+    by_text c.args.conventions.now c.args.root.now c.args.key.now (view c.args.value.now) text (asks_then _ c.in_ok-about.ensures (asks_then _ c.in_ok-target.ensures (asks_done c.placed_rule.ensures)))
 
 pub returns-then-not-is_false : goal.returns-then-not-is_false
 returns-then-not-is_false g c =
