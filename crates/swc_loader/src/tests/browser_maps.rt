@@ -31,7 +31,8 @@ struct Mapped {
     asked: &'static str,
 }
 
-const MAPS: [Mapped; 47] = [
+// Which package.json counts, and what keys and texts mean.
+const KEYS_AND_TEXTS: [Mapped; 23] = [
     // a file that another stands for
     Mapped {
         settings: Asked::Plain,
@@ -332,6 +333,10 @@ const MAPS: [Mapped; 47] = [
         found: "/w/index.js",
         asked: " /w/package.json read:/w/package.json /w/b.js /w.js /w.ts /w.tsx /w.jsx /w.node /w/index.ts /w/index.tsx /w/index.js /w/a.js canon:/w/index.js",
     },
+];
+
+// Which rule counts, for what, and by which name its file is told.
+const RULES: [Mapped; 24] = [
     // a text whose place is nothing gives no rule
     Mapped {
         settings: Asked::Plain,
@@ -697,23 +702,45 @@ fn file_of(came: &Result<Resolution, ResolveError<NodeRefusal>>) -> &str {
     }
 }
 
+// What a request comes to, the file that was found, and the questions in order, as one text.
+fn told(alloc: Global, map: &Mapped) -> Result<String, Fail> {
+    let mut resolver = resolver(alloc, map.settings, map.alias)?;
+    let mut tree = tree(alloc, map.files, map.packages)?;
+    let mut recorder = Recorder::new(alloc, &mut tree);
+    let base = base_of(alloc, map.base)?;
+    let answer = resolver.resolve(alloc, &mut recorder, &base, map.specifier);
+    let mut told = String::from_str(alloc, file_of(&answer))?;
+    let came = came_to(alloc, answer)?;
+    told.push_str(came.as_str())?;
+    let asked = questions_in(alloc, recorder.trail())?;
+    told.push_str(asked.as_str())?;
+    Ok(told)
+}
+
+// What the table has of it.
+fn wanted(alloc: Global, map: &Mapped) -> Result<String, Fail> {
+    let mut wanted = String::from_str(alloc, map.found)?;
+    wanted.push_str(map.came)?;
+    wanted.push_str(map.asked)?;
+    Ok(wanted)
+}
+
 #[test]
-fn maps_are_read_as_the_order_has_them(rt: HostRuntime) -> Result<(), Fail> {
-    let alloc = rt.alloc();
-    for map in &MAPS {
-        let mut resolver = resolver(alloc, map.settings, map.alias)?;
-        let mut tree = tree(alloc, map.files, map.packages)?;
-        let mut recorder = Recorder::new(alloc, &mut tree);
-        let base = base_of(alloc, map.base)?;
-        let came = resolver.resolve(alloc, &mut recorder, &base, map.specifier);
-        assert_eq!(rt; file_of(&came), map.found, "{}", map.specifier);
-        assert_eq!(rt; came_to(alloc, came)?.as_str(), map.came);
-        assert_eq!(rt;
-            questions_in(alloc, recorder.trail())?.as_str(),
-            map.asked,
-            "{}",
-            map.specifier
-        );
+fn keys_and_texts_mean_what_the_order_has(rt: HostRuntime) -> Result<(), Fail> {
+    for map in &KEYS_AND_TEXTS {
+        let told = told(rt.alloc(), map)?;
+        let wanted = wanted(rt.alloc(), map)?;
+        assert_eq!(rt; told.as_str(), wanted.as_str(), "{}", map.specifier);
+    }
+    Ok(())
+}
+
+#[test]
+fn rules_count_as_the_order_has_them(rt: HostRuntime) -> Result<(), Fail> {
+    for map in &RULES {
+        let told = told(rt.alloc(), map)?;
+        let wanted = wanted(rt.alloc(), map)?;
+        assert_eq!(rt; told.as_str(), wanted.as_str(), "{}", map.specifier);
     }
     Ok(())
 }
