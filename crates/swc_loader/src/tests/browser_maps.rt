@@ -1,11 +1,10 @@
 // Browser maps, worked out by hand from docs/ORDER.md: what a request comes to by them, and its questions in order.
-use super::node_orders::{base_of, came_to};
+use super::node_orders::{base_of, came_to, resolver_of};
 use super::questions_in;
 use crate::{ModuleRule, NodeModulesResolver, NodeRefusal, Resolution, Rule, Source, TargetEnv};
-use indexmap::IndexMap;
 use std::alloc::Global;
 use std::test::Fail;
-use sugar_path::{CleanPath, Text, is_clean};
+use sugar_path::CleanPath;
 use tree_core::{MemoryTree, Recorder, ResolveError};
 
 // With which settings a request is asked.
@@ -676,19 +675,11 @@ fn resolver(
     settings: Asked,
     aliases: &[(&str, &str)],
 ) -> Result<NodeModulesResolver, Fail> {
-    let cwd = Text::of(alloc, "/w")?;
-    if !is_clean(cwd.as_str()) {
-        return Err(Fail::from("a clean working folder"));
+    match settings {
+        Asked::Plain => resolver_of(alloc, TargetEnv::Browser, aliases, false, true),
+        Asked::LinksPreserved => resolver_of(alloc, TargetEnv::Browser, aliases, true, true),
+        Asked::ForNode => resolver_of(alloc, TargetEnv::Node, aliases, false, true),
     }
-    let mut alias = IndexMap::new(alloc);
-    for (name, target) in aliases {
-        alias.insert(Text::of(alloc, name)?, Text::of(alloc, target)?)?;
-    }
-    Ok(match settings {
-        Asked::Plain => NodeModulesResolver::new(cwd, TargetEnv::Browser, alias, false),
-        Asked::LinksPreserved => NodeModulesResolver::new(cwd, TargetEnv::Browser, alias, true),
-        Asked::ForNode => NodeModulesResolver::new(cwd, TargetEnv::Node, alias, false),
-    })
 }
 
 // The file that was found for a request; no text where there is none.

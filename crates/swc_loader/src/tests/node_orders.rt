@@ -396,6 +396,22 @@ fn resolver(
     settings: Asked,
     aliases: &[(&str, &str)],
 ) -> Result<NodeModulesResolver, Fail> {
+    let target = TargetEnv::Node;
+    match settings {
+        Asked::Plain => resolver_of(alloc, target, aliases, false, true),
+        Asked::LinksPreserved => resolver_of(alloc, target, aliases, true, true),
+        Asked::WithoutModules => resolver_of(alloc, target, aliases, false, false),
+    }
+}
+
+// A resolver in `/w`.
+pub(super) fn resolver_of(
+    alloc: Global,
+    target: TargetEnv,
+    aliases: &[(&str, &str)],
+    preserve_symlinks: bool,
+    node_modules: bool,
+) -> Result<NodeModulesResolver, Fail> {
     let cwd = Text::of(alloc, "/w")?;
     if !is_clean(cwd.as_str()) {
         return Err(Fail::from("a clean working folder"));
@@ -404,12 +420,10 @@ fn resolver(
     for (name, target) in aliases {
         alias.insert(Text::of(alloc, name)?, Text::of(alloc, target)?)?;
     }
-    Ok(match settings {
-        Asked::Plain => NodeModulesResolver::new(cwd, TargetEnv::Node, alias, false),
-        Asked::LinksPreserved => NodeModulesResolver::new(cwd, TargetEnv::Node, alias, true),
-        Asked::WithoutModules => {
-            NodeModulesResolver::without_node_modules(cwd, TargetEnv::Node, alias, false)
-        }
+    Ok(if node_modules {
+        NodeModulesResolver::new(cwd, target, alias, preserve_symlinks)
+    } else {
+        NodeModulesResolver::without_node_modules(cwd, target, alias, preserve_symlinks)
     })
 }
 
