@@ -1,0 +1,6 @@
+pub mod TextParts
+pub mod Patterns
+pub mod MappedOrders
+pub mod KeptAnswers
+pub mod MappingLaws
+pub mod FirstAnswers
