@@ -2,3 +2,4 @@ pub mod Causes
 pub mod Documents
 pub mod Items
 pub mod Turns
+pub mod Floats

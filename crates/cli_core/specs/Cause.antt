@@ -1,9 +1,12 @@
 -- The causes against a document, and what a call that may find one answers.
 use Rattle.std.specs.Prelude.{◌≡◌, ℕ, List, codes, Result, Ok, Err}
 pub use Rattle.sugar_path.specs.Results.{◌>>=◌}
+use Rattle.resolve_stack.specs.declared.project.ProjectError.{ProjectError}
+use Rattle.resolve_stack.specs.declared.project.ProjectError.TheVariants as project
 use Rattle.cli_core.specs.declared.cause.Field.{Field}
 use Rattle.cli_core.specs.declared.cause.Field.TheVariants.{Cwd, Target, PreserveSymlinks, NodeModules, Alias, Ts, Lock, Files, Requests}
 use Rattle.cli_core.specs.declared.cause.Cause.{Cause}
+use Rattle.cli_core.specs.declared.cause.Cause.TheVariants.{BadProject}
 use Rattle.cli_core.specs.declared.cause.DocumentError.{DocumentError}
 use Rattle.cli_core.specs.declared.cause.DocumentError.TheVariants.{Refused, NoMemory}
 
@@ -24,3 +27,11 @@ abbrev pub Meets : {A : Type 0} → Result A DocumentError → Result A Cause �
 Meets (Ok a) wanted = wanted ≡ Ok a
 Meets (Err (Refused cause)) wanted = wanted ≡ Err cause
 Meets (Err NoMemory) wanted = Unit {0}
+
+-- the cause that settings make no project is the document's
+abbrev pub error_of : ProjectError → DocumentError
+error_of (project.SettingsFault field) = Refused (BadProject (project.SettingsFault field))
+error_of (project.EmptyTargets at) = Refused (BadProject (project.EmptyTargets at))
+error_of (project.TwoWildcards at) = Refused (BadProject (project.TwoWildcards at))
+error_of (project.ExactNeedsOne at) = Refused (BadProject (project.ExactNeedsOne at))
+error_of project.NoMemory = NoMemory

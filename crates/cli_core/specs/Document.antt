@@ -1,13 +1,12 @@
 -- What a document gives, or the first cause against it; and what is written for it.
-use Rattle.std.specs.Prelude.{ℕ, Bool, List, [], ◌∷◌, codes, map, Option, Some, None, Result, Ok, Err, if◌then◌else◌}
+use Rattle.std.specs.Prelude.{ℕ, List, [], ◌∷◌, map, Option, Some, None, option_map, Result, Ok, Err}
 use Rattle.std.specs.FinMap as finite
-use Rattle.sugar_path.specs.Path.{path_in}
 use Rattle.tree_core.specs.Plan.{answer}
-use Rattle.tree_core.specs.Tree.{Files, is_clean_path}
+use Rattle.tree_core.specs.Asks.{widened}
+use Rattle.tree_core.specs.Tree.{Files}
 use Rattle.tree_core.specs.Memory.{refusal, with_file}
-use Rattle.swc_loader.specs.Settings.{settings_of}
-use Rattle.swc_loader.specs.declared.target.TargetEnv.{TargetEnv}
-use Rattle.resolve_stack.specs.Settings.{ProjectSettings}
+use Rattle.resolve_stack.specs.Settings.{GivenSettings, ProjectSettings, project_of}
+use Rattle.resolve_stack.specs.declared.project.TsSettings.{TsSettings}
 use Rattle.resolve_stack.specs.Request.{asked_for}
 use Rattle.resolve_stack.specs.Verdict.{verdict}
 use Rattle.resolve_stack.specs.declared.verdict.Verdict.{Verdict}
@@ -18,8 +17,11 @@ use Rattle.cli_core.specs.Fields.{fields_of}
 use Rattle.cli_core.specs.Json.{json_value}
 use Rattle.cli_core.specs.Report.{verdict_lines}
 use Rattle.cli_core.specs.declared.cause.Cause.{Cause}
-use Rattle.cli_core.specs.declared.cause.Cause.TheVariants.{BadTree, SettingsFault}
+use Rattle.cli_core.specs.declared.cause.Cause.TheVariants.{BadProject, BadTree}
+use Rattle.cli_core.specs.declared.fields.Document.{Document}
+use Rattle.cli_core.specs.declared.fields.GivenSettings.{GivenSettings as Fields}
 use Rattle.cli_core.specs.declared.given.GivenFile.{GivenFile}
+use Rattle.cli_core.specs.declared.given.GivenMapping.{GivenMapping}
 use Rattle.cli_core.specs.declared.given.Request.{Request}
 
 -- the other path of a conflict
@@ -44,12 +46,24 @@ put_files t (file ∷ files) = do
   more ← put_file t file
   put_files more files
 
--- the project of a working folder, a target, aliases, and the settings `preserve_symlinks` and `node_modules`
-unfoldable pub project_of : List ℕ → TargetEnv → List (List ℕ × List ℕ) → Bool → Bool → Result ProjectSettings Cause
-project_of cwd target alias preserve_symlinks node_modules =
-    if is_clean_path cwd
-    then Ok (record { node = settings_of (path_in cwd) target alias preserve_symlinks node_modules })
-    else Err (SettingsFault (codes "cwd"))
+-- the settings of a mapping
+abbrev pub mapping_settings : GivenMapping → TsSettings
+mapping_settings m = record { base_url = m.base_url; paths = m.paths }
+
+-- the settings of a document
+abbrev pub settings_in : Fields → GivenSettings
+settings_in fields = record {
+  cwd = fields.cwd;
+  target = fields.target;
+  preserve_symlinks = fields.preserve_symlinks;
+  node_modules = fields.node_modules;
+  alias = fields.alias;
+  ts = option_map mapping_settings fields.ts;
+}
+
+-- the project of settings, or the first cause against them
+abbrev pub project_in : GivenSettings → Result ProjectSettings Cause
+project_in settings = widened BadProject (project_of settings)
 
 -- what is asked: a tree, a project and requests
 pub record Given : Type 0 where
@@ -57,13 +71,18 @@ pub record Given : Type 0 where
   pub project : ProjectSettings
   pub requests : List Request
 
+-- the fields of a document, or the first cause against them
+unfoldable pub fields_in : List ℕ → Result Document Cause
+fields_in bytes = do
+  value ← json_value bytes
+  fields_of value
+
 -- what a document asks, or the first cause against it
 unfoldable pub document : List ℕ → Result Given Cause
 document bytes = do
-  value ← json_value bytes
-  fields ← fields_of value
+  fields ← fields_in bytes
   files ← put_files finite.empty fields.files
-  project ← project_of fields.cwd fields.target fields.alias fields.preserve_symlinks fields.node_modules
+  project ← project_in (settings_in fields.settings)
   Ok (record { files = files; project = project; requests = fields.requests })
 
 -- the verdict on a request, on a tree
@@ -73,6 +92,11 @@ verdict_on t project request = answer t (verdict project (asked_for request.from
 -- the lines of the verdicts on requests, in order
 abbrev pub lines_of : Files → ProjectSettings → List Request → List ℕ
 lines_of t project requests = verdict_lines (map (verdict_on t project) requests)
+
+-- the lines of a project's verdicts, or the cause against the project
+abbrev pub lines_by : Files → List Request → Result ProjectSettings Cause → Result (List ℕ) Cause
+lines_by t requests (Ok project) = Ok (lines_of t project requests)
+lines_by t requests (Err cause) = Err cause
 
 -- the report on a document, or the first cause against it
 unfoldable pub report : List ℕ → Result (List ℕ) Cause

@@ -1,15 +1,20 @@
 -- The lines that are written: for each verdict the compact text of a JSON object whose keys stand in byte order.
-use Rattle.std.specs.Prelude.{ℕ, List, [], ◌∷◌, ◌++◌, codes, flat_map, Option, Some, None}
+use Rattle.std.specs.Prelude.{ℕ, List, [], ◌∷◌, ◌++◌, codes, decimal, map, flat_map, Option, Some, None}
 use Rattle.json.specs.Print.{quoted}
-use Rattle.serde_json.specs.Data.{Data, null, string, object, no_members, member}
+use Rattle.serde_json.specs.Data.{Data, null, string, array, object, no_members, member}
+use Rattle.serde_json.specs.View.{items_of}
 use Rattle.serde_json.specs.Written.{compact_text}
 use Rattle.swc_loader.specs.declared.resolution.FileName.{FileName}
 use Rattle.swc_loader.specs.declared.resolution.FileName.TheVariants.{Real, Custom, Anon}
 use Rattle.swc_loader.specs.declared.resolution.Found.{Found}
 use Rattle.pnp_core.specs.declared.error.HydrationCause.{HydrationCause}
-use Rattle.pnp_core.specs.declared.error.HydrationCause.TheVariants.{NotText, NoPayload, BadJson, NoTopLevel}
+use Rattle.pnp_core.specs.declared.error.HydrationCause.TheVariants.{NotText, NoPayload, BadJson, BadPattern, NoTopLevel}
+use Rattle.resolve_stack.specs.declared.project.ProjectError.{ProjectError}
+use Rattle.resolve_stack.specs.declared.project.ProjectError.TheVariants.{SettingsFault, EmptyTargets, TwoWildcards, ExactNeedsOne, NoMemory}
 use Rattle.resolve_stack.specs.declared.verdict.JoinRefusal.{JoinRefusal}
-use Rattle.resolve_stack.specs.declared.verdict.JoinRefusal.TheVariants.{FailedManifestHydration, UndeclaredDependency, Outside, NotFound, BaseNotAFile, MalformedPackage, NotBuilt}
+use Rattle.resolve_stack.specs.declared.verdict.JoinRefusal.TheVariants.{BadSpecifier, FailedManifestHydration, UndeclaredDependency, MissingPeerDependency, NotInRegistry, MalformedPackage, Archive, Outside, NotFound, BaseNotAFile}
+use Rattle.resolver_core.specs.declared.refusal.TsRefusal.{TsRefusal}
+use Rattle.resolver_core.specs.declared.refusal.TsRefusal.TheVariants.{Inner, TsFault}
 use Rattle.pnp_core.specs.declared.manifest.PackageLocator.{PackageLocator}
 use Rattle.swc_loader.specs.declared.resolution.Resolution.{Resolution}
 use Rattle.resolve_stack.specs.declared.verdict.Verdict.{Verdict}
@@ -54,6 +59,7 @@ abbrev pub cause_name : HydrationCause → List ℕ
 cause_name NotText = codes "NotText"
 cause_name NoPayload = codes "NoPayload"
 cause_name BadJson = codes "BadJson"
+cause_name BadPattern = codes "BadPattern"
 cause_name NoTopLevel = codes "NoTopLevel"
 
 abbrev pub issuer_value : PackageLocator → Data
@@ -61,19 +67,43 @@ issuer_value issuer = object
     (member (codes "name") (string issuer.name)
     (member (codes "reference") (string issuer.reference) no_members))
 
+-- a dependency that its issuer doesn't bind, by its kind
+abbrev pub dependency_value : List ℕ → List ℕ → PackageLocator → List ℕ → List ℕ → List ℕ → Data
+dependency_value kind name issuer message path request = object
+    (member (codes "dependency") (string name)
+    (member (codes "issuer") (issuer_value issuer)
+    (member (codes "kind") (string kind)
+    (member (codes "message") (string message)
+    (member (codes "path") (string path)
+    (member (codes "request") (string request) no_members))))))
+
+-- a refusal that tells no more than its kind
+abbrev pub kind_value : List ℕ → Data
+kind_value kind = object (member (codes "kind") (string kind) no_members)
+
 -- a refusal by its kind, with what it tells
 abbrev pub refusal_value : JoinRefusal → Data
+refusal_value (BadSpecifier specifier) = object
+    (member (codes "kind") (string (codes "BadSpecifier"))
+    (member (codes "specifier") (string specifier) no_members))
 refusal_value (FailedManifestHydration cause manifest) = object
     (member (codes "cause") (string (cause_name cause))
     (member (codes "kind") (string (codes "FailedManifestHydration"))
     (member (codes "manifest") (string manifest) no_members)))
-refusal_value (UndeclaredDependency undeclared) = object
-    (member (codes "dependency") (string undeclared.dependency_name)
-    (member (codes "issuer") (issuer_value undeclared.issuer_locator)
-    (member (codes "kind") (string (codes "UndeclaredDependency"))
-    (member (codes "message") (string undeclared.message)
-    (member (codes "path") (string undeclared.issuer_path)
-    (member (codes "request") (string undeclared.request) no_members))))))
+refusal_value (UndeclaredDependency told) =
+    dependency_value (codes "UndeclaredDependency") told.dependency_name told.issuer_locator told.message told.issuer_path told.request
+refusal_value (MissingPeerDependency told) =
+    dependency_value (codes "MissingPeerDependency") told.dependency_name told.issuer_locator told.message told.issuer_path told.request
+refusal_value (NotInRegistry name reference) = object
+    (member (codes "kind") (string (codes "NotInRegistry"))
+    (member (codes "name") (string name)
+    (member (codes "reference") (string reference) no_members)))
+refusal_value (MalformedPackage path) = object
+    (member (codes "kind") (string (codes "MalformedPackage"))
+    (member (codes "path") (string path) no_members))
+refusal_value (Archive location) = object
+    (member (codes "kind") (string (codes "Archive"))
+    (member (codes "location") (string location) no_members))
 refusal_value (Outside file location) = object
     (member (codes "file") (string file)
     (member (codes "kind") (string (codes "Outside"))
@@ -81,17 +111,20 @@ refusal_value (Outside file location) = object
 refusal_value (NotFound text) = object
     (member (codes "kind") (string (codes "NotFound"))
     (member (codes "text") (string text) no_members))
-refusal_value BaseNotAFile =
-    object (member (codes "kind") (string (codes "BaseNotAFile")) no_members)
-refusal_value (MalformedPackage path) = object
-    (member (codes "kind") (string (codes "MalformedPackage"))
-    (member (codes "path") (string path) no_members))
-refusal_value NotBuilt = object (member (codes "kind") (string (codes "NotBuilt")) no_members)
+refusal_value BaseNotAFile = kind_value (codes "BaseNotAFile")
+
+-- the refusal of a request: that of an inner request, or of a pattern whose targets all failed, with the refusal of each one's last try
+abbrev pub refused_value : TsRefusal JoinRefusal → Data
+refused_value (Inner refusal) = refusal_value refusal
+refused_value (TsFault pattern inner) = object
+    (member (codes "inner") (array (items_of (map refusal_value inner)))
+    (member (codes "kind") (string (codes "TsFault"))
+    (member (codes "pattern") (string pattern) no_members)))
 
 abbrev pub verdict_value : Verdict → Data
 verdict_value (Answered answer) = answer_value answer
 verdict_value (Refused refusal) =
-    object (member (codes "refused") (refusal_value refusal) no_members)
+    object (member (codes "refused") (refused_value refusal) no_members)
 
 -- the line of a verdict
 unfoldable pub verdict_line : Verdict → List ℕ
@@ -101,6 +134,14 @@ verdict_line verdict = compact_text (verdict_value verdict) ++ 10 ∷ []
 abbrev pub verdict_lines : List Verdict → List ℕ
 verdict_lines verdicts = flat_map verdict_line verdicts
 
+-- why settings make no project: patterns are told by their number. No document is refused for want of memory
+abbrev pub project_cause : ProjectError → List ℕ
+project_cause (SettingsFault field) = codes "SettingsFault " ++ field
+project_cause (EmptyTargets at) = codes "EmptyTargets " ++ decimal at
+project_cause (TwoWildcards at) = codes "TwoWildcards " ++ decimal at
+project_cause (ExactNeedsOne at) = codes "ExactNeedsOne " ++ decimal at
+project_cause NoMemory = codes "NoMemory"
+
 -- a cause, with its texts as JSON
 abbrev pub cause_text : Cause → List ℕ
 cause_text cause.NotJson = codes "not-json"
@@ -108,7 +149,7 @@ cause_text (cause.BadField field) = codes "bad-field " ++ name_of field
 cause_text (cause.NotBuilt field) = codes "not-built " ++ name_of field
 cause_text (cause.BadTree path None) = codes "bad-tree " ++ quoted path
 cause_text (cause.BadTree path (Some other)) = codes "bad-tree " ++ quoted path ++ 32 ∷ quoted other
-cause_text (cause.SettingsFault field) = codes "bad-project SettingsFault " ++ field
+cause_text (cause.BadProject e) = codes "bad-project " ++ project_cause e
 
 -- the line of a refused document
 unfoldable pub cause_line : Cause → List ℕ

@@ -2,6 +2,7 @@
 ghost use Rattle.std.specs.Prelude.{◌≡◌};
 ghost use Rattle.cli_core.specs.Cause.{name_of};
 
+use resolve_stack::ProjectError;
 use std::alloc::AllocError;
 use sugar_path::Text;
 
@@ -49,8 +50,8 @@ pub enum Cause {
     NotBuilt(Field),
     /// The first file that the tree refuses, and the other file on a conflict.
     BadTree { path: Text, other: Option<Text> },
-    /// The setting that isn't a clean absolute path.
-    SettingsFault { field: Text },
+    /// Why the settings make no project.
+    BadProject(ProjectError),
 }
 
 /// Why a document gives nothing.
@@ -68,5 +69,19 @@ impl From<AllocError> for DocumentError {
 
     fn from(_: AllocError) -> Self {
         DocumentError::NoMemory
+    }
+}
+
+impl From<ProjectError> for DocumentError {
+    ghost use Rattle.std.specs.Prelude.{◌≡◌};
+    ghost use Rattle.cli_core.specs.Cause.{error_of};
+
+    ghost from_gives = { λ e raised. raised ≡ error_of e };
+
+    fn from(e: ProjectError) -> Self {
+        match e {
+            ProjectError::NoMemory => DocumentError::NoMemory,
+            e => DocumentError::Refused(Cause::BadProject(e)),
+        }
     }
 }

@@ -2,44 +2,54 @@
 ghost use Rattle.std.specs.Prelude.{◌≡◌, ◌++◌, IfOk, OnErr, string_bytes};
 ghost use Rattle.std.specs.FinMap as finite;
 ghost use Rattle.std.specs.Result.{result_map_both};
+ghost use Rattle.resolve_stack.specs.Settings.{given};
 ghost use Rattle.cli_core.specs.Cause.{Meets};
-ghost use Rattle.cli_core.specs.Document.{lines_of, project_of, put_file, put_files, report, verdict_on};
+ghost use Rattle.cli_core.specs.Document.{fields_in, lines_by, lines_of, project_in, put_file, put_files, report, settings_in, verdict_on};
 ghost use Rattle.cli_core.specs.Report.{verdict_line};
 
 use crate::cause::{Cause, DocumentError};
-use crate::fields::{Document, read_fields};
+use crate::fields::{Document, GivenSettings, read_fields};
 use crate::given::{GivenFile, Request};
 use crate::json_text::read_json;
 use crate::report::line_of_verdict;
-use resolve_stack::{ImportError, Project, ProjectError, Settings, Verdict, resolve_import};
+use resolve_stack::{ImportError, Project, Settings, Verdict, resolve_import};
 use std::alloc::{AllocError, Global};
 use tree_core::{MemoryTree, PutError};
 
 /// The report on a document's bytes: the lines of the verdicts on its requests, in order; or the first cause against it.
-#[tactic(auto, unfolding(crate::specs::Document::report, crate::specs::Document::document))]
 pub fn report_for(alloc: Global, bytes: &[u8]) -> Result<String, DocumentError>
     ensures { Meets (result_map_both string_bytes (λ e. e) result) (report bytes.now) }
 {
-    let value = read_json(alloc, bytes)?;
     let Document {
-        cwd,
-        target,
-        preserve_symlinks,
-        node_modules,
-        alias,
+        settings,
         files,
         requests,
-    } = read_fields(alloc, &value)?;
-    let tree = tree_of(alloc, files.as_slice())?;
-    let settings = Settings {
-        cwd,
-        target,
-        preserve_symlinks,
-        node_modules,
-        alias: alias.map,
-    };
-    let project = project_in(alloc, settings)?;
-    Ok(lines_on(alloc, tree, &project, requests.as_slice())?)
+    } = read_document(alloc, bytes)?;
+    let mut tree = tree_of(alloc, files.as_slice())?;
+    lines_by(alloc, &mut tree, settings, requests.as_slice())
+}
+
+// The fields of a document's bytes.
+#[tactic(auto, unfolding(crate::specs::Document::fields_in))]
+fn read_document(alloc: Global, bytes: &[u8]) -> Result<Document, DocumentError>
+    ensures { Meets result (fields_in bytes.now) }
+{
+    let value = read_json(alloc, bytes)?;
+    read_fields(alloc, &value)
+}
+
+// The lines of the verdicts by these settings.
+fn lines_by(
+    alloc: Global,
+    tree: &mut MemoryTree,
+    settings: GivenSettings,
+    requests: &[Request],
+) -> Result<String, DocumentError>
+    ensures { Meets (result_map_both string_bytes (λ e. e) result)
+        (lines_by tree.old.files requests.now (project_in (settings_in settings))) }
+{
+    let project = project_in(alloc, settings.into_settings())?;
+    Ok(lines_on(alloc, tree, &project, requests)?)
 }
 
 // The tree of a document's files.
@@ -77,36 +87,42 @@ fn put(alloc: Global, tree: &mut MemoryTree, file: &GivenFile) -> Result<(), Doc
 
 // The project of a document's settings.
 fn project_in(alloc: Global, settings: Settings) -> Result<Project, DocumentError>
-    ensures { Meets result (project_of settings.cwd settings.target settings.alias.entries
-        settings.preserve_symlinks settings.node_modules) }
+    ensures { Meets result (project_in (given settings)) }
 {
-    match Project::new(alloc, settings) {
-        Ok(project) => Ok(project),
-        Err(ProjectError::SettingsFault { field }) => {
-            Err(DocumentError::Refused(Cause::SettingsFault { field }))
-        }
-        Err(ProjectError::NoMemory) => Err(DocumentError::NoMemory),
-    }
+    Ok(Project::new(alloc, settings)?)
 }
 
 // The lines of the verdicts, in order.
 fn lines_on(
     alloc: Global,
-    tree: MemoryTree,
+    tree: &mut MemoryTree,
     project: &Project,
     requests: &[Request],
 ) -> Result<String, AllocError>
     ensures { IfOk result (λ lines.
-        string_bytes lines ≡ lines_of tree.files project.now requests.now) }
+        string_bytes lines ≡ lines_of tree.old.files project.now requests.now) }
 {
-    let mut tree = tree;
     let mut lines = String::new(alloc);
     for request in requests {
-        let verdict = verdict_of(alloc, &mut tree, project, request)?;
-        let line = line_of_verdict(alloc, &verdict)?;
+        let line = line_of(alloc, tree, project, request)?;
         lines.push_str(line.as_str())?;
     }
     Ok(lines)
+}
+
+// The line of the verdict on one request.
+fn line_of(
+    alloc: Global,
+    tree: &mut MemoryTree,
+    project: &Project,
+    request: &Request,
+) -> Result<String, AllocError>
+    ensures line { IfOk result (λ line. string_bytes line
+        ≡ verdict_line (verdict_on tree.old.files project.now request.now)) }
+    ensures files { tree.new.files ≡ tree.old.files }
+{
+    let verdict = verdict_of(alloc, tree, project, request)?;
+    line_of_verdict(alloc, &verdict)
 }
 
 // The verdict on one request. A tree in memory refuses no question.

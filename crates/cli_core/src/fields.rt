@@ -3,15 +3,17 @@ ghost use Rattle.std.specs.Prelude.{◌≡◌, codes, Option, option_map};
 ghost use Rattle.serde_json.specs.View.{view};
 ghost use Rattle.json_reading.specs.Reading.{field_by};
 ghost use Rattle.json_reading.specs.Reading as reading;
+ghost use Rattle.resolve_stack.specs.Settings.{given};
 ghost use Rattle.cli_core.specs.Cause.{Meets, name_of};
-ghost use Rattle.cli_core.specs.Fields.{fields_of, is_nothing, required, target_of, unbuilt};
+ghost use Rattle.cli_core.specs.Document.{settings_in};
+ghost use Rattle.cli_core.specs.Fields.{fields_of, is_nothing, required, settings_of, target_of, unbuilt};
 ghost use Rattle.cli_core.specs.declared.cause.Field.TheVariants.{Target};
 ghost use Rattle.swc_loader.specs.declared.target.TargetEnv.TheVariants.{Browser};
 
 use crate::cause::{Cause, DocumentError, Field};
-use crate::given::{GivenFile, Request};
+use crate::given::{GivenFile, GivenMapping, Request};
 use json_reading::{FromJson, FromJsonError, Object};
-use resolve_stack::TargetEnv;
+use resolve_stack::{Settings, TargetEnv, TsSettings};
 use serde_json::Value;
 use std::alloc::Global;
 use sugar_path::{List, Text};
@@ -19,38 +21,94 @@ use sugar_path::{List, Text};
 // A document whose fields are read.
 #[derive(Drop)]
 pub(crate) struct Document {
-    pub(crate) cwd: Text,
-    pub(crate) target: TargetEnv,
-    pub(crate) preserve_symlinks: bool,
-    pub(crate) node_modules: bool,
-    pub(crate) alias: Object<Text>,
+    pub(crate) settings: GivenSettings,
     pub(crate) files: List<GivenFile>,
     pub(crate) requests: List<Request>,
 }
 
+// The settings of a document.
+pub(crate) struct GivenSettings {
+    cwd: Text,
+    target: TargetEnv,
+    preserve_symlinks: bool,
+    node_modules: bool,
+    alias: Object<Text>,
+    ts: Option<GivenMapping>,
+}
+
+// Written out, so that letting settings go is one step of a proof.
+impl Drop for GivenSettings {
+    fn drop(self) {
+        let GivenSettings {
+            cwd: _,
+            target: _,
+            preserve_symlinks: _,
+            node_modules: _,
+            alias: _,
+            ts: _,
+        } = self;
+    }
+}
+
+impl GivenSettings {
+    // As the settings of a project.
+    pub(crate) fn into_settings(self) -> Settings
+        ensures { given result ≡ settings_in self }
+    {
+        let GivenSettings {
+            cwd,
+            target,
+            preserve_symlinks,
+            node_modules,
+            alias,
+            ts,
+        } = self;
+        Settings {
+            cwd,
+            target,
+            preserve_symlinks,
+            node_modules,
+            alias: alias.map,
+            ts: ts.map(TsSettings::from),
+        }
+    }
+}
+
 // The document that a JSON value gives.
-#[tactic(auto, unfolding(crate::specs::Fields::fields_of))]
 pub(crate) fn read_fields(alloc: Global, value: &Value) -> Result<Document, DocumentError>
     ensures { Meets result (fields_of (view value.now)) }
 {
-    let cwd: Text = field(alloc, value, Field::Cwd)?;
-    let target = target_in(value)?;
-    let preserve_symlinks = field_or(alloc, value, Field::PreserveSymlinks, false)?;
-    let node_modules = field_or(alloc, value, Field::NodeModules, true)?;
-    let alias = field_or(alloc, value, Field::Alias, Object::<Text>::new(alloc))?;
+    let settings = read_settings(alloc, value)?;
     let files: List<GivenFile> = field(alloc, value, Field::Files)?;
     let requests: List<Request> = field(alloc, value, Field::Requests)?;
     if let Some(field) = first_unbuilt(value) {
         return Err(DocumentError::Refused(Cause::NotBuilt(field)));
     }
     Ok(Document {
+        settings,
+        files,
+        requests,
+    })
+}
+
+// The settings that a JSON value gives.
+#[tactic(auto, unfolding(crate::specs::Fields::settings_of))]
+fn read_settings(alloc: Global, value: &Value) -> Result<GivenSettings, DocumentError>
+    ensures { Meets result (settings_of (view value.now)) }
+{
+    let cwd: Text = field(alloc, value, Field::Cwd)?;
+    let target = target_in(value)?;
+    let preserve_symlinks = field_or(alloc, value, Field::PreserveSymlinks, false)?;
+    let node_modules = field_or(alloc, value, Field::NodeModules, true)?;
+    let alias = field_or(alloc, value, Field::Alias, Object::<Text>::new(alloc))?;
+    let ts: Option<GivenMapping> = field_or(alloc, value, Field::Ts, None)?;
+    Ok(GivenSettings {
         cwd,
         target,
         preserve_symlinks,
         node_modules,
         alias,
-        files,
-        requests,
+        ts,
     })
 }
 
@@ -101,9 +159,6 @@ fn target_in(value: &Value) -> Result<TargetEnv, DocumentError>
 fn first_unbuilt(value: &Value) -> Option<Field>
     ensures { result ≡ unbuilt (view value.now) }
 {
-    if !has_nothing(value.get("ts")) {
-        return Some(Field::Ts);
-    }
     if !has_nothing(value.get("lock")) {
         return Some(Field::Lock);
     }

@@ -1,4 +1,4 @@
-// Reads the files and requests of a document from their JSON values.
+// Reads the files, the mapping and the requests of a document from their JSON values.
 ghost use Rattle.std.specs.Prelude.{◌≡◌, codes, Option, option_map};
 ghost use Rattle.std.specs.List.{list_all};
 ghost use Rattle.serde_json.specs.Find.{as_str};
@@ -7,10 +7,10 @@ ghost use Rattle.json_reading.specs.Reading.{ReadsAs, field_by, present_or};
 ghost use Rattle.cli_core.specs.Given.{content_of, hex_bytes, importer_of, is_lower_hex_digit};
 
 use json_reading::{FromJson, FromJsonError, field};
-use resolve_stack::FileName;
+use resolve_stack::{FileName, TsSettings};
 use serde_json::Value;
 use std::alloc::Global;
-use sugar_path::{Bytes, Text};
+use sugar_path::{Bytes, List, Text};
 
 // A file as a document gives it.
 #[derive(Drop)]
@@ -25,6 +25,13 @@ pub(crate) struct GivenFile {
 pub(crate) struct Request {
     pub(crate) from: FileName,
     pub(crate) specifier: Text,
+}
+
+// The mapping of a document: its base folder, and its patterns with their targets.
+#[derive(Drop)]
+pub(crate) struct GivenMapping {
+    pub(crate) base_url: Text,
+    pub(crate) paths: List<(Text, List<Text>)>,
 }
 
 impl FromJson for GivenFile {
@@ -134,5 +141,28 @@ fn importer(alloc: Global, value: &Value) -> Result<FileName, FromJsonError>
         Value::String(name) => Ok(FileName::Real(Text::of(alloc, name.as_str())?)),
         Value::Object(_) => Ok(FileName::Custom(field(alloc, value, "custom")?)),
         _ => Err(FromJsonError::OtherKind),
+    }
+}
+
+impl FromJson for GivenMapping {
+    ghost use Rattle.cli_core.specs.Given.{mapping_of};
+
+    ghost reads = { mapping_of };
+
+    fn from_json(alloc: Global, value: &Value) -> Result<Self, FromJsonError> {
+        let base_url: Text = field(alloc, value, "base_url")?;
+        let paths: List<(Text, List<Text>)> = field(alloc, value, "paths")?;
+        Ok(GivenMapping { base_url, paths })
+    }
+}
+
+impl From<GivenMapping> for TsSettings {
+    ghost use Rattle.cli_core.specs.Document.{mapping_settings};
+
+    ghost from_gives = { λ given settings. settings ≡ mapping_settings given };
+
+    fn from(given: GivenMapping) -> Self {
+        let GivenMapping { base_url, paths } = given;
+        TsSettings { base_url, paths }
     }
 }

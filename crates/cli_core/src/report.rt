@@ -1,12 +1,16 @@
 // Writes verdicts as lines of JSON, and the line of a refused document.
-ghost use Rattle.std.specs.Prelude.{◌≡◌, IfOk, string_bytes};
+ghost use Rattle.std.specs.Prelude.{◌≡◌, ◌++◌, IfOk, codes, map, string_bytes};
 ghost use Rattle.json.specs.Print.{quoted};
-ghost use Rattle.serde_json.specs.View.{view};
-ghost use Rattle.cli_core.specs.Report.{answer_value, cause_line, cause_name, cause_text, found_value, issuer_value, name_value, refusal_value, text_or_null, verdict_line, verdict_value, via_value};
+ghost use Rattle.serde_json.specs.Data.{array};
+ghost use Rattle.serde_json.specs.View.{items_of, view};
+ghost use Rattle.cli_core.specs.Report.{answer_value, cause_line, cause_name, cause_text, found_value, issuer_value, name_value, project_cause, refusal_value, refused_value, text_or_null, verdict_line, verdict_value, via_value};
+ghost use Rattle.resolve_stack.specs.declared.verdict.JoinRefusal.TheVariants as refusal;
 
 use crate::cause::Cause;
-use pnp_core::{HydrationCause, PackageLocator, UndeclaredDependency};
-use resolve_stack::{FileName, Found, JoinRefusal, Resolution, Verdict, Via};
+use pnp_core::{HydrationCause, MissingPeerDependency, PackageLocator, UndeclaredDependency};
+use resolve_stack::{
+    FileName, Found, JoinRefusal, ProjectError, Refusal, Resolution, TsRefusal, Verdict, Via,
+};
 use serde_json::{Value, json};
 use std::alloc::{AllocError, Global};
 use sugar_path::Text;
@@ -28,7 +32,7 @@ fn value_of_verdict(alloc: Global, verdict: &Verdict) -> Result<Value, AllocErro
     match verdict {
         Verdict::Answered(answer) => value_of_answer(alloc, answer),
         Verdict::Refused(refusal) => {
-            let refused = value_of_refusal(alloc, refusal)?;
+            let refused = value_of_refused(alloc, refusal)?;
             json!(in alloc; {"refused": refused})
         }
     }
@@ -87,54 +91,141 @@ fn value_of_via(alloc: Global, via: &Option<Via>) -> Result<Value, AllocError>
     }
 }
 
+// The refusal of a request.
+fn value_of_refused(alloc: Global, refusal: &Refusal) -> Result<Value, AllocError>
+    ensures { IfOk result (λ value. view value ≡ refused_value refusal.now) }
+{
+    match refusal {
+        TsRefusal::Inner(refusal) => value_of_refusal(alloc, refusal),
+        TsRefusal::TsFault { pattern, inner } => {
+            let inner = value_of_refusals(alloc, inner.as_slice())?;
+            json!(in alloc; {"inner": inner, "kind": "TsFault", "pattern": pattern.as_str()})
+        }
+    }
+}
+
+fn value_of_refusals(alloc: Global, refusals: &[JoinRefusal]) -> Result<Value, AllocError>
+    ensures { IfOk result (λ value. view value ≡ array (items_of (map refusal_value refusals.now))) }
+{
+    let mut values = Vec::new(alloc);
+    for refusal in refusals {
+        values.push(value_of_refusal(alloc, refusal)?)?;
+    }
+    Ok(Value::Array(values))
+}
+
 fn value_of_refusal(alloc: Global, refusal: &JoinRefusal) -> Result<Value, AllocError>
     ensures { IfOk result (λ value. view value ≡ refusal_value refusal.now) }
 {
     match refusal {
+        JoinRefusal::BadSpecifier { specifier } => value_of_specifier(alloc, specifier),
         JoinRefusal::FailedManifestHydration { cause, manifest } => {
-            json!(in alloc; {
-                "cause": name_of_cause(*cause),
-                "kind": "FailedManifestHydration",
-                "manifest": manifest.as_str()
-            })
+            value_of_manifest(alloc, *cause, manifest)
         }
-        JoinRefusal::UndeclaredDependency(undeclared) => value_of_undeclared(alloc, undeclared),
-        JoinRefusal::Outside { file, location } => {
-            json!(in alloc; {
-                "file": file.as_str(),
-                "kind": "Outside",
-                "location": location.as_str()
-            })
+        JoinRefusal::UndeclaredDependency(told) => value_of_undeclared(alloc, told),
+        JoinRefusal::MissingPeerDependency(told) => value_of_missing_peer(alloc, told),
+        JoinRefusal::NotInRegistry { name, reference } => {
+            value_of_package(alloc, name, reference)
         }
-        JoinRefusal::NotFound { text } => {
-            json!(in alloc; {"kind": "NotFound", "text": text.as_str()})
-        }
+        JoinRefusal::MalformedPackage { path } => value_of_malformed(alloc, path),
+        JoinRefusal::Archive { location } => value_of_archive(alloc, location),
+        JoinRefusal::Outside { file, location } => value_of_outside(alloc, file, location),
+        JoinRefusal::NotFound { text } => value_of_unfound(alloc, text),
         JoinRefusal::BaseNotAFile => json!(in alloc; {"kind": "BaseNotAFile"}),
-        JoinRefusal::MalformedPackage { path } => {
-            json!(in alloc; {"kind": "MalformedPackage", "path": path.as_str()})
-        }
-        JoinRefusal::NotBuilt => json!(in alloc; {"kind": "NotBuilt"}),
     }
 }
 
-ghost use Rattle.resolve_stack.specs.declared.verdict.JoinRefusal.TheVariants as refusal;
+fn value_of_specifier(alloc: Global, specifier: &Text) -> Result<Value, AllocError>
+    ensures { IfOk result (λ value.
+        view value ≡ refusal_value (refusal.BadSpecifier specifier.now)) }
+{
+    json!(in alloc; {"kind": "BadSpecifier", "specifier": specifier.as_str()})
+}
 
-fn value_of_undeclared(
+fn value_of_manifest(
     alloc: Global,
-    undeclared: &UndeclaredDependency,
+    cause: HydrationCause,
+    manifest: &Text,
 ) -> Result<Value, AllocError>
     ensures { IfOk result (λ value.
-        view value ≡ refusal_value (refusal.UndeclaredDependency undeclared.now)) }
+        view value ≡ refusal_value (refusal.FailedManifestHydration cause manifest.now)) }
 {
-    let issuer = value_of_issuer(alloc, &undeclared.issuer_locator)?;
     json!(in alloc; {
-        "dependency": undeclared.dependency_name.as_str(),
+        "cause": name_of_cause(cause),
+        "kind": "FailedManifestHydration",
+        "manifest": manifest.as_str()
+    })
+}
+
+fn value_of_undeclared(alloc: Global, told: &UndeclaredDependency) -> Result<Value, AllocError>
+    ensures { IfOk result (λ value.
+        view value ≡ refusal_value (refusal.UndeclaredDependency told.now)) }
+{
+    let issuer = value_of_issuer(alloc, &told.issuer_locator)?;
+    json!(in alloc; {
+        "dependency": told.dependency_name.as_str(),
         "issuer": issuer,
         "kind": "UndeclaredDependency",
-        "message": undeclared.message.as_str(),
-        "path": undeclared.issuer_path.as_str(),
-        "request": undeclared.request.as_str()
+        "message": told.message.as_str(),
+        "path": told.issuer_path.as_str(),
+        "request": told.request.as_str()
     })
+}
+
+fn value_of_missing_peer(alloc: Global, told: &MissingPeerDependency) -> Result<Value, AllocError>
+    ensures { IfOk result (λ value.
+        view value ≡ refusal_value (refusal.MissingPeerDependency told.now)) }
+{
+    let issuer = value_of_issuer(alloc, &told.issuer_locator)?;
+    json!(in alloc; {
+        "dependency": told.dependency_name.as_str(),
+        "issuer": issuer,
+        "kind": "MissingPeerDependency",
+        "message": told.message.as_str(),
+        "path": told.issuer_path.as_str(),
+        "request": told.request.as_str()
+    })
+}
+
+fn value_of_package(alloc: Global, name: &Text, reference: &Text) -> Result<Value, AllocError>
+    ensures { IfOk result (λ value.
+        view value ≡ refusal_value (refusal.NotInRegistry name.now reference.now)) }
+{
+    json!(in alloc; {
+        "kind": "NotInRegistry",
+        "name": name.as_str(),
+        "reference": reference.as_str()
+    })
+}
+
+fn value_of_malformed(alloc: Global, path: &Text) -> Result<Value, AllocError>
+    ensures { IfOk result (λ value.
+        view value ≡ refusal_value (refusal.MalformedPackage path.now)) }
+{
+    json!(in alloc; {"kind": "MalformedPackage", "path": path.as_str()})
+}
+
+fn value_of_archive(alloc: Global, location: &Text) -> Result<Value, AllocError>
+    ensures { IfOk result (λ value. view value ≡ refusal_value (refusal.Archive location.now)) }
+{
+    json!(in alloc; {"kind": "Archive", "location": location.as_str()})
+}
+
+fn value_of_outside(alloc: Global, file: &Text, location: &Text) -> Result<Value, AllocError>
+    ensures { IfOk result (λ value.
+        view value ≡ refusal_value (refusal.Outside file.now location.now)) }
+{
+    json!(in alloc; {
+        "file": file.as_str(),
+        "kind": "Outside",
+        "location": location.as_str()
+    })
+}
+
+fn value_of_unfound(alloc: Global, text: &Text) -> Result<Value, AllocError>
+    ensures { IfOk result (λ value. view value ≡ refusal_value (refusal.NotFound text.now)) }
+{
+    json!(in alloc; {"kind": "NotFound", "text": text.as_str()})
 }
 
 fn value_of_issuer(alloc: Global, issuer: &PackageLocator) -> Result<Value, AllocError>
@@ -150,6 +241,7 @@ fn name_of_cause(cause: HydrationCause) -> &'static str
         HydrationCause::NotText => "NotText",
         HydrationCause::NoPayload => "NoPayload",
         HydrationCause::BadJson => "BadJson",
+        HydrationCause::BadPattern => "BadPattern",
         HydrationCause::NoTopLevel => "NoTopLevel",
     }
 }
@@ -182,9 +274,23 @@ fn text_of_cause(alloc: Global, cause: &Cause) -> Result<String, AllocError>
             let other = quoted_text(alloc, other)?;
             format!(in alloc; "bad-tree {path} {other}")
         }
-        Cause::SettingsFault { field } => {
+        Cause::BadProject(e) => text_of_project_error(alloc, e),
+    }
+}
+
+// Why settings make no project.
+fn text_of_project_error(alloc: Global, e: &ProjectError) -> Result<String, AllocError>
+    ensures { IfOk result (λ text.
+        string_bytes text ≡ codes "bad-project " ++ project_cause e.now) }
+{
+    match e {
+        ProjectError::SettingsFault { field } => {
             format!(in alloc; "bad-project SettingsFault {}", field.as_str())
         }
+        ProjectError::EmptyTargets { at } => format!(in alloc; "bad-project EmptyTargets {at}"),
+        ProjectError::TwoWildcards { at } => format!(in alloc; "bad-project TwoWildcards {at}"),
+        ProjectError::ExactNeedsOne { at } => format!(in alloc; "bad-project ExactNeedsOne {at}"),
+        ProjectError::NoMemory => String::from_str(alloc, "bad-project NoMemory"),
     }
 }
 

@@ -9,6 +9,7 @@ use std::test::Fail;
 use sugar_path::{Bytes, List};
 use tree_core::MemoryTree;
 
+mod mappings;
 mod node_search;
 mod refusals;
 mod trail;
@@ -41,11 +42,18 @@ fn documents() -> &'static str {
 {"cwd":"/w","files":[{"path":"/w/a","hex":"0A"}],"requests":[]}|refused: bad-field files
 {"cwd":"/w","files":[{"path":"/w/a","text":"","hex":""}],"requests":[]}|refused: bad-field files
 {"cwd":"/w","files":[],"requests":[{"specifier":"a"}]}|refused: bad-field requests
-{"cwd":"/w","ts":{},"files":[],"requests":null}|refused: bad-field requests
-{"cwd":"/w","ts":{},"files":[],"requests":[]}|refused: not-built ts
+{"cwd":"/w","ts":{},"files":null,"requests":[]}|refused: bad-field ts
+{"cwd":"/w","ts":{"base_url":"/w"},"files":[],"requests":[]}|refused: bad-field ts
+{"cwd":"/w","ts":{"base_url":"/w","paths":[["a"]]},"files":[],"requests":[]}|refused: bad-field ts
+{"cwd":"/w","ts":{"base_url":"/w","paths":[["a",["b",1]]]},"files":[],"requests":[]}|refused: bad-field ts
+{"cwd":"/w","ts":{"base_url":"w","paths":[["a",[]]]},"files":[],"requests":[]}|refused: bad-project SettingsFault base_url
+{"cwd":"w","ts":{"base_url":"w","paths":[]},"files":[],"requests":[]}|refused: bad-project SettingsFault cwd
+{"cwd":"/w","ts":{"base_url":"/w","paths":[["a",["b"]],["b",[]],["*/*",["c"]]]},"files":[],"requests":[]}|refused: bad-project EmptyTargets 1
+{"cwd":"/w","ts":{"base_url":"/w","paths":[["*/*",["c"]]]},"files":[],"requests":[]}|refused: bad-project TwoWildcards 0
+{"cwd":"/w","ts":{"base_url":"/w","paths":[["a",["b","c"]]]},"files":[],"requests":[]}|refused: bad-project ExactNeedsOne 0
 {"cwd":"/w","target":"browser","files":[],"requests":[]}|
-{"cwd":"/w","target":"node","ts":{"base_url":"/w","paths":[]},"files":[],"requests":[]}|refused: not-built ts
-{"cwd":"/w","target":"node","ts":{},"lock":"","files":[],"requests":[]}|refused: not-built ts
+{"cwd":"/w","target":"node","ts":{"base_url":"/w","paths":[]},"files":[],"requests":[]}|
+{"cwd":"/w","target":"node","ts":{},"lock":"","files":[],"requests":[]}|refused: bad-field ts
 {"cwd":"/w","target":"node","lock":"","files":[],"requests":[]}|refused: not-built lock
 {"cwd":"/w","target":"node","lock":"","files":[{"path":"a","text":""}],"requests":[]}|refused: not-built lock
 {"cwd":"w","target":"node","files":[{"path":"a","text":""}],"requests":[]}|refused: bad-tree "a"
@@ -62,6 +70,14 @@ fn documents() -> &'static str {
 {"cwd":"/w","files":[{"path":"/w/.pnp.cjs","text":"hydrateRuntimeState(JSON.parse('{\"dependencyTreeRoots\":[],\"enableTopLevelFallback\":false,\"fallbackExclusionList\":[],\"fallbackPool\":[],\"packageRegistryData\":[[null,[[null,{\"packageLocation\":\"./\",\"packageDependencies\":[[\"q\",\"1\"]]}]]],[\"q\",[[\"1\",{\"packageLocation\":\"./q/\",\"packageDependencies\":[]}]]]]}'"},{"path":"/w/q/index.js","text":""},{"path":"/w/q/package.json","text":"{\"browser\":{\"./index.js\":false}}"}],"requests":[{"from":"/w/a.js","specifier":"q"}]}|{"answer":{"custom":"/w/q/index.js"},"found":null,"slug":null}"#
 }
 
+fn words_of(alloc: Global, words: &str) -> Result<Vec<String>, AllocError> {
+    let mut split = Vec::new(alloc);
+    for word in words.split_whitespace() {
+        split.push(String::from_str(alloc, word)?)?;
+    }
+    Ok(split)
+}
+
 // The status of a run on some words.
 fn code_of<S: Source, K: Sink>(
     alloc: Global,
@@ -69,11 +85,9 @@ fn code_of<S: Source, K: Sink>(
     source: &mut S,
     sink: &mut K,
 ) -> Result<u8, AllocError> {
-    let mut split = Vec::new(alloc);
-    for word in words.split_whitespace() {
-        split.push(String::from_str(alloc, word)?)?;
-    }
-    Ok(run(alloc, &split, source, sink, &mut MemoryTree::new(alloc)).code())
+    let split = words_of(alloc, words)?;
+    let mut tree = MemoryTree::new(alloc);
+    Ok(run(alloc, &split, source, sink, &mut tree).code())
 }
 
 // Whether a run on some words and a document ends with a status and has written a text.
@@ -85,8 +99,29 @@ pub(crate) fn comes_to(
     written: &str,
 ) -> Result<bool, AllocError> {
     let mut source = PlainSource::new(Bytes::of(alloc, document)?);
+    ends_with(alloc, words, &mut source, code, written)
+}
+
+fn ends_with(
+    alloc: Global,
+    words: &str,
+    source: &mut PlainSource,
+    code: u8,
+    written: &str,
+) -> Result<bool, AllocError> {
     let mut sink = PlainSink::new(alloc, 4096)?;
-    let came = code_of(alloc, words, &mut source, &mut sink)?;
+    writes(alloc, words, source, &mut sink, code, written)
+}
+
+fn writes(
+    alloc: Global,
+    words: &str,
+    source: &mut PlainSource,
+    sink: &mut PlainSink,
+    code: u8,
+    written: &str,
+) -> Result<bool, AllocError> {
+    let came = code_of(alloc, words, source, sink)?;
     Ok(came == code && sink.written() == written.as_bytes())
 }
 
@@ -122,7 +157,7 @@ fn each_cause_has_its_line(rt: HostRuntime) -> Result<(), Fail> {
         assert!(rt; came, "at {document}");
         tried = tried.saturating_add(1);
     }
-    assert_eq!(rt; tried, 35);
+    assert_eq!(rt; tried, 42);
     Ok(())
 }
 
@@ -152,14 +187,20 @@ fn other_words_are_no_command(rt: HostRuntime) -> Result<(), Fail> {
     Ok(())
 }
 
-// The status of the bare name with a source that refuses one read.
+// The bare name's document, whose source refuses one read.
+fn source_with_read_refused(alloc: Global, read: u64) -> Result<BytesSource, AllocError> {
+    let refused = vec![in alloc; read]?;
+    let document = Bytes::of(alloc, bare_name().as_bytes())?;
+    Ok(BytesSource::new(document, List::from(refused)))
+}
+
+// The status of the bare name with such a source.
 fn code_with_read_refused(
     alloc: Global,
     read: u64,
     sink: &mut PlainSink,
 ) -> Result<u8, AllocError> {
-    let document = Bytes::of(alloc, bare_name().as_bytes())?;
-    let mut source = BytesSource::new(document, List::from(vec![in alloc; read]?));
+    let mut source = source_with_read_refused(alloc, read)?;
     code_of(alloc, "resolve", &mut source, sink)
 }
 
@@ -175,16 +216,43 @@ fn a_source_fails_at_each_read(rt: HostRuntime) -> Result<(), Fail> {
     Ok(())
 }
 
-// The status of the bare name with a sink that has some room and refuses one write.
+// A sink that has some room and refuses one write.
+fn sink_with_write_refused(
+    alloc: Global,
+    room: usize,
+    write: u64,
+) -> Result<BytesSink, AllocError> {
+    let refused = vec![in alloc; write]?;
+    BytesSink::new(alloc, room, List::from(refused))
+}
+
+// The status of the bare name with such a sink, where it has a text written.
 fn code_with_write_refused(
     alloc: Global,
     room: usize,
     write: u64,
     written: &str,
 ) -> Result<Option<u8>, AllocError> {
+    let mut sink = sink_with_write_refused(alloc, room, write)?;
+    code_where_written(alloc, &mut sink, written)
+}
+
+fn code_where_written(
+    alloc: Global,
+    sink: &mut BytesSink,
+    written: &str,
+) -> Result<Option<u8>, AllocError> {
     let mut source = PlainSource::new(Bytes::of(alloc, bare_name().as_bytes())?);
-    let mut sink = BytesSink::new(alloc, room, List::from(vec![in alloc; write]?))?;
-    let code = code_of(alloc, "resolve", &mut source, &mut sink)?;
+    code_and_text(alloc, &mut source, sink, written)
+}
+
+fn code_and_text(
+    alloc: Global,
+    source: &mut PlainSource,
+    sink: &mut BytesSink,
+    written: &str,
+) -> Result<Option<u8>, AllocError> {
+    let code = code_of(alloc, "resolve", source, sink)?;
     Ok((sink.written() == written.as_bytes()).then_some(code))
 }
 

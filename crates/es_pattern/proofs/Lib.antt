@@ -29,3 +29,5 @@ pub mod Moves
 pub mod Placing
 pub mod Placed
 pub mod Refusing
+pub mod Founds
+pub mod Accepting

@@ -1,4 +1,4 @@
--- Public clauses cite Tree, Spans, Pieces, Grammar, Faults and Stored, with Places, Limits, Forms and Escapes, on which those stand. The other files are for contracts of private functions.
+-- Public clauses cite Tree, Spans, Found, Pieces, Grammar, Faults, Accepted, Laws and Stored, with Places, Limits, Forms, Escapes, Reading and Refusals, on which those stand. The other files are for contracts of private functions.
 pub mod Tree
 pub mod Spans
 pub mod Pieces
@@ -9,6 +9,9 @@ pub mod Limits
 pub mod Forms
 pub mod Places
 pub mod Faults
+pub mod Found
+pub mod Accepted
+pub mod Laws
 -- for private functions
 pub mod Size
 pub mod Begins

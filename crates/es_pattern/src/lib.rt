@@ -17,6 +17,7 @@ mod braces;
 mod compile;
 mod error;
 mod escape;
+pub mod laws;
 mod mode;
 mod number_set;
 mod parse;

@@ -1,10 +1,12 @@
 // A pattern, and whether it is found.
-ghost use Rattle.std.specs.Prelude.{◌≡◌, List, IfOk, IfErr, OnOk, ◌↔◌, IsTrue};
+ghost use Rattle.std.specs.Prelude.{◌≡◌, ◌⊎◌, ◌↔◌, List, Some, None, IfOk, IfErr, OnOk, IsTrue};
 ghost use Rattle.std.specs.Str.{chars};
 ghost use Rattle.es_pattern.specs.Spans.{IsFound};
 ghost use Rattle.es_pattern.specs.Tree.{Tree};
 ghost use Rattle.es_pattern.specs.Pieces.{tree_of, with_piece};
+ghost use Rattle.es_pattern.specs.Accepted.{pattern_of};
 ghost use Rattle.es_pattern.specs.declared.error.PatternError.{PatternError};
+ghost use Rattle.es_pattern.specs.declared.error.PatternError.TheVariants.{NoMemory};
 ghost use Rattle.es_pattern.specs.Faults.{FailsBy, IsCaused, IsClear, IsFirstFault, IsWithinLimits, Succeeds};
 ghost use Rattle.es_pattern.specs.Grammar.{IsPattern};
 
@@ -83,6 +85,10 @@ impl Pattern {
         ensures one_tree { (tree : Tree) → IsPattern (chars text.now) tree
             → IfOk result (λ pattern. pattern ≡ tree) }
         ensures clear { OnOk result (IsClear (chars text.now)) }
+        // So it is the text's pattern, and what is refused has none.
+        ensures reads { IfOk result (λ pattern. pattern_of (chars text.now) ≡ Some pattern) }
+        ensures none { IfErr result
+            (λ e. (pattern_of (chars text.now) ≡ None) ⊎ (e ≡ NoMemory)) }
         // Each text of the grammar within the limits is accepted.
         ensures accepts { (tree : Tree) → IsPattern (chars text.now) tree
             → IsWithinLimits (chars text.now) → Succeeds result }

@@ -1,6 +1,7 @@
 pub mod Slashes
 pub mod Tries
 pub mod Owners
+pub mod Ignored
 pub mod Ownerships
 pub mod Walking
 pub mod Payloads
@@ -9,3 +10,5 @@ pub mod Relocations
 pub mod Hydrations
 pub mod PathForms
 pub mod OnTrees
+pub mod VirtualPaths
+pub mod Findings

@@ -4,13 +4,14 @@ use Rattle.std.specs.List.{AllByRecursion, Contains}
 use Rattle.std.proofs.lemmas.List.{length-append}
 use Rattle.std.proofs.lemmas.List.Prefix.{end_rest}
 use Rattle.std.proofs.lemmas.List.Elements.{All-from_recursion, All-contains, Contains-append_right}
-use Rattle.sugar_path.specs.Path.{Path, path_eq}
+use Rattle.sugar_path.specs.Path.{Path, path_eq, text_of}
 use Rattle.sugar_path.specs.PathEq.{path_eq-Decides}
 use Rattle.pnp_core.specs.declared.manifest.PackageLocator.{PackageLocator}
 use Rattle.std.specs.Option.{option_or}
 use Rattle.pnp_core.specs.Manifest.{Contents, Row, rows}
-use Rattle.pnp_core.specs.Owner.{owns, last_at, nearest_owner, owner}
-use Rattle.pnp_core.specs.Ownership.{names, row_location, IsComponentPrefix, Claims, Owns, OwnerOwns}
+use Rattle.pnp_core.specs.Owner.{owns, last_at, nearest_owner, is_ignored, owner}
+use Rattle.pnp_core.specs.Ownership.{names, row_location, IsComponentPrefix, Claims, IsIgnored, Owns, OwnerOwns}
+use Rattle.pnp_core.proofs.Ignored.{ignored-tells, ignored-from}
 
 -- ---- facts of each element
 
@@ -169,11 +170,16 @@ IsNoLonger p k other = Claims other p → length (row_location other) ≤ length
 abbrev IsApart : Path → Path → Row → Type 0
 IsApart p k other = Claims other p → row_location other ≢ k
 
-owns-from_owner : (m : Contents) (p : Path) (l : PackageLocator) → owner m p ≡ Some l → Owns m p l
-owns-from_owner m p l h =
+-- the nearest location's owner, whatever is ignored
+abbrev located_owner : Contents → Path → Option PackageLocator
+located_owner m p = nearest_owner (rows m.package_registry_data) (names p)
+
+owns-located : (m : Contents) (p : Path) (l : PackageLocator) → ¬ IsIgnored m p → located_owner m p ≡ Some l → Owns m p l
+owns-located m p l watched h =
     let w = nearest_owner-some (rows m.package_registry_data) (names p) l h in
     let tells = owns-tells w.at_it.row w.location w.at_it.here in
     record {
+      watched = watched;
       earlier = w.at_it.earlier;
       row = w.at_it.row;
       later = w.at_it.later;
@@ -186,6 +192,13 @@ owns-from_owner m p l h =
   where
     apart : (q : Path) (other : Row) → owns other q ≡ false → IsApart (names p) q other
     apart q other none claims same = let here = owns-from other q claims.kept same in absurd (cc)
+
+owns-from_owner : (m : Contents) (p : Path) (l : PackageLocator) → owner m p ≡ Some l → Owns m p l
+owns-from_owner m p l h = by_test (is_ignored m (text_of p)) refl h
+  where
+    by_test : (b : Bool) → is_ignored m (text_of p) ≡ b → cond b None (located_owner m p) ≡ Some l → Owns m p l
+    by_test true e g = absurd (cc)
+    by_test false e g = owns-located m p l (λ ignored. let here = ignored-from m p ignored in absurd (cc)) g
 
 -- a row that stands in a list is an element of it
 in_list : (xs ys : List Row) (x : Row) → Contains (xs ++ x ∷ ys) x
@@ -221,15 +234,19 @@ owns-one m p k l w v = by_order (one_later w.earlier w.later v.earlier v.later w
     by_order (inr (inr later)) = absurd (All-contains (IsApart (names p) (row_location v.row)) v.later w.row v.last later w.claims (sym same_location))
 
 owner-from_owns : (m : Contents) (p : Path) (l : PackageLocator) → Owns m p l → owner m p ≡ Some l
-owner-from_owns m p l w = by_owner (owner m p) refl
+owner-from_owns m p l w = by_test (is_ignored m (text_of p)) refl
   where
-    by_owner : (o : Option PackageLocator) → owner m p ≡ o → owner m p ≡ Some l
+    by_owner : (o : Option PackageLocator) → located_owner m p ≡ o → located_owner m p ≡ Some l
     by_owner None e =
         absurd
         (All-contains (λ row. ¬ Claims row (names p)) (rows m.package_registry_data) w.row
         (All-from_recursion (λ row. ¬ Claims row (names p)) (rows m.package_registry_data) (nearest_owner-none (rows m.package_registry_data) (names p) e))
         (rw w.in_order (in_list w.earlier w.later w.row)) w.claims)
-    by_owner (Some k) e = e ∙ ap Some (owns-one m p k l (owns-from_owner m p k e) w)
+    by_owner (Some k) e = e ∙ ap Some (owns-one m p k l (owns-located m p k w.watched e) w)
+
+    by_test : (b : Bool) → is_ignored m (text_of p) ≡ b → cond b None (located_owner m p) ≡ Some l
+    by_test true e = absurd (w.watched (ignored-tells m p e))
+    by_test false e = by_owner (located_owner m p) refl
 
 unowned-from_none : (m : Contents) (p : Path) → owner m p ≡ None → (l : PackageLocator) → ¬ Owns m p l
 unowned-from_none m p h l w = let some = owner-from_owns m p l w in absurd (cc)

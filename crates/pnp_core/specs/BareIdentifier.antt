@@ -2,7 +2,7 @@
 use Rattle.std.specs.Prelude.{◌≡◌, ℕ, Bool, ◌==◌, if◌then◌else◌, List, ◌∷◌, ◌++◌, length, Option, Some, None, get_or, nat_lt}
 use Rattle.std.specs.List.{position_or_len, before_first, after_first}
 use Rattle.pnp_core.specs.declared.error.Error.{Error}
-use Rattle.pnp_core.specs.declared.error.Error.TheVariants.{BadSpecifier, FailedManifestHydration, TreeFault, NoMemory}
+use Rattle.pnp_core.specs.declared.error.Error.TheVariants.{BadSpecifier, NoMemory}
 use Rattle.pnp_core.specs.Wording.{bad_specifier}
 
 abbrev pub is_slash : ℕ → Bool
@@ -37,6 +37,5 @@ split_bare t = if is_scoped t then split_scoped t else Some (split_unscoped t)
 -- the only refusal is that of a text that isn't split
 abbrev pub IsSplitRefusal : List ℕ → Error → Type 0
 IsSplitRefusal t (BadSpecifier refused) = (split_bare t ≡ None) × (refused ≡ bad_specifier t)
-IsSplitRefusal t (FailedManifestHydration refused) = ⊥
-IsSplitRefusal t TreeFault = ⊥
 IsSplitRefusal t NoMemory = Unit {0}
+IsSplitRefusal t _ = ⊥

@@ -1,5 +1,5 @@
 -- What a package's row binds a name to.
-use Rattle.std.specs.Prelude.{ℕ, Bool, false, not, ◌&&◌, if◌then◌else◌, List, [], Option, Some, None, bytes_eq, option_and_then, is_some, ◌||◌}
+use Rattle.std.specs.Prelude.{ℕ, Bool, false, not, ◌&&◌, if◌then◌else◌, List, [], Option, Some, None, bytes_eq, option_and_then}
 use Rattle.std.specs.List.{list_any}
 use Rattle.pnp_core.specs.declared.manifest.Binding.{Binding}
 use Rattle.pnp_core.specs.declared.manifest.Binding.TheVariants.{Bound, MissingPeer, Undeclared}
@@ -60,7 +60,3 @@ abbrev pub bind : Contents → PackageLocator → List ℕ → Binding
 bind m o name =
     bound_or (unbound (own m o name)) name
     (option_or (given (own m o name)) (allowed_fallback m o name))
-
--- the owner's own row binds the name, or no fallback is allowed: its row alone decides
-abbrev pub is_settled : Contents → PackageLocator → List ℕ → Bool
-is_settled m o name = is_some (given (own m o name)) || not (may_fall_back m o)

@@ -11,9 +11,16 @@ pub mod Trie
 pub mod Located
 pub mod Binding
 pub mod Wording
+pub mod VirtualPath
+pub mod Segments
+pub mod VirtualLaws
+pub mod PhysicalPlace
 pub mod Relocated
 pub mod Refusal
 pub mod Nearest
 pub mod Loading
+pub mod Finding
+pub mod Unqualified
 pub mod OnTree
+pub mod FindingOnTree
 pub mod Laws

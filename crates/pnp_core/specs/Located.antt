@@ -1,5 +1,5 @@
 -- What a contract sees of a manifest, and what its locations hold.
-use Rattle.std.specs.Prelude.{◌≡◌, IsTrue, map}
+use Rattle.std.specs.Prelude.{◌≡◌, IsTrue, map, option_map}
 use Rattle.sugar_path.specs.Path.{Path, IsPath, is_absolute}
 use Rattle.pnp_core.specs.declared.manifest.Manifest.TheInside.{Inside}
 use Rattle.pnp_core.specs.Manifest.{Contents, rows}
@@ -11,7 +11,7 @@ contents_of m = record {
   manifest_dir = m.manifest_dir;
   manifest_path = m.manifest_path;
   enable_top_level_fallback = m.enable_top_level_fallback;
-  ignore_pattern_data = m.ignore_pattern_data;
+  ignore_pattern_data = option_map (λ r. r.0) m.ignore_pattern_data;
   dependency_tree_roots = m.dependency_tree_roots.keys;
   fallback_pool = m.fallback_pool.entries;
   fallback_exclusion_list = map (λ e. (e.0, e.1.keys)) m.fallback_exclusion_list.entries;

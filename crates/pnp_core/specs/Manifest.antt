@@ -1,6 +1,7 @@
 -- What a manifest says, as lists in the order of its payload.
 use Rattle.std.specs.Prelude.{ℕ, Bool, ◌&&◌, List, [], Option, Some, map, flat_map, bytes_eq, option_and_then, is_some}
 use Rattle.std.specs.Map.{lookup}
+use Rattle.es_pattern.specs.Tree.{Tree}
 use Rattle.pnp_core.specs.declared.manifest.PackageLocator.{PackageLocator}
 use Rattle.pnp_core.specs.declared.manifest.PackageDependency.{PackageDependency}
 
@@ -23,7 +24,7 @@ pub record Contents : Type 0 where
   pub manifest_dir : List ℕ
   pub manifest_path : List ℕ
   pub enable_top_level_fallback : Bool
-  pub ignore_pattern_data : Option (List ℕ)
+  pub ignore_pattern_data : Option Tree
   pub dependency_tree_roots : List PackageLocator
   pub fallback_pool : Dependencies
   pub fallback_exclusion_list : List (List ℕ × List (List ℕ))

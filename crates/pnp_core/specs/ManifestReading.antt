@@ -1,7 +1,7 @@
 -- The manifest that bytes are: the JSON of their payload, field by field.
-use Rattle.std.specs.Prelude.{ℕ, false, if◌then◌else◌, List, [], Option, Some, None, Result, Ok, Err, map, filter, codes, bytes_eq, is_none, option_map, unwrap_or}
+use Rattle.std.specs.Prelude.{ℕ, false, if◌then◌else◌, List, [], Option, Some, None, Result, Ok, Err, ◌≡◌, map, filter, codes, bytes_eq, is_none, option_map, unwrap_or}
 use Rattle.std.specs.Option.{option_or}
-use Rattle.std.specs.Str.{is_utf8}
+use Rattle.std.specs.Str.{is_utf8, chars}
 use Rattle.serde_json.specs.Data.{Data}
 use Rattle.serde_json.specs.Find.{as_str, as_bool}
 use Rattle.serde_json.specs.Read.{read}
@@ -13,12 +13,16 @@ use Rattle.indexmap.specs.IndexMap.{insert_all}
 use Rattle.indexmap.specs.IndexSet as set
 use Rattle.sugar_path.specs.Path.{Path, parent, text_of, join}
 use Rattle.pnp_core.specs.declared.error.HydrationCause.{HydrationCause}
-use Rattle.pnp_core.specs.declared.error.HydrationCause.TheVariants.{NotText, NoPayload, BadJson, NoTopLevel}
+use Rattle.pnp_core.specs.declared.error.HydrationCause.TheVariants.{NotText, NoPayload, BadJson, BadPattern, NoTopLevel}
 use Rattle.pnp_core.specs.declared.error.ReadManifestError.{ReadManifestError}
 use Rattle.pnp_core.specs.declared.error.ReadManifestError.TheVariants as refusal
 use Rattle.pnp_core.specs.declared.manifest.PackageLocator.{PackageLocator}
 use Rattle.pnp_core.specs.declared.manifest.PackageDependency.{PackageDependency}
 use Rattle.pnp_core.specs.declared.manifest.PackageDependency.TheVariants.{Reference, Alias}
+use Rattle.es_pattern.specs.Tree.{Tree}
+use Rattle.es_pattern.specs.Accepted.{pattern_of}
+use Rattle.es_pattern.specs.declared.error.PatternError.{PatternError}
+use Rattle.es_pattern.specs.declared.error.PatternError.TheVariants as pattern_error
 use Rattle.pnp_core.specs.NormalizePath.{normalize_path}
 use Rattle.pnp_core.specs.Payload.{payload}
 use Rattle.pnp_core.specs.Manifest.{Dependencies, Package, Registry, Contents, locator, locator_eq, top_level, at, package_at, has_row}
@@ -77,8 +81,8 @@ texts_in d = option_map (set.insert_all bytes_eq []) (list_by as_str d)
 abbrev pub exclusions_in : Data → Option (List (List ℕ × List (List ℕ)))
 exclusions_in d = option_map entries_of (list_by (pair_by as_str texts_in) d)
 
--- the fields of a manifest; others are passed over. It has no folder and no path yet
-unfoldable pub fields_in : Data → Option Contents
+-- the fields of a manifest, and the text of its ignore pattern; others are passed over. It has no folder, no path and no pattern yet
+unfoldable pub fields_in : Data → Option (Contents × Option (List ℕ))
 fields_in d = do
   fallback ← field_by (codes "enableTopLevelFallback") as_bool d
   pattern ← field_or (codes "ignorePatternData") None (nullable_by as_str) d
@@ -86,25 +90,54 @@ fields_in d = do
   pool ← field_by (codes "fallbackPool") dependencies_in d
   exclusions ← field_by (codes "fallbackExclusionList") exclusions_in d
   registry ← field_by (codes "packageRegistryData") registry_in d
-  Some (record {
-    manifest_dir = [];
-    manifest_path = [];
-    enable_top_level_fallback = fallback;
-    ignore_pattern_data = pattern;
-    dependency_tree_roots = roots;
-    fallback_pool = pool;
-    fallback_exclusion_list = exclusions;
-    package_registry_data = registry;
-  })
+  Some (
+    record {
+      manifest_dir = [];
+      manifest_path = [];
+      enable_top_level_fallback = fallback;
+      ignore_pattern_data = None;
+      dependency_tree_roots = roots;
+      fallback_pool = pool;
+      fallback_exclusion_list = exclusions;
+      package_registry_data = registry;
+    },
+    pattern,
+  )
 
--- a value with a float is no manifest
-abbrev pub manifest_in : Data → Option Contents
-manifest_in d = if has_float d then None else fields_in d
+-- a manifest gets its ignore pattern, where its text is one
+abbrev pub with_pattern : Contents → Option Tree → Result Contents HydrationCause
+with_pattern m None = Err BadPattern
+with_pattern m (Some pattern) = Ok (record m { ignore_pattern_data = Some pattern })
 
--- what a call tells that reads a manifest, by what a reader of its fields tells
+abbrev pub with_pattern_text : Contents → Option (List ℕ) → Result Contents HydrationCause
+with_pattern_text m None = Ok m
+with_pattern_text m (Some text) = with_pattern m (pattern_of (chars text))
+
+abbrev pub from_fields : Option (Contents × Option (List ℕ)) → Result Contents HydrationCause
+from_fields None = Err BadJson
+from_fields (Some read) = with_pattern_text read.0 read.1
+
+-- the manifest that a value says, or why it is none. A value with a float is none
+abbrev pub manifest_in : Data → Result Contents HydrationCause
+manifest_in d = if has_float d then Err BadJson else from_fields (fields_in d)
+
+-- what a call tells that reads a manifest, by what a reader of its fields tells, and one of its pattern
 abbrev pub of_reading : FromJsonError → ReadManifestError
 of_reading OtherKind = refusal.BadJson
 of_reading NoMemory = refusal.NoMemory
+
+abbrev pub of_pattern : PatternError → ReadManifestError
+of_pattern (pattern_error.Syntax place) = refusal.BadPattern
+of_pattern (pattern_error.Unsupported place) = refusal.BadPattern
+of_pattern (pattern_error.CountTooLarge place) = refusal.BadPattern
+of_pattern pattern_error.NoMemory = refusal.NoMemory
+
+-- such a call answers this manifest, or this cause, unless memory is wanting
+abbrev pub IsReadAs : {A : Type 0} → Result A ReadManifestError → Result A HydrationCause → Type 0
+IsReadAs (Ok m) r = r ≡ Ok m
+IsReadAs (Err refusal.BadJson) r = r ≡ Err BadJson
+IsReadAs (Err refusal.BadPattern) r = r ≡ Err BadPattern
+IsReadAs (Err refusal.NoMemory) r = Unit {0}
 
 -- a location is read from the manifest's folder
 abbrev pub located : List ℕ → Package → Package
@@ -136,13 +169,17 @@ initialized p m = record m {
 abbrev pub with_top_level : Path → Contents → Result Contents HydrationCause
 with_top_level p m = if has_row m top_level then Ok (initialized p m) else Err NoTopLevel
 
-abbrev pub from_fields : Path → Option Contents → Result Contents HydrationCause
-from_fields p None = Err BadJson
-from_fields p (Some m) = with_top_level p m
+abbrev pub placed_at : Path → Result Contents HydrationCause → Result Contents HydrationCause
+placed_at p (Ok m) = with_top_level p m
+placed_at p (Err cause) = Err cause
+
+abbrev pub from_json : Path → Option Data → Result Contents HydrationCause
+from_json p None = Err BadJson
+from_json p (Some d) = placed_at p (manifest_in d)
 
 abbrev pub from_payload : Path → Option (List ℕ) → Result Contents HydrationCause
 from_payload p None = Err NoPayload
-from_payload p (Some text) = from_fields p (read text >>= manifest_in)
+from_payload p (Some text) = from_json p (read text)
 
 -- the manifest of a text
 abbrev pub from_text : Path → List ℕ → Result Contents HydrationCause

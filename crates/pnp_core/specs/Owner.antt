@@ -1,7 +1,11 @@
 -- Which package owns a path.
-use Rattle.std.specs.Prelude.{◌≡◌, ℕ, Bool, not, ◌&&◌, if◌then◌else◌, IsTrue, IsSome, List, [], ◌∷◌, Option, Some, None}
+use Rattle.std.specs.Prelude.{◌≡◌, ℕ, Bool, false, not, ◌&&◌, if◌then◌else◌, IsTrue, IsSome, List, [], ◌∷◌, Option, Some, None}
 use Rattle.std.specs.List.{AllByRecursion}
 use Rattle.sugar_path.specs.Path.{Path, IsCleanPath, is_absolute, path_eq, text_of}
+use Rattle.std.specs.Str.{chars}
+use Rattle.sugar_path.specs.Relative.{relative_from}
+use Rattle.es_pattern.specs.Tree.{Tree}
+use Rattle.es_pattern.specs.Found.{is_found}
 use Rattle.pnp_core.specs.declared.manifest.PackageLocator.{PackageLocator}
 use Rattle.pnp_core.specs.NormalizePath.{location_path, normalize_path}
 use Rattle.std.specs.Option.{option_or}
@@ -21,9 +25,23 @@ abbrev pub nearest_owner : List Row → Path → Option PackageLocator
 nearest_owner rs [] = last_at rs []
 nearest_owner rs (n ∷ p) = option_or (last_at rs (n ∷ p)) (nearest_owner rs p)
 
+-- a path's text as it is written from a folder, in normal form: `.` is the folder itself, and what stands beside it begins with `..`
+abbrev pub text_from : List ℕ → List ℕ → List ℕ
+text_from folder t = normalize_path (relative_from folder folder t)
+
+abbrev pub is_found_by : Option Tree → List ℕ → Bool
+is_found_by None t = false
+is_found_by (Some pattern) t = is_found pattern (chars t)
+
+-- the manifest's pattern is found in the path's text from its folder, so nothing owns the path
+unfoldable pub is_ignored : Contents → List ℕ → Bool
+is_ignored m t = is_found_by m.ignore_pattern_data (text_from m.manifest_dir t)
+
 -- the owner of the path that an absolute text names; `\` separates names there, as in a manifest
 abbrev pub owner_of_text : Contents → List ℕ → Option PackageLocator
-owner_of_text m t = nearest_owner (rows m.package_registry_data) (location_path t)
+owner_of_text m t =
+    if is_ignored m t then None
+    else nearest_owner (rows m.package_registry_data) (location_path t)
 
 abbrev pub owner : Contents → Path → Option PackageLocator
 owner m p = owner_of_text m (text_of p)

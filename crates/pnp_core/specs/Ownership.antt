@@ -2,10 +2,13 @@
 use Rattle.std.specs.Prelude.{◌≡◌, ◌≢◌, ◌≤◌, ◌↔◌, false, List, ◌∷◌, ◌++◌, length, Some, None}
 use Rattle.std.specs.List.{All}
 use Rattle.sugar_path.specs.Path.{Path, text_of}
+use Rattle.std.specs.Str.{chars}
+use Rattle.es_pattern.specs.Tree.{Tree}
+use Rattle.es_pattern.specs.Spans.{IsFound}
 use Rattle.pnp_core.specs.declared.manifest.PackageLocator.{PackageLocator}
 use Rattle.pnp_core.specs.NormalizePath.{location_path}
 use Rattle.pnp_core.specs.Manifest.{Contents, Row, rows}
-use Rattle.pnp_core.specs.Owner.{owner}
+use Rattle.pnp_core.specs.Owner.{owner, text_from}
 
 -- the names of a path, as a manifest reads its text: `\` separates names too
 abbrev pub names : Path → Path
@@ -24,9 +27,16 @@ pub record Claims (row : Row) (p : Path) : Type 0 where
   pub kept : row.1.discard_from_lookup ≡ false
   pub component_prefix : IsComponentPrefix (row_location row) p
 
--- A locator owns a path: it is the locator of a row that claims the path. No row that claims the path has a longer location, and
+-- the manifest has a pattern, and a part of the path's text from the manifest's folder is spanned by it
+abbrev pub IsIgnored : Contents → Path → Type 0
+IsIgnored m p =
+    (pattern : Tree) × (m.ignore_pattern_data ≡ Some pattern)
+    × IsFound pattern (chars (text_from m.manifest_dir (text_of p)))
+
+-- A locator owns a path: the path isn't ignored, and it is the locator of a row that claims the path. No row that claims the path has a longer location, and
 -- no later one has an equal location.
 pub record Owns (m : Contents) (p : Path) (l : PackageLocator) : Type 0 where
+  pub watched : ¬ IsIgnored m p
   pub earlier : List Row
   pub row : Row
   pub later : List Row

@@ -5,8 +5,9 @@ use Rattle.tree_core.specs.Builtins.{is_builtin}
 use Rattle.pnp_core.specs.declared.error.BadSpecifier.{BadSpecifier}
 use Rattle.pnp_core.specs.declared.error.FailedManifestHydration.{FailedManifestHydration}
 use Rattle.pnp_core.specs.declared.error.UndeclaredDependency.{UndeclaredDependency}
+use Rattle.pnp_core.specs.declared.error.MissingPeerDependency.{MissingPeerDependency}
 use Rattle.pnp_core.specs.declared.error.HydrationCause.{HydrationCause}
-use Rattle.pnp_core.specs.declared.error.HydrationCause.TheVariants.{NotText, NoPayload, BadJson, NoTopLevel}
+use Rattle.pnp_core.specs.declared.error.HydrationCause.TheVariants.{NotText, NoPayload, BadJson, BadPattern, NoTopLevel}
 use Rattle.pnp_core.specs.declared.manifest.PackageLocator.{PackageLocator}
 use Rattle.pnp_core.specs.Manifest.{Contents}
 use Rattle.pnp_core.specs.Binding.{is_root}
@@ -18,6 +19,7 @@ unfoldable pub cause_message : HydrationCause → List ℕ
 cause_message NotText = codes "We failed to read the content of the manifest."
 cause_message NoPayload = codes "We failed to locate the PnP data payload inside its manifest file. Did you manually edit the file?"
 cause_message BadJson = codes "We failed to parse the PnP data payload as proper JSON; Did you manually edit the file?"
+cause_message BadPattern = codes "We failed to parse the PnP data payload as proper JSON; Did you manually edit the file?"
 cause_message NoTopLevel = codes "The PnP data payload has no top-level row."
 
 abbrev pub failed_hydration : HydrationCause → Path → FailedManifestHydration
@@ -62,4 +64,26 @@ undeclared m o specifier name path = record {
   dependency_name = name;
   issuer_locator = o;
   issuer_path = path;
+}
+
+-- a peer that nobody provides, asked by a root of the dependency tree or not
+unfoldable pub missing_peer_message : Bool → PackageLocator → List ℕ → List ℕ → List ℕ → List ℕ
+missing_peer_message true o specifier name path =
+    codes "Your application tried to access " ++ name
+    ++ codes " (a peer dependency); this isn't allowed as there is no ancestor to satisfy the requirement. Use a devDependency if needed."
+    ++ required name specifier ++ path
+missing_peer_message false o specifier name path =
+    o.name ++ codes " tried to access " ++ name
+    ++ codes " (a peer dependency) but it isn't provided by its ancestors; this makes the require call ambiguous and unsound."
+    ++ required name specifier ++ o.name ++ codes "@" ++ o.reference ++ codes " (via " ++ path ++ codes ")"
+
+-- what is told of a name that its owner binds to null, asked by a specifier from a file
+abbrev pub missing_peer : Contents → PackageLocator → List ℕ → List ℕ → List ℕ → MissingPeerDependency
+missing_peer m o specifier name path = record {
+  message = missing_peer_message (is_root m o) o specifier name path;
+  request = specifier;
+  dependency_name = name;
+  issuer_locator = o;
+  issuer_path = path;
+  broken_ancestors = [];
 }

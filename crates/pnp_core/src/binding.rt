@@ -2,7 +2,7 @@
 ghost use Rattle.std.specs.Prelude.{◌≡◌, IfOk};
 ghost use Rattle.std.specs.Option.{option_copied};
 ghost use Rattle.pnp_core.specs.declared.manifest.Binding.TheVariants.{Bound};
-ghost use Rattle.pnp_core.specs.Binding.{bind, bound_to, own, given, unbound, fallback, may_fall_back, allowed_fallback, is_settled};
+ghost use Rattle.pnp_core.specs.Binding.{bind, bound_to, own, given, unbound, fallback, may_fall_back, allowed_fallback};
 
 use crate::registry::{is_excluded_from_fallback, package_of};
 use crate::{Binding, Manifest, PackageDependency, PackageLocator};
@@ -18,22 +18,26 @@ pub fn binding_of(
 ) -> Result<Binding, AllocError>
     ensures { IfOk result (λ binding. binding ≡ bind manifest.now owner.now name.now) }
 {
-    let name = Text::of(alloc, name)?;
-    let own = own_dependency(manifest, owner, &name);
-    if let Some(dependency) = given(own) {
-        return bound(alloc, &name, dependency);
-    }
-    if let Some(dependency) = allowed_fallback(alloc, manifest, owner, &name) {
-        return bound(alloc, &name, dependency);
-    }
-    Ok(unbound(own))
+    binding_of_name(alloc, manifest, owner, &Text::of(alloc, name)?)
 }
 
-/// Whether an owner's row alone decides a name: it binds the name, or no fallback is allowed.
-pub fn is_settled(manifest: &Manifest, owner: &PackageLocator, name: &Text) -> bool
-    ensures { result ≡ is_settled manifest.now owner.now name.now }
+/// The same of a name that is at hand as a text of its own: nothing is copied to be looked up.
+pub fn binding_of_name(
+    alloc: Global,
+    manifest: &Manifest,
+    owner: &PackageLocator,
+    name: &Text,
+) -> Result<Binding, AllocError>
+    ensures { IfOk result (λ binding. binding ≡ bind manifest.now owner.now name.now) }
 {
-    given(own_dependency(manifest, owner, name)).is_some() || !may_fall_back(manifest, owner)
+    let own = own_dependency(manifest, owner, name);
+    if let Some(dependency) = given(own) {
+        return bound(alloc, name, dependency);
+    }
+    if let Some(dependency) = allowed_fallback(alloc, manifest, owner, name) {
+        return bound(alloc, name, dependency);
+    }
+    Ok(unbound(own))
 }
 
 // What the row of a locator says of a name.

@@ -2,9 +2,10 @@
 ghost use Rattle.std.specs.Prelude.{◌≡◌};
 
 use crate::PackageLocator;
+use es_pattern::PatternError;
 use json_reading::FromJsonError;
 use std::alloc::AllocError;
-use sugar_path::Text;
+use sugar_path::{List, Text};
 use thiserror::Error;
 use tree_core::ReadError;
 
@@ -25,6 +26,8 @@ pub enum HydrationCause {
     NoPayload,
     /// The payload isn't the JSON of a manifest.
     BadJson,
+    /// The ignore pattern is refused.
+    BadPattern,
     /// The registry has no row for the top-level package.
     NoTopLevel,
 }
@@ -49,6 +52,30 @@ pub struct UndeclaredDependency {
     pub issuer_path: Text,
 }
 
+/// A peer of the asking package that nobody provides.
+#[derive(Debug, PartialEq, Eq, Drop, Error)]
+#[error("{message}")]
+pub struct MissingPeerDependency {
+    pub message: Text,
+    pub request: Text,
+    pub dependency_name: Text,
+    pub issuer_locator: PackageLocator,
+    pub issuer_path: Text,
+    pub broken_ancestors: List<PackageLocator>,
+}
+
+/// A package that is bound and isn't there. No call makes it.
+#[derive(Debug, PartialEq, Eq, Drop, Error)]
+#[error("{message}")]
+pub struct MissingDependency {
+    pub message: Text,
+    pub request: Text,
+    pub dependency_name: Text,
+    pub issuer_locator: PackageLocator,
+    pub issuer_path: Text,
+    pub dependency_locator: PackageLocator,
+}
+
 /// What a call of this crate answers where it gives no value.
 #[derive(Debug, PartialEq, Eq, Drop, Error)]
 pub enum Error {
@@ -56,6 +83,15 @@ pub enum Error {
     BadSpecifier(BadSpecifier),
     #[error("{0}")]
     FailedManifestHydration(FailedManifestHydration),
+    #[error("{0}")]
+    MissingPeerDependency(MissingPeerDependency),
+    #[error("{0}")]
+    UndeclaredDependency(UndeclaredDependency),
+    #[error("{0}")]
+    MissingDependency(MissingDependency),
+    /// A name is bound to a package that has no row.
+    #[error("the registry has no row for {}@{}", .locator.name, .locator.reference)]
+    NotInRegistry { locator: PackageLocator },
     #[error("the tree failed")]
     TreeFault,
     #[error("out of memory")]
@@ -67,6 +103,8 @@ pub enum Error {
 pub enum ReadManifestError {
     #[error("the value isn't a manifest")]
     BadJson,
+    #[error("the ignore pattern is refused")]
+    BadPattern,
     #[error("out of memory")]
     NoMemory,
 }
@@ -103,6 +141,19 @@ impl From<FromJsonError> for ReadManifestError {
         match e {
             FromJsonError::OtherKind => ReadManifestError::BadJson,
             FromJsonError::NoMemory => ReadManifestError::NoMemory,
+        }
+    }
+}
+
+impl From<PatternError> for ReadManifestError {
+    ghost use Rattle.pnp_core.specs.ManifestReading.{of_pattern};
+
+    ghost from_gives = { λ e raised. raised ≡ of_pattern e };
+
+    fn from(e: PatternError) -> Self {
+        match e {
+            PatternError::NoMemory => ReadManifestError::NoMemory,
+            _ => ReadManifestError::BadPattern,
         }
     }
 }

@@ -125,7 +125,7 @@ fn locate_row(
 }
 
 // One text behind another, as a path behind a folder.
-fn joined_texts(alloc: Global, folder: &str, text: &str) -> Result<String, AllocError>
+pub(crate) fn joined_texts(alloc: Global, folder: &str, text: &str) -> Result<String, AllocError>
     ensures { IfOk result (λ s. string_bytes s ≡ join folder.now text.now) }
 {
     if text.starts_with('/') {

@@ -2,14 +2,26 @@
 ghost use Rattle.pnp_core.specs.Laws.{NormalizesAsNormal};
 ghost use Rattle.pnp_core.specs.OnTree.{NearestOnTree, NearestTextOnTree, LoadedOnTree, ToldOnTree};
 ghost use Rattle.pnp_core.specs.Ownership.{OwnerOwns};
+ghost use Rattle.pnp_core.specs.FindingOnTree.{FindingOnTree};
+ghost use Rattle.pnp_core.specs.VirtualLaws.{PartsAreAll};
 
 /// A text without `\` has the normal form that a path has, but for `./`: here that is `.`.
 pub fn normalizes_as_normal()
     ensures { NormalizesAsNormal }
 {}
 
+/// The parts of a path are all its segments, one part behind the other, and its virtual part ends in the inner path.
+pub fn parts_are_all()
+    ensures { PartsAreAll }
+{}
+
+/// The search for the nearest manifest, said as a function of the tree, with its questions.
+pub fn finding_on_tree()
+    ensures { FindingOnTree }
+{}
+
 /// The owner of a path is the one locator that owns it by its rows: the longest location that is a component prefix of the path,
-/// and of equal ones the last.
+/// and of equal ones the last. Nothing owns a path in which the ignore pattern is found.
 pub fn owner_owns()
     ensures { OwnerOwns }
 {}

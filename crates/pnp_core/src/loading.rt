@@ -6,7 +6,7 @@ ghost use Rattle.tree_core.specs.Asks.{Asks, seen};
 ghost use Rattle.tree_core.specs.Resolving.{Resolves, IsDecided};
 ghost use Rattle.pnp_core.specs.Loading.{loading, told_loading};
 ghost use Rattle.pnp_core.specs.Manifest.{top_level};
-ghost use Rattle.pnp_core.specs.ManifestReading.{reading, from_text, from_payload, from_fields, with_top_level, manifest_in};
+ghost use Rattle.pnp_core.specs.ManifestReading.{reading, from_text, from_payload, placed_at, with_top_level, manifest_in};
 ghost use Rattle.pnp_core.specs.Owner.{IsReady};
 ghost use Rattle.pnp_core.specs.Refusal.{pnp, IsOfManifest};
 ghost use Rattle.pnp_core.specs.Wording.{cause_message};
@@ -118,12 +118,15 @@ fn manifest_of_value(
     value: &Value,
     path: &CleanPath,
 ) -> Result<Manifest, ResolveError<HydrationCause>>
-    ensures decided { IsDecided result (from_fields path.now (manifest_in (view value.now))) }
+    ensures decided { IsDecided result (placed_at path.now (manifest_in (view value.now))) }
     ensures ready { IfOk result IsReady }
 {
     match read_manifest(alloc, value) {
         Ok(manifest) => initialized(alloc, manifest, path),
         Err(ReadManifestError::BadJson) => Err(ResolveError::Refused(HydrationCause::BadJson)),
+        Err(ReadManifestError::BadPattern) => Err(ResolveError::Refused(
+            HydrationCause::BadPattern,
+        )),
         Err(ReadManifestError::NoMemory) => Err(ResolveError::NoMemory),
     }
 }
@@ -170,7 +173,7 @@ fn message_of(cause: HydrationCause) -> &'static str
         HydrationCause::NoPayload => {
             "We failed to locate the PnP data payload inside its manifest file. Did you manually edit the file?"
         }
-        HydrationCause::BadJson => {
+        HydrationCause::BadJson | HydrationCause::BadPattern => {
             "We failed to parse the PnP data payload as proper JSON; Did you manually edit the file?"
         }
         HydrationCause::NoTopLevel => "The PnP data payload has no top-level row.",

@@ -1,5 +1,6 @@
 // A manifest, as its payload says it.
 use crate::Trie;
+use es_pattern::Pattern;
 use indexmap::{IndexMap, IndexSet};
 use std::alloc::{AllocError, Global};
 use std::marker::Model;
@@ -64,6 +65,10 @@ impl Model for PackageInformation {
     } };
 }
 
+/// An ignore pattern.
+#[derive(Drop)]
+pub struct RegexDef(pub Pattern);
+
 /// A manifest. Its registry, its pool and its lists keep the order of the payload.
 #[derive(Drop)]
 pub struct Manifest {
@@ -71,7 +76,7 @@ pub struct Manifest {
     pub manifest_path: Text,
     pub location_trie: Trie<PackageLocator>,
     pub enable_top_level_fallback: bool,
-    pub ignore_pattern_data: Option<Text>,
+    pub ignore_pattern_data: Option<RegexDef>,
     pub dependency_tree_roots: IndexSet<PackageLocator>,
     pub fallback_pool: IndexMap<Text, Option<PackageDependency>>,
     pub fallback_exclusion_list: IndexMap<Text, IndexSet<Text>>,
@@ -79,9 +84,13 @@ pub struct Manifest {
 }
 
 impl Model for Manifest {
+    ghost use Rattle.std.specs.Coded.{codes};
+    ghost use Rattle.es_pattern.specs.Stored.{tree_code};
     ghost use Rattle.pnp_core.specs.Manifest.{Contents};
 
     ghost Value = { Contents };
+
+    ghost coded = { Prim.hlevel (codes, tree_code) };
 
     ghost use Rattle.pnp_core.specs.Located.{contents_of, HoldsLocations};
 

@@ -122,7 +122,8 @@ fn follow_relative<'a>(names: &mut Vec<&'a str>, part: &'a str) -> Result<(), Al
     Ok(())
 }
 
-fn join_names(alloc: Global, names: &[&str]) -> Result<String, AllocError>
+// Names with a `/` between each two.
+pub(crate) fn join_names(alloc: Global, names: &[&str]) -> Result<String, AllocError>
     ensures { IfOk result (λ s. string_bytes s ≡ joined (names_of names.now)) }
 {
     let mut text = String::new(alloc);

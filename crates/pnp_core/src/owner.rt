@@ -1,13 +1,18 @@
 // Which package owns a path.
-ghost use Rattle.std.specs.Prelude.{◌≡◌, IfOk, IsNone};
+ghost use Rattle.std.specs.Prelude.{◌≡◌, IfOk};
 ghost use Rattle.std.specs.Option.{option_copied};
+ghost use Rattle.std.specs.Str.{chars};
 ghost use Rattle.sugar_path.specs.Path.{IsCleanPath};
-ghost use Rattle.pnp_core.specs.Owner.{IsReady, owner_of_text};
+ghost use Rattle.es_pattern.specs.Found.{is_found};
+ghost use Rattle.pnp_core.specs.Owner.{IsReady, is_ignored, owner_of_text, text_from};
 
-use crate::{Manifest, PackageLocator};
+use crate::{Manifest, PackageLocator, normalize_path};
+use es_pattern::Pattern;
 use std::alloc::{AllocError, Global};
+use sugar_path::CleanPath;
 
 /// The package that owns a path: of the rows that aren't discarded, the last one at the nearest location that the path is or lies below.
+/// Nothing owns a path where the ignore pattern is found in its text from the manifest's folder.
 pub fn find_locator<'a>(
     alloc: Global,
     manifest: &'a Manifest,
@@ -15,9 +20,42 @@ pub fn find_locator<'a>(
 ) -> Result<Option<&'a PackageLocator>, AllocError>
     requires ready { IsReady manifest.now }
     requires clean { IsCleanPath path.now }
-    requires no_pattern { IsNone manifest.now.ignore_pattern_data }
     ensures { IfOk result (λ owner. option_copied owner ≡ owner_of_text manifest.now path.now) }
 {
+    if is_ignored(alloc, manifest, path)? {
+        return Ok(None);
+    }
     let owner = manifest.location_trie.get_ancestor_value(alloc, path)?;
     Ok(owner)
+}
+
+// Whether the ignore pattern is found in the path's text from the manifest's folder.
+fn is_ignored(alloc: Global, manifest: &Manifest, path: &str) -> Result<bool, AllocError>
+    requires folder { IsCleanPath manifest.now.manifest_dir }
+    requires clean { IsCleanPath path.now }
+    ensures { IfOk result (λ ignored. ignored ≡ is_ignored manifest.now path.now) }
+{
+    match &manifest.ignore_pattern_data {
+        None => Ok(false),
+        Some(ignored) => is_found_from(alloc, &ignored.0, manifest.manifest_dir.as_str(), path),
+    }
+}
+
+// Whether a pattern is found in the path's text from a folder.
+fn is_found_from(
+    alloc: Global,
+    pattern: &Pattern,
+    folder: &str,
+    path: &str,
+) -> Result<bool, AllocError>
+    requires folder { IsCleanPath folder.now }
+    requires clean { IsCleanPath path.now }
+    ensures { IfOk result (λ found.
+        found ≡ is_found pattern.now (chars (text_from folder.now path.now))) }
+{
+    let folder = CleanPath::of(alloc, folder)?;
+    let path = CleanPath::of(alloc, path)?;
+    let relative = path.relative_to(alloc, &folder)?;
+    let text = normalize_path(alloc, relative.as_str())?;
+    pattern.is_found(alloc, text.as_str())
 }

@@ -1,14 +1,15 @@
 // A manifest read from the value of its payload.
-ghost use Rattle.std.specs.Prelude.{◌≡◌, Some, None, IfOk, IsErrOf, map};
+ghost use Rattle.std.specs.Prelude.{◌≡◌, IfOk, map, option_map};
 ghost use Rattle.serde_json.specs.View.{view};
 ghost use Rattle.json_reading.specs.Reading.{ReadsAs};
-ghost use Rattle.pnp_core.specs.ManifestReading.{entries_of, manifest_in, fields_in};
-ghost use Rattle.pnp_core.specs.declared.error.ReadManifestError.TheVariants.{BadJson};
+ghost use Rattle.pnp_core.specs.ManifestReading.{entries_of, manifest_in, fields_in, with_pattern_text, IsReadAs};
 
 use crate::entries::{Entries, Members, NullableEntries, named};
 use crate::{
-    Manifest, PackageDependency, PackageInformation, PackageLocator, ReadManifestError, Trie,
+    Manifest, PackageDependency, PackageInformation, PackageLocator, ReadManifestError, RegexDef,
+    Trie,
 };
+use es_pattern::Pattern;
 use indexmap::{IndexMap, IndexSet};
 use json_reading::{FromJson, FromJsonError, field, field_or, holds_float};
 use serde_json::Value;
@@ -17,38 +18,55 @@ use std::marker::Model;
 use sugar_path::{List, Text};
 
 /// The manifest that a JSON value says. It has no folder and no path yet, and its locations are as they were written.
-/// `BadJson` comes for a value of another kind and for one that holds a float.
+/// `BadJson` comes for a value of another kind and for one that holds a float, and `BadPattern` for an ignore pattern that is refused.
 pub fn read_manifest(alloc: Global, value: &Value) -> Result<Manifest, ReadManifestError>
-    ensures ok { IfOk result (λ manifest. manifest_in (view value.now) ≡ Some manifest) }
-    ensures refused { IsErrOf result BadJson → manifest_in (view value.now) ≡ None }
+    ensures { IsReadAs result (manifest_in (view value.now)) }
 {
     if holds_float(value) {
         return Err(ReadManifestError::BadJson);
     }
-    Ok(fields(alloc, value)?)
+    let (manifest, pattern) = fields(alloc, value)?;
+    with_pattern(alloc, manifest, pattern)
 }
 
-// The fields of a manifest; others are passed over.
-fn fields(alloc: Global, value: &Value) -> Result<Manifest, FromJsonError>
+// The manifest with the pattern that the text is, where it has one.
+fn with_pattern(
+    alloc: Global,
+    manifest: Manifest,
+    pattern: Option<Text>,
+) -> Result<Manifest, ReadManifestError>
+    ensures { IsReadAs result (with_pattern_text manifest pattern) }
+{
+    let Some(text) = pattern else {
+        return Ok(manifest);
+    };
+    let mut manifest = manifest;
+    manifest.ignore_pattern_data = Some(RegexDef(Pattern::parse(alloc, text.as_str())?));
+    Ok(manifest)
+}
+
+// The fields of a manifest, and the text of its ignore pattern; others are passed over.
+fn fields(alloc: Global, value: &Value) -> Result<(Manifest, Option<Text>), FromJsonError>
     ensures { ReadsAs result (fields_in (view value.now)) }
 {
     let enable_top_level_fallback: bool = field(alloc, value, "enableTopLevelFallback")?;
-    let ignore_pattern_data: Option<Text> = field_or(alloc, value, "ignorePatternData", None)?;
+    let pattern: Option<Text> = field_or(alloc, value, "ignorePatternData", None)?;
     let roots: Members<PackageLocator> = field(alloc, value, "dependencyTreeRoots")?;
     let pool: Entries<Option<PackageDependency>> = field(alloc, value, "fallbackPool")?;
     let exclusions: Exclusions = field(alloc, value, "fallbackExclusionList")?;
     let registry: Registry = field(alloc, value, "packageRegistryData")?;
-    Ok(Manifest {
+    let manifest = Manifest {
         manifest_dir: Text::from(String::new(alloc)),
         manifest_path: Text::from(String::new(alloc)),
         location_trie: Trie::new(alloc),
         enable_top_level_fallback,
-        ignore_pattern_data,
+        ignore_pattern_data: None,
         dependency_tree_roots: roots.set,
         fallback_pool: pool.map,
         fallback_exclusion_list: exclusions.map,
         package_registry_data: registry.map,
-    })
+    };
+    Ok((manifest, pattern))
 }
 
 impl FromJson for PackageLocator {

@@ -2,8 +2,12 @@
 use crate::{Error, Trie, normalize_path, parse_bare_identifier, payload_of};
 use std::test::Fail;
 
+mod bindings;
 mod manifests;
 mod packages;
+mod patterns;
+mod unqualified;
+mod virtual_paths;
 mod wordings;
 
 #[test]

@@ -113,7 +113,7 @@ fn ambiguous(alloc: Global, who: &str, name: &str, whose: &str) -> Result<String
 
 // The lines that name what is asked for, and by whom.
 #[tactic(auto, unfolding(crate::specs::Wording::required))]
-fn required(alloc: Global, name: &str, specifier: &str) -> Result<String, AllocError>
+pub(crate) fn required(alloc: Global, name: &str, specifier: &str) -> Result<String, AllocError>
     ensures { IfOk result (λ s. string_bytes s ≡ required name.now specifier.now) }
 {
     let via = via(alloc, name, specifier)?;

@@ -1,5 +1,5 @@
 -- What a fault of the top call says of the order.
-use Rattle.std.proofs.Common.{◌≡◌, ℕ, suc, ◌+◌, ◌≤◌, Bool, List, [], ◌∷◌, ◌++◌, length, Option, IfSome, Result, Ok, Err, IsErrAnd, sym, ap, ◌∙◌, subst, arith}
+use Rattle.std.proofs.Common.{◌≡◌, ℕ, suc, ◌+◌, List, [], length, Option, IfSome, Result, Ok, Err, IsErrAnd, sym, ap, ◌∙◌, subst, arith}
 use Rattle.tree_core.specs.declared.question.Question.{Question}
 use Rattle.tree_core.specs.declared.question.Reply.{Reply}
 use Rattle.tree_core.specs.declared.tree.ReadError.{ReadError}

@@ -1,19 +1,17 @@
 -- The plans of the order come to what the tree has, and put the questions that the laws say.
-use Rattle.std.proofs.Common.{◌≡◌, ℕ, Bool, true, false, cond, List, [], ◌∷◌, ◌++◌, Option, Some, None, Result, Ok, Err, refl, ap, ◌∙◌}
+use Rattle.std.proofs.Common.{◌≡◌, ℕ, Bool, true, false, cond, List, [], ◌++◌, Option, Some, None, Result, Ok, Err, ap, ◌∙◌}
 use Rattle.sugar_path.specs.Path.{Path}
 use Rattle.tree_core.specs.declared.question.Question.{Question}
 use Rattle.tree_core.specs.Tree.{Files}
 use Rattle.tree_core.specs.Plan.{Plan, Done, answer, asked, ◌>>=◌, ◌>>=?◌}
 use Rattle.tree_core.specs.Asks.{raised, widened}
-use Rattle.tree_core.specs.Rows.{Going, end_of, order, or_refused, refuses_by, ends_by}
-use Rattle.tree_core.specs.Results.{asks_after}
+use Rattle.tree_core.specs.Rows.{end_of, or_refused, ends_by}
 use Rattle.tree_core.proofs.Asking.{answer-then, asked-then, answer-done, asked-done}
-use Rattle.pnp_core.specs.Manifest.{Contents}
 use Rattle.pnp_core.specs.Nearest.{nearest}
 use Rattle.pnp_core.specs.Loading.{loading}
 use Rattle.pnp_core.specs.OnTree.{nearest_on, nearest_asks, loaded_on, loaded_asks}
 use Rattle.pnp_core.proofs.OnTrees.{answer-nearest, asked-nearest, answer-loading, asked-loading}
-use Rattle.swc_loader.specs.declared.resolution.Resolution.{Resolution}
+use Rattle.swc_loader.specs.declared.resolution.FileName.{FileName}
 use Rattle.swc_loader.specs.declared.resolution.Via.{Via}
 use Rattle.swc_loader.specs.declared.located.Placed.{Placed}
 use Rattle.swc_loader.specs.declared.located.Placed.TheVariants.{File, Ignored}
@@ -22,16 +20,20 @@ use Rattle.swc_loader.specs.Located.{resolve_at, located_asks}
 use Rattle.swc_loader.specs.Spelling.{answered}
 use Rattle.swc_loader.specs.NodeRows.{search}
 use Rattle.swc_loader.specs.NodeOrder.{node}
-use Rattle.swc_loader.specs.NodeOnTree.{answer_on, answer_asks, search_on, search_asks, node_on, node_asks}
+use Rattle.swc_loader.specs.NodeOnTree.{answer_asks, search_on, search_asks, node_on}
 use Rattle.swc_loader.proofs.NodeLaws.{node_on_tree, search_on_tree, answer-answered, asked-answered, answer-target, asked-target}
 use Rattle.swc_loader.proofs.Locations.{located_on_tree}
+use Rattle.resolver_core.specs.declared.refusal.TsRefusal.TheVariants.{Inner}
+use Rattle.resolver_core.specs.Mapping.{Mapping, mapped}
+use Rattle.resolver_core.specs.MappingOnTree.{Answers, Asked, answers_on, asked_on, mapped_on, mapped_asks}
+use Rattle.resolver_core.proofs.MappingLaws.{mapping_on_tree}
 use Rattle.resolve_stack.specs.declared.verdict.JoinRefusal.{JoinRefusal}
 use Rattle.resolve_stack.specs.Settings.{ProjectSettings, path_of}
-use Rattle.resolve_stack.specs.Request.{Request}
+use Rattle.resolve_stack.specs.Request.{Request, asked_for}
 use Rattle.resolve_stack.specs.Rows.{bare_base, of_node, node_rows_of, or_node_rows, readable, read_manifest, manifest_in, nearest_manifest, bare_target, found_at, unless_ignored, answered_through, is_told_relative}
-use Rattle.resolve_stack.specs.Order.{join_rows, join}
-use Rattle.resolve_stack.specs.Verdict.{verdict_of, verdict}
-use Rattle.resolve_stack.specs.OnTree.{by_node_rows_on, node_rows_asks, or_node_rows_on, or_node_rows_asks, manifest_in_file, manifest_on, reading_asks, manifest_asks, bare_target_on, bare_target_asks, placed_on, found_or_name, through_on, join_on, join_asks, JoinOnTree, VerdictOnTree}
+use Rattle.resolve_stack.specs.Order.{join_rows, join, join_order}
+use Rattle.resolve_stack.specs.Verdict.{verdict_of, behind_mapping, project_order, verdict}
+use Rattle.resolve_stack.specs.OnTree.{by_node_rows_on, node_rows_asks, or_node_rows_on, or_node_rows_asks, manifest_in_file, manifest_on, reading_asks, manifest_asks, bare_target_on, bare_target_asks, placed_on, found_or_name, through_on, join_on, join_asks, join_answers, join_asked, behind_mapping_on, behind_mapping_asks, project_on, project_asks, JoinOnTree, VerdictOnTree}
 use Rattle.tree_core.proofs.RowLaws.{answer-made, asked-made, answer-order, asked-order, answer-refuses_by, asked-refuses_by, answer-ends_by, asked-ends_by, answer-never_refuses, asked-never_refuses, answer-raised, asked-raised, step, step_asks, row, decided_asks, refusing_asks}
 
 answer-node_rows : (t : Files) (project : ProjectSettings) (request : Request) → answer t (node_rows_of project request) ≡ widened of_node (node_on t project.node request.importer request.specifier)
@@ -152,13 +154,33 @@ asked-join : (t : Files) (project : ProjectSettings) (request : Request) → ask
 unfolding join
 asked-join t project request = asked-order t (join_rows project request) ∙ asked-rows t project request
 
-pub answer-verdict : (t : Files) (project : ProjectSettings) (request : Request) → answer t (verdict project request) ≡ verdict_of (join_on t project request)
-unfolding verdict
-answer-verdict t project request = answer-made t (join project request) verdict_of ∙ ap verdict_of (answer-join t project request)
+-- what the join comes to, and what it asks, by each base and specifier
+join-answers : (t : Files) (project : ProjectSettings) → answers_on t (join_order project) ≡ join_answers t project
+join-answers t project = λ i base s. answer-join t project (asked_for base s) i
 
-asked-verdict : (t : Files) (project : ProjectSettings) (request : Request) → asked t (verdict project request) ≡ join_asks t project request
+join-asked : (t : Files) (project : ProjectSettings) → asked_on t (join_order project) ≡ join_asked t project
+join-asked t project = λ i base s. asked-join t project (asked_for base s) i
+
+answer-behind : (t : Files) (project : ProjectSettings) (o : Option Mapping) (base : FileName) (s : List ℕ) → answer t (behind_mapping o (join_order project) base s) ≡ behind_mapping_on o (join_answers t project) base s
+answer-behind t project None base s = answer-raised t Inner (join project (asked_for base s)) ∙ ap (widened Inner) (answer-join t project (asked_for base s))
+answer-behind t project (Some m) base s =
+    (mapping_on_tree JoinRefusal).answers t (join_order project) m base s
+    ∙ ap (λ (inner : Answers JoinRefusal). mapped_on inner (mapped m base s)) (join-answers t project)
+
+asked-behind : (t : Files) (project : ProjectSettings) (o : Option Mapping) (base : FileName) (s : List ℕ) → asked t (behind_mapping o (join_order project) base s) ≡ behind_mapping_asks o (join_answers t project) (join_asked t project) base s
+asked-behind t project None base s = asked-raised t Inner (join project (asked_for base s)) ∙ asked-join t project (asked_for base s)
+asked-behind t project (Some m) base s =
+    (mapping_on_tree JoinRefusal).asks t (join_order project) m base s
+    ∙ ap (λ (inner : Answers JoinRefusal). mapped_asks inner (asked_on t (join_order project)) (mapped m base s)) (join-answers t project)
+    ∙ ap (λ (asks : Asked). mapped_asks (join_answers t project) asks (mapped m base s)) (join-asked t project)
+
+answer-verdict : (t : Files) (project : ProjectSettings) (request : Request) → answer t (verdict project request) ≡ verdict_of (project_on t project request)
 unfolding verdict
-asked-verdict t project request = asked-made t (join project request) verdict_of ∙ asked-join t project request
+answer-verdict t project request = answer-made t (project_order project request) verdict_of ∙ ap verdict_of (answer-behind t project project.mapping request.importer request.specifier)
+
+asked-verdict : (t : Files) (project : ProjectSettings) (request : Request) → asked t (verdict project request) ≡ project_asks t project request
+unfolding verdict
+asked-verdict t project request = asked-made t (project_order project request) verdict_of ∙ asked-behind t project project.mapping request.importer request.specifier
 
 pub join_on_tree : JoinOnTree
 join_on_tree = record { answers = answer-join; asks = asked-join }

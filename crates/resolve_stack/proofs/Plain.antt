@@ -4,7 +4,6 @@ use Rattle.std.specs.Prelude.{codes}
 use Rattle.std.specs.Option.{option_or}
 use Rattle.sugar_path.specs.Path.{Path, clean, is_absolute}
 use Rattle.tree_core.specs.Tree.{Files}
-use Rattle.tree_core.specs.Asks.{widened}
 use Rattle.tree_core.specs.Builtins.{is_builtin}
 use Rattle.swc_loader.specs.declared.resolution.FileName.{FileName}
 use Rattle.swc_loader.specs.declared.resolution.FileName.TheVariants.{Real, Custom, Anon}

@@ -1,4 +1,4 @@
--- The search for Node's modules as a part of the order.
+-- The orders below as parts of the order.
 use Rattle.std.proofs.Common.{◌≡◌, ℕ, Bool, true, false, List, Option, Some, None, Result, Ok, Err, refl}
 use Rattle.std.specs.Prelude.{if◌then◌else◌}
 use Rattle.tree_core.specs.declared.tree.ReadError.{ReadError}
@@ -6,19 +6,31 @@ use Rattle.tree_core.specs.Plan.{Plan, Done, ◌>>=?◌}
 use Rattle.tree_core.specs.Asks.{Asking, Asks, raised, widened}
 use Rattle.tree_core.specs.Rows.{Row, order, ends_by}
 use Rattle.tree_core.proofs.Asking.{asks_then, asks_done, asks_fails}
-use Rattle.swc_loader.specs.declared.refusal.NodeRefusal.{NodeRefusal}
+use Rattle.swc_loader.specs.declared.resolution.FileName.{FileName}
 use Rattle.swc_loader.specs.declared.resolution.Resolution.{Resolution}
 use Rattle.swc_loader.specs.NodeRows.{search}
+use Rattle.resolver_core.specs.declared.refusal.TsRefusal.{TsRefusal}
+use Rattle.resolver_core.specs.declared.refusal.TsRefusal.TheVariants.{Inner}
+use Rattle.resolver_core.specs.Mapping.{Order, Mapping, mapping_order}
 use Rattle.resolve_stack.specs.declared.verdict.JoinRefusal.{JoinRefusal}
 use Rattle.resolve_stack.specs.Settings.{ProjectSettings}
 use Rattle.resolve_stack.specs.Request.{Request}
 use Rattle.resolve_stack.specs.Rows.{of_node, or_node_rows, node_rows_of}
 use Rattle.resolve_stack.specs.OrderParts.{raised_result}
+use Rattle.resolve_stack.specs.Verdict.{behind_mapping}
 use Rattle.tree_core.proofs.RowCalls.{goes_on_row, ends_row}
 
-pub asks_raised_result : {A : Type 0} {old new : Asking} {p : Plan (Result A NodeRefusal)} (r : Result (Result A NodeRefusal) ReadError) → Asks old new r p → Asks old new (raised_result r) (raised of_node p)
-asks_raised_result (Ok r) h = asks_then (λ x. Done (widened of_node x)) h (asks_done refl)
-asks_raised_result (Err e) h = asks_fails (λ x. Done (widened of_node x)) (Err e) refl h
+pub asks_raised_result : {A X Y : Type 0} {old new : Asking} {p : Plan (Result A X)} (wide : X → Y) (r : Result (Result A X) ReadError) → Asks old new r p → Asks old new (raised_result wide r) (raised wide p)
+asks_raised_result wide (Ok r) h = asks_then (λ x. Done (widened wide x)) h (asks_done refl)
+asks_raised_result wide (Err e) h = asks_fails (λ x. Done (widened wide x)) (Err e) refl h
+
+-- A request of a project with a mapping goes through it.
+pub asks_mapped : {X : Type 0} {old new : Asking} {r : Result (Result Resolution (TsRefusal X)) ReadError} (o : Option Mapping) (m : Mapping) (inner : Order X) (base : FileName) (s : List ℕ) → o ≡ Some m → Asks old new r (mapping_order inner m base s) → Asks old new r (behind_mapping o inner base s)
+asks_mapped o m inner base s is h = rw is h
+
+-- Without one it is the order's behind it.
+pub asks_unmapped : {X : Type 0} {old new : Asking} {r : Result (Result Resolution (TsRefusal X)) ReadError} (o : Option Mapping) (inner : Order X) (base : FileName) (s : List ℕ) → o ≡ None → Asks old new r (raised Inner (inner base s)) → Asks old new r (behind_mapping o inner base s)
+asks_unmapped o inner base s is h = rw is h
 
 -- A row that goes on where there is something to go on with.
 pub some_row : {A : Type 0} {old new : Asking} {a : A} {r : Result (Result Resolution JoinRefusal) ReadError} (project : ProjectSettings) (request : Request) (o : Option A) (k : A → Row Resolution Resolution JoinRefusal) → o ≡ Some a → Asks old new r (order (k a)) → Asks old new r (order (or_node_rows project request o >>=? k))

@@ -1,22 +1,21 @@
 -- An answer of the order was found through the row that binds the name asked for.
-use Rattle.std.proofs.Common.{◌≡◌, ℕ, Bool, true, false, cond, List, [], Option, Some, None, is_some, Result, Ok, Err, refl, sym, ap, ◌∙◌, subst, ◌++◌}
+use Rattle.std.proofs.Common.{◌≡◌, ℕ, Bool, true, false, cond, List, Option, Some, None, ok_or, Result, Ok, Err, refl, sym, ap, ◌∙◌, subst, ◌⊎◌, inl, inr}
 use Rattle.std.specs.Option.{option_or}
-use Rattle.sugar_path.specs.Path.{Path, clean, below, text_of}
+use Rattle.sugar_path.specs.Path.{Path, below, text_of}
 use Rattle.tree_core.specs.Tree.{Files}
 use Rattle.tree_core.specs.Plan.{answer}
 use Rattle.tree_core.specs.Asks.{widened}
+use Rattle.tree_core.proofs.RowLaws.{answer-made, answer-raised}
 use Rattle.tree_core.specs.Rows.{Going, end_of, or_refused}
 use Rattle.tree_core.specs.Results.{◌>>=◌}
 use Rattle.pnp_core.specs.declared.error.HydrationCause.{HydrationCause}
-use Rattle.pnp_core.specs.declared.error.UndeclaredDependency.{UndeclaredDependency}
 use Rattle.pnp_core.specs.declared.manifest.PackageLocator.{PackageLocator}
 use Rattle.pnp_core.specs.declared.manifest.Binding.{Binding}
 use Rattle.pnp_core.specs.declared.manifest.Binding.TheVariants.{Bound, MissingPeer, Undeclared}
 use Rattle.pnp_core.specs.BareIdentifier.{split_bare}
 use Rattle.pnp_core.specs.Manifest.{Contents, location_of}
-use Rattle.pnp_core.specs.Owner.{owner}
-use Rattle.pnp_core.specs.Binding.{bind, is_settled}
-use Rattle.pnp_core.specs.Wording.{undeclared}
+use Rattle.pnp_core.specs.Binding.{bind}
+use Rattle.pnp_core.specs.PhysicalPlace.{physical_place}
 use Rattle.pnp_core.specs.OnTree.{nearest_on, loaded_on}
 use Rattle.swc_loader.specs.declared.resolution.FileName.{FileName}
 use Rattle.swc_loader.specs.declared.resolution.FileName.TheVariants.{Real, Custom, Anon}
@@ -32,17 +31,23 @@ use Rattle.swc_loader.specs.Settings.{NodeSettings, alias_of}
 use Rattle.swc_loader.specs.Spelling.{custom}
 use Rattle.swc_loader.specs.NodeRows.{core_module_for, decided_or_target, target_or_answer}
 use Rattle.swc_loader.specs.NodeOnTree.{ruled_specifier_on, before_on, search_on, node_on}
+use Rattle.resolver_core.specs.declared.refusal.TsRefusal.{TsRefusal}
+use Rattle.resolver_core.specs.declared.refusal.TsRefusal.TheVariants.{Inner}
+use Rattle.resolver_core.specs.Mapping.{Mapping, mapped}
+use Rattle.resolver_core.specs.MappingOnTree.{answers_on, mapped_on, tries_in, IsFirstAnswer}
+use Rattle.resolver_core.proofs.FirstAnswers.{first_answer_decides}
+use Rattle.resolver_core.proofs.MappingLaws.{mapping_on_tree}
 use Rattle.resolve_stack.specs.declared.verdict.JoinRefusal.{JoinRefusal}
-use Rattle.resolve_stack.specs.declared.verdict.JoinRefusal.TheVariants.{NotBuilt, Outside}
+use Rattle.resolve_stack.specs.declared.verdict.JoinRefusal.TheVariants.{BadSpecifier, NotInRegistry, Archive, Outside}
 use Rattle.resolve_stack.specs.declared.verdict.Verdict.{Verdict}
 use Rattle.resolve_stack.specs.Settings.{ProjectSettings, path_of}
-use Rattle.resolve_stack.specs.Request.{Request}
-use Rattle.resolve_stack.specs.Location.{is_plain}
-use Rattle.resolve_stack.specs.Rows.{of_node, or_not_built, bare_from, bare_base, readable, identifier_of, bound_or_refused, bound_of, row_of, unlocked, folder_of, contained, via_of}
-use Rattle.resolve_stack.specs.OnTree.{by_node_rows_on, or_node_rows_on, manifest_in_file, manifest_on, asking_package, bare_target_on, placed_on, found_or_name, through_on, join_on}
-use Rattle.resolve_stack.specs.Verdict.{verdict_of, verdict}
-use Rattle.resolve_stack.specs.Through.{ThroughRow, IsFoundVia, IsFoundFrom, IsFound}
-use Rattle.resolve_stack.proofs.OnTrees.{answer-verdict}
+use Rattle.resolve_stack.specs.Request.{Request, asked_for}
+use Rattle.resolve_stack.specs.Order.{join, join_order}
+use Rattle.resolve_stack.specs.Rows.{of_node, bare_from, bare_base, readable, identifier_of, bound_or_refused, bound_of, row_of, unlocked, folder_of, contained, via_of}
+use Rattle.resolve_stack.specs.OnTree.{or_node_rows_on, manifest_in_file, manifest_on, asking_package, bare_target_on, placed_on, found_or_name, through_on, join_on}
+use Rattle.resolve_stack.specs.Verdict.{verdict_of, behind_mapping, project_order, verdict}
+use Rattle.resolve_stack.specs.Through.{ThroughRow, IsFoundFrom, IsFoundByTry, IsFoundBehind, IsFound}
+use Rattle.resolve_stack.proofs.OnTrees.{answer-join}
 use Rattle.resolve_stack.proofs.Plain.{IsPlain, IsPlainResult, IsPlainBefore, node-plain, search-plain, before-plain}
 
 -- how an order ended is found as it says
@@ -100,39 +105,23 @@ from_base (Real text) specifier base is = by_test (is_bare specifier) is
 from_base (Custom name) specifier base is = cc
 from_base Anon specifier base is = cc
 
-there : {A : Type 0} (o : Option A) (a : A) → or_not_built o ≡ Ok a → o ≡ Some a
-there (Some x) a h = let same : x ≡ a = cc in ap Some same
-there None a h = cc
+there : {A X : Type 0} (o : Option A) (x : X) (a : A) → ok_or o x ≡ Ok a → o ≡ Some a
+there (Some b) x a h = let same : b ≡ a = cc in ap Some same
+there None x a h = cc
 
 -- a test that passed
 passed : {A X : Type 0} (b : Bool) (a a' : A) (x : X) → cond b (Ok a) (Err x) ≡ Ok a' → (b ≡ true) × (a ≡ a')
 passed true a a' x h = (refl, cc)
 passed false a a' x h = cc
 
-abbrev same_result : Contents → Contents → Type 0
-same_result a b = let read : Result Contents HydrationCause = Ok a in read ≡ Ok b
-
 read_of : (file : Path) (r : Result Contents HydrationCause) (m : Contents) → readable file r ≡ Ok m → r ≡ Ok m
-read_of file (Ok contents) m h = by_test (is_some contents.ignore_pattern_data) h
-  where
-    by_test : (b : Bool) → cond {A = Result Contents JoinRefusal} b (Err NotBuilt) (Ok contents) ≡ Ok m → same_result contents m
-    by_test true h = cc
-    by_test false h = let same : contents ≡ m = cc in ap Ok same
+read_of file (Ok contents) m h = let same : contents ≡ m = cc in ap Ok same
 read_of file (Err cause) m h = cc
-
-no_pattern_of : (file : Path) (r : Result Contents HydrationCause) (m : Contents) → readable file r ≡ Ok m → m.ignore_pattern_data ≡ None
-no_pattern_of file (Err cause) m h = cc
-no_pattern_of file (Ok contents) m h = by_pattern contents.ignore_pattern_data refl h
-  where
-    by_pattern : (o : Option (List ℕ)) → contents.ignore_pattern_data ≡ o → cond {A = Result Contents JoinRefusal} (is_some o) (Err NotBuilt) (Ok contents) ≡ Ok m → m.ignore_pattern_data ≡ None
-    by_pattern (Some p) is h = cc
-    by_pattern None is h = let same : contents ≡ m = cc in let P : Contents → Type 0 = λ x. x.ignore_pattern_data ≡ None in subst P same is
 
 record Read (t : Files) (p : Path) (m : Contents) : Type 0 where
   manifest : Path
   nearest : nearest_on t p ≡ Some manifest
   reads : loaded_on t manifest ≡ Ok m
-  no_pattern : m.ignore_pattern_data ≡ None
 
 read_from : (t : Files) (project : ProjectSettings) (request : Request) (base : List ℕ) (m : Contents) → manifest_on t project request base ≡ Ok m → Read t (path_of project base) m
 read_from t project request base m h = by_near (nearest_on t (path_of project base)) refl h
@@ -141,7 +130,7 @@ read_from t project request base m h = by_near (nearest_on t (path_of project ba
     by_near None is h = cc
     by_near (Some file) is h =
         let read = unrefused (readable file (loaded_on t file)) m h in
-        record { manifest = file; nearest = is; reads = read_of file (loaded_on t file) m read; no_pattern = no_pattern_of file (loaded_on t file) m read }
+        record { manifest = file; nearest = is; reads = read_of file (loaded_on t file) m read }
 
 manifest_end : (t : Files) (project : ProjectSettings) (request : Request) (base : List ℕ) (e : Result Resolution JoinRefusal) → manifest_on t project request base ≡ Err e → IsFoundEnd t project request e
 manifest_end t project request base e h = by_near (nearest_on t (path_of project base)) h
@@ -196,16 +185,12 @@ ignored_end t project request (Ignored name) e h =
     subst P same tt
 
 bound_by : (m : Contents) (o : PackageLocator) (importer : Path) (target name : List ℕ) (b : PackageLocator) → bound_of m o importer target name ≡ Ok b → bind m o name ≡ Bound b
-bound_by m o importer target name b h = by_test (is_settled m o name) h
+bound_by m o importer target name b h = by_binding (bind m o name) h
   where
-    by_binding : (told : UndeclaredDependency) (binding : Binding) → bound_or_refused told binding ≡ Ok b → binding ≡ Bound b
-    by_binding told (Bound locator) h = let same : locator ≡ b = cc in ap Bound same
-    by_binding told MissingPeer h = cc
-    by_binding told Undeclared h = cc
-
-    by_test : (settled : Bool) → cond settled (bound_or_refused (undeclared m o target name (text_of importer)) (bind m o name)) (Err NotBuilt) ≡ Ok b → bind m o name ≡ Bound b
-    by_test true h = by_binding (undeclared m o target name (text_of importer)) (bind m o name) h
-    by_test false h = cc
+    by_binding : (binding : Binding) → bound_or_refused m o importer target name binding ≡ Ok b → binding ≡ Bound b
+    by_binding (Bound locator) h = let same : locator ≡ b = cc in ap Bound same
+    by_binding MissingPeer h = cc
+    by_binding Undeclared h = cc
 
 -- the rows behind the folder of the bound package, on a tree
 abbrev behind_folder : Files → ProjectSettings → PackageLocator → Path → Option (List ℕ) → Going Resolution Resolution JoinRefusal
@@ -226,14 +211,15 @@ behind_binding t project manifest locator subpath =
     or_refused (row_of manifest locator) >>= λ location. or_refused (unlocked locator) >>= λ bound. or_refused (folder_of location) >>= λ folder. behind_folder t project bound folder subpath
 
 abbrev ThroughBound : Files → ProjectSettings → Request → Contents → PackageLocator → Type 0
-ThroughBound t project request manifest bound = (location : List ℕ) (folder f : Path) → location_of manifest bound ≡ Some location → clean [] location ≡ folder → below f folder ≡ true → ThroughRow t project request (text_of f) (via_of bound folder)
+ThroughBound t project request manifest bound = (location : List ℕ) (folder f : Path) → location_of manifest bound ≡ Some location → physical_place location ≡ Some folder → below f folder ≡ true → ThroughRow t project request (text_of f) (via_of bound folder)
 
 binding_end : (t : Files) (project : ProjectSettings) (request : Request) (manifest : Contents) (locator : PackageLocator) (subpath : Option (List ℕ)) → ThroughBound t project request manifest locator → IsFoundEnd t project request (end_of (behind_binding t project manifest locator subpath))
 binding_end t project request manifest locator subpath through =
     goes t project request (or_refused (row_of manifest locator)) (λ location. or_refused (unlocked locator) >>= λ bound. or_refused (folder_of location) >>= λ folder. behind_folder t project bound folder subpath) (refused_end t project request (row_of manifest locator)) (λ location row.
     goes t project request (or_refused (folder_of location)) (λ folder. behind_folder t project locator folder subpath) (refused_end t project request (folder_of location)) (λ folder place.
-    let at = passed (is_plain location) (clean [] location) folder NotBuilt (unrefused (folder_of location) folder place) in
-    folder_end t project request locator folder subpath (λ f within. through location folder f (there (location_of manifest locator) location (unrefused (row_of manifest locator) location row)) at.1 within)))
+    folder_end t project request locator folder subpath (λ f within. through location folder f
+    (there (location_of manifest locator) (NotInRegistry locator.name locator.reference) location (unrefused (row_of manifest locator) location row))
+    (there (physical_place location) (Archive location) folder (unrefused (folder_of location) folder place)) within)))
 
 -- the rows behind a bare target, on a tree
 abbrev behind_target : Files → ProjectSettings → List ℕ → Contents → PackageLocator → List ℕ → Going Resolution Resolution JoinRefusal
@@ -245,7 +231,7 @@ target_end t project request base manifest asking named through =
     goes t project request (or_refused (identifier_of named)) (λ identifier. or_refused (bound_of manifest asking (path_of project base) named identifier.0) >>= λ locator. behind_binding t project manifest locator identifier.1) (refused_end t project request (identifier_of named)) (λ identifier split.
     goes t project request (or_refused (bound_of manifest asking (path_of project base) named identifier.0)) (λ locator. behind_binding t project manifest locator identifier.1) (refused_end t project request (bound_of manifest asking (path_of project base) named identifier.0)) (λ locator binds.
     binding_end t project request manifest locator identifier.1
-    (through identifier locator (there (split_bare named) identifier (unrefused (identifier_of named) identifier split)) (bound_by manifest asking (path_of project base) named identifier.0 locator (unrefused (bound_of manifest asking (path_of project base) named identifier.0) locator binds)))))
+    (through identifier locator (there (split_bare named) (BadSpecifier named) identifier (unrefused (identifier_of named) identifier split)) (bound_by manifest asking (path_of project base) named identifier.0 locator (unrefused (bound_of manifest asking (path_of project base) named identifier.0) locator binds)))))
 
 -- the rows behind the owner, on a tree
 abbrev behind_owner : Files → ProjectSettings → Request → List ℕ → Contents → PackageLocator → Going Resolution Resolution JoinRefusal
@@ -269,24 +255,67 @@ found_end t project request =
       name = identifier.0;
       subpath = identifier.1;
       location = location;
+      folder = folder;
       from = from_base request.importer request.specifier base (or_node_value t project request (bare_base request) base from);
       nearest = reading.nearest;
       reads = reading.reads;
-      no_pattern = reading.no_pattern;
       owns = or_node_value t project request (asking_package project manifest base) asking owns;
       names = ap split_bare (aliased t project.node (path_of project base) request.specifier target alias ∙ bare_value t project base target named bare) ∙ split;
       binds = binds;
       row = row;
-      place = ap text_of (sym place);
+      place = place;
+      told = refl;
       lies = record { path = f; folder = folder; file_is = refl; location_is = refl; within = within };
     }))))))
 
+-- what the join answers was found as it says
+found_by_join : (t : Files) (project : ProjectSettings) (request : Request) (r : Resolution) → answer t (join project request) ≡ Ok r → IsFoundFrom t project request r.found
+found_by_join t project request r is =
+    let P : Result Resolution JoinRefusal → Type 0 = IsFoundEnd t project request in
+    subst P (sym (answer-join t project request) ∙ is) (found_end t project request)
+
+-- what is made of the first inner answer was found by that inner request
+found_by_try : (t : Files) (project : ProjectSettings) (m : Mapping) (request : Request) (r : Resolution) → IsFirstAnswer (answers_on t (join_order project)) (tries_in (mapped m request.importer request.specifier)) r → IsFoundByTry t project m request r
+found_by_try t project m request r first = record {
+  first = first;
+  found =
+      let by = asked_for first.by.base first.by.specifier in
+      let P : Option Found → Type 0 = IsFoundFrom t project by in
+      subst P (sym first.same_file) (found_by_join t project by first.answer first.answered);
+}
+
+-- what a project's order answers was found as it says
+abbrev IsFoundResult : Files → ProjectSettings → Option Mapping → Request → Result Resolution (TsRefusal JoinRefusal) → Type 0
+IsFoundResult t project o request (Ok r) = IsFoundBehind t project o request r
+IsFoundResult t project o request (Err x) = Unit {0}
+
+found_behind : (t : Files) (project : ProjectSettings) (o : Option Mapping) (request : Request) → IsFoundResult t project o request (answer t (behind_mapping o (join_order project) request.importer request.specifier))
+found_behind t project None request =
+    let P : Result Resolution (TsRefusal JoinRefusal) → Type 0 = IsFoundResult t project None request in
+    subst P (sym (answer-raised t Inner (join project request))) (by_result (answer t (join project request)) refl)
+  where
+    by_result : (o : Result Resolution JoinRefusal) → answer t (join project request) ≡ o → IsFoundResult t project None request (widened Inner o)
+    by_result (Ok r) is = found_by_join t project request r is
+    by_result (Err x) is = tt
+found_behind t project (Some m) request =
+    let P : Result Resolution (TsRefusal JoinRefusal) → Type 0 = IsFoundResult t project (Some m) request in
+    subst P (sym ((mapping_on_tree JoinRefusal).answers t (join_order project) m request.importer request.specifier)) (by_result (mapped_on (answers_on t (join_order project)) (mapped m request.importer request.specifier)) refl)
+  where
+    by_first : (r : Resolution) → (r.found ≡ None) ⊎ IsFirstAnswer (answers_on t (join_order project)) (tries_in (mapped m request.importer request.specifier)) r → IsFoundBehind t project (Some m) request r
+    by_first r (inl none) = inl none
+    by_first r (inr first) = inr (found_by_try t project m request r first)
+
+    by_result : (o : Result Resolution (TsRefusal JoinRefusal)) → mapped_on (answers_on t (join_order project)) (mapped m request.importer request.specifier) ≡ o → IsFoundResult t project (Some m) request o
+    by_result (Ok r) is = by_first r ((first_answer_decides JoinRefusal).decides (answers_on t (join_order project)) m request.importer request.specifier r is)
+    by_result (Err x) is = tt
+
 -- the verdict of the order was found as it says
 pub found : (t : Files) (project : ProjectSettings) (request : Request) → IsFound t project request (answer t (verdict project request))
+unfolding verdict
 found t project request =
     let P : Verdict → Type 0 = IsFound t project request in
-    subst P (sym (answer-verdict t project request)) (by_result (join_on t project request) (found_end t project request))
+    subst P (sym (answer-made t (project_order project request) verdict_of)) (by_result (answer t (project_order project request)) (found_behind t project project.mapping request))
   where
-    by_result : (r : Result Resolution JoinRefusal) → IsFoundEnd t project request r → IsFound t project request (verdict_of r)
-    by_result (Ok resolution) is = is
-    by_result (Err refusal) is = tt
+    by_result : (o : Result Resolution (TsRefusal JoinRefusal)) → IsFoundResult t project project.mapping request o → IsFound t project request (verdict_of o)
+    by_result (Ok r) is = is
+    by_result (Err x) is = tt

@@ -1,6 +1,5 @@
 pub mod Settings
 pub mod Request
-pub mod Location
 pub mod Rows
 pub mod Order
 pub mod OrderParts
@@ -8,3 +7,4 @@ pub mod Verdict
 pub mod OnTree
 pub mod Through
 pub mod ImportFault
+pub mod ResolverView

@@ -1,5 +1,5 @@
 -- What the order comes to on a tree, and which questions it puts, as plain functions of the tree: the laws by which a reader checks the plans.
-use Rattle.std.specs.Prelude.{◌≡◌, if◌then◌else◌, ℕ, Bool, List, [], ◌∷◌, ◌++◌, Option, Some, None, Result, Ok, Err}
+use Rattle.std.specs.Prelude.{◌≡◌, if◌then◌else◌, ℕ, Bool, List, [], ◌++◌, Option, Some, None, Result, Ok, Err}
 use Rattle.sugar_path.specs.Path.{Path}
 use Rattle.tree_core.specs.declared.question.Question.{Question}
 use Rattle.tree_core.specs.Tree.{Files}
@@ -11,6 +11,7 @@ use Rattle.pnp_core.specs.declared.manifest.PackageLocator.{PackageLocator}
 use Rattle.pnp_core.specs.Manifest.{Contents}
 use Rattle.pnp_core.specs.Owner.{owner}
 use Rattle.pnp_core.specs.OnTree.{nearest_on, nearest_asks, loaded_on, loaded_asks}
+use Rattle.swc_loader.specs.declared.resolution.FileName.{FileName}
 use Rattle.swc_loader.specs.declared.resolution.Resolution.{Resolution}
 use Rattle.swc_loader.specs.declared.resolution.Via.{Via}
 use Rattle.swc_loader.specs.declared.located.Placed.{Placed}
@@ -20,9 +21,13 @@ use Rattle.swc_loader.specs.Spelling.{custom}
 use Rattle.swc_loader.specs.Located.{located_on, located_asks}
 use Rattle.swc_loader.specs.NodeRows.{target_or_answer}
 use Rattle.swc_loader.specs.NodeOnTree.{node_on, node_asks, search_on, search_asks, before_on, before_asks, answer_on, answer_asks}
+use Rattle.resolver_core.specs.declared.refusal.TsRefusal.{TsRefusal}
+use Rattle.resolver_core.specs.declared.refusal.TsRefusal.TheVariants.{Inner}
+use Rattle.resolver_core.specs.Mapping.{Mapping, mapped}
+use Rattle.resolver_core.specs.MappingOnTree.{Answers, Asked, mapped_on, mapped_asks}
 use Rattle.resolve_stack.specs.declared.verdict.JoinRefusal.{JoinRefusal}
 use Rattle.resolve_stack.specs.Settings.{ProjectSettings, path_of}
-use Rattle.resolve_stack.specs.Request.{Request}
+use Rattle.resolve_stack.specs.Request.{Request, asked_for}
 use Rattle.resolve_stack.specs.Rows.{of_node, bare_base, readable, identifier_of, bound_of, row_of, unlocked, folder_of, contained, via_of, is_told_relative}
 use Rattle.resolve_stack.specs.Order.{join}
 use Rattle.resolve_stack.specs.Verdict.{verdict_of, verdict}
@@ -138,9 +143,35 @@ pub record JoinOnTree : Type 0 where
   pub asks : (t : Files) (project : ProjectSettings) (request : Request) →
       asked t (join project request) ≡ join_asks t project request
 
+-- what the join comes to, and what it asks, by a base and a specifier
+abbrev pub join_answers : Files → ProjectSettings → Answers JoinRefusal
+join_answers t project base s = join_on t project (asked_for base s)
+
+abbrev pub join_asked : Files → ProjectSettings → Asked
+join_asked t project base s = join_asks t project (asked_for base s)
+
+-- what an order comes to behind a mapping, and what is asked then
+abbrev pub behind_mapping_on : {X : Type 0} → Option Mapping → Answers X → FileName → List ℕ → Result Resolution (TsRefusal X)
+behind_mapping_on None inner base s = widened Inner (inner base s)
+behind_mapping_on (Some mapping) inner base s = mapped_on inner (mapped mapping base s)
+
+abbrev pub behind_mapping_asks : {X : Type 0} → Option Mapping → Answers X → Asked → FileName → List ℕ → List Question
+behind_mapping_asks None inner asks base s = asks base s
+behind_mapping_asks (Some mapping) inner asks base s = mapped_asks inner asks (mapped mapping base s)
+
+-- what the order of a project comes to, and what it asks
+abbrev pub project_on : Files → ProjectSettings → Request → Result Resolution (TsRefusal JoinRefusal)
+project_on t project request =
+    behind_mapping_on project.mapping (join_answers t project) request.importer request.specifier
+
+abbrev pub project_asks : Files → ProjectSettings → Request → List Question
+project_asks t project request =
+    behind_mapping_asks project.mapping (join_answers t project) (join_asked t project)
+    request.importer request.specifier
+
 -- the verdict, on each tree
 pub record VerdictOnTree : Type 0 where
   pub answers : (t : Files) (project : ProjectSettings) (request : Request) →
-      answer t (verdict project request) ≡ verdict_of (join_on t project request)
+      answer t (verdict project request) ≡ verdict_of (project_on t project request)
   pub asks : (t : Files) (project : ProjectSettings) (request : Request) →
-      asked t (verdict project request) ≡ join_asks t project request
+      asked t (verdict project request) ≡ project_asks t project request

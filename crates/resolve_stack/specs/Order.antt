@@ -5,9 +5,10 @@ use Rattle.tree_core.specs.Rows.{Row, order, decided, refuses_by}
 use Rattle.tree_core.specs.Resolving.{◌>>=◌}
 use Rattle.swc_loader.specs.declared.resolution.Resolution.{Resolution}
 use Rattle.swc_loader.specs.NodeRows.{target_before_search}
+use Rattle.resolver_core.specs.Mapping.{Order}
 use Rattle.resolve_stack.specs.declared.verdict.JoinRefusal.{JoinRefusal}
 use Rattle.resolve_stack.specs.Settings.{ProjectSettings, path_of}
-use Rattle.resolve_stack.specs.Request.{Request}
+use Rattle.resolve_stack.specs.Request.{Request, asked_for}
 use Rattle.resolve_stack.specs.Rows.{or_node_rows, bare_base, nearest_manifest, owner_of, bare_target, identifier_of, bound_of, row_of, unlocked, folder_of, found_at, unless_ignored, contained, via_of, answered_through}
 
 abbrev pub join_rows : ProjectSettings → Request → Row Resolution Resolution JoinRefusal
@@ -30,3 +31,7 @@ join_rows project request = do
 -- the order of search for a request of a project
 unfoldable pub join : ProjectSettings → Request → Plan (Result Resolution JoinRefusal)
 join project request = order (join_rows project request)
+
+-- the same by a base and a specifier, as a resolver's order
+abbrev pub join_order : ProjectSettings → Order JoinRefusal
+join_order project base specifier = join project (asked_for base specifier)

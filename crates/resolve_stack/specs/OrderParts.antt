@@ -3,18 +3,16 @@ use Rattle.std.specs.Prelude.{ℕ, List, Option, Result, Ok, Err}
 use Rattle.sugar_path.specs.Path.{Path}
 use Rattle.tree_core.specs.declared.tree.ReadError.{ReadError}
 use Rattle.tree_core.specs.Asks.{widened}
-use Rattle.tree_core.specs.Plan.{Plan}
-use Rattle.tree_core.specs.Rows.{Row, order, decided, refuses_by}
+use Rattle.tree_core.specs.Rows.{Row, decided, refuses_by}
 use Rattle.tree_core.specs.Resolving.{◌>>=◌}
 use Rattle.pnp_core.specs.declared.manifest.PackageLocator.{PackageLocator}
 use Rattle.pnp_core.specs.Manifest.{Contents}
 use Rattle.swc_loader.specs.declared.resolution.Resolution.{Resolution}
-use Rattle.swc_loader.specs.declared.refusal.NodeRefusal.{NodeRefusal}
 use Rattle.swc_loader.specs.NodeRows.{target_before_search}
 use Rattle.resolve_stack.specs.declared.verdict.JoinRefusal.{JoinRefusal}
 use Rattle.resolve_stack.specs.Settings.{ProjectSettings, path_of}
 use Rattle.resolve_stack.specs.Request.{Request}
-use Rattle.resolve_stack.specs.Rows.{of_node, owner_of, bare_target, identifier_of, bound_of, row_of, unlocked, folder_of, found_at, unless_ignored, contained, via_of, answered_through}
+use Rattle.resolve_stack.specs.Rows.{owner_of, bare_target, identifier_of, bound_of, row_of, unlocked, folder_of, found_at, unless_ignored, contained, via_of, answered_through}
 
 -- behind the folder of the row: the search there, its containment and the answer
 abbrev pub folder_rows : ProjectSettings → PackageLocator → Path → Option (List ℕ) → Row Resolution Resolution JoinRefusal
@@ -52,7 +50,7 @@ manifest_rows project request base manifest = do
   owner ← owner_of project request manifest base
   owned_rows project request base manifest owner
 
--- what a search for Node's modules comes to, with the order's refusals
-abbrev pub raised_result : {A : Type 0} → Result (Result A NodeRefusal) ReadError → Result (Result A JoinRefusal) ReadError
-raised_result (Ok result) = Ok (widened of_node result)
-raised_result (Err e) = Err e
+-- what a search comes to, with the refusals of the order above it
+abbrev pub raised_result : {A X Y : Type 0} → (X → Y) → Result (Result A X) ReadError → Result (Result A Y) ReadError
+raised_result wide (Ok result) = Ok (widened wide result)
+raised_result wide (Err e) = Err e

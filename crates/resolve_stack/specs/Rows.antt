@@ -1,6 +1,6 @@
 -- The rows of the order of search, as docs/ORDER.md lists the join rows. A row gives what the next one goes on with, or ends the order.
-use Rattle.std.specs.Prelude.{ℕ, Bool, false, ◌&&◌, if◌then◌else◌, List, [], Option, Some, None, Result, Ok, Err, is_some}
-use Rattle.sugar_path.specs.Path.{Path, text_of, clean, below}
+use Rattle.std.specs.Prelude.{ℕ, Bool, ◌&&◌, if◌then◌else◌, List, Option, Some, None, ok_or, Result, Ok, Err}
+use Rattle.sugar_path.specs.Path.{Path, text_of, below}
 use Rattle.tree_core.specs.Asks.{raised}
 use Rattle.tree_core.specs.Plan.{Plan, Done, ◌>>=◌}
 use Rattle.tree_core.specs.Rows.{Row, ends_by, refuses_by, never_refuses}
@@ -8,14 +8,14 @@ use Rattle.pnp_core.specs.declared.manifest.PackageLocator.{PackageLocator}
 use Rattle.pnp_core.specs.declared.manifest.Binding.{Binding}
 use Rattle.pnp_core.specs.declared.manifest.Binding.TheVariants.{Bound, MissingPeer, Undeclared}
 use Rattle.pnp_core.specs.declared.error.HydrationCause.{HydrationCause}
-use Rattle.pnp_core.specs.declared.error.UndeclaredDependency.{UndeclaredDependency as Told}
 use Rattle.pnp_core.specs.BareIdentifier.{split_bare}
 use Rattle.pnp_core.specs.Manifest.{Contents, location_of}
 use Rattle.pnp_core.specs.Owner.{owner}
-use Rattle.pnp_core.specs.Binding.{bind, is_settled}
+use Rattle.pnp_core.specs.Binding.{bind}
 use Rattle.pnp_core.specs.Loading.{loading}
 use Rattle.pnp_core.specs.Nearest.{nearest}
-use Rattle.pnp_core.specs.Wording.{undeclared}
+use Rattle.pnp_core.specs.PhysicalPlace.{physical_place}
+use Rattle.pnp_core.specs.Wording.{missing_peer, undeclared}
 use Rattle.swc_loader.specs.declared.resolution.FileName.{FileName}
 use Rattle.swc_loader.specs.declared.resolution.FileName.TheVariants.{Real, Custom, Anon}
 use Rattle.swc_loader.specs.declared.resolution.Resolution.{Resolution}
@@ -30,21 +30,15 @@ use Rattle.swc_loader.specs.NodeRows.{search}
 use Rattle.swc_loader.specs.NodeOrder.{node}
 use Rattle.swc_loader.specs.Located.{resolve_at}
 use Rattle.resolve_stack.specs.declared.verdict.JoinRefusal.{JoinRefusal}
-use Rattle.resolve_stack.specs.declared.verdict.JoinRefusal.TheVariants.{FailedManifestHydration, UndeclaredDependency, Outside, NotFound, BaseNotAFile, MalformedPackage, NotBuilt}
+use Rattle.resolve_stack.specs.declared.verdict.JoinRefusal.TheVariants.{BadSpecifier, FailedManifestHydration, UndeclaredDependency, MissingPeerDependency, NotInRegistry, MalformedPackage, Archive, Outside, NotFound, BaseNotAFile}
 use Rattle.resolve_stack.specs.Settings.{ProjectSettings, path_of}
 use Rattle.resolve_stack.specs.Request.{Request}
-use Rattle.resolve_stack.specs.Location.{is_plain}
 
 -- a refusal of the search for Node's modules, as the order's
 abbrev pub of_node : NodeRefusal → JoinRefusal
 of_node (node_refusal.NotFound text) = NotFound text
 of_node node_refusal.BaseNotAFile = BaseNotAFile
 of_node (node_refusal.MalformedPackage path) = MalformedPackage path
-
--- a step that isn't built yet, where there is nothing to go on with
-abbrev pub or_not_built : {A : Type 0} → Option A → Result A JoinRefusal
-or_not_built None = Err NotBuilt
-or_not_built (Some a) = Ok a
 
 -- the node rows of the whole request
 abbrev pub node_rows_of : ProjectSettings → Request → Plan (Result Resolution JoinRefusal)
@@ -64,13 +58,9 @@ bare_from Anon specifier = None
 abbrev pub bare_base : Request → Option (List ℕ)
 bare_base request = bare_from request.importer request.specifier
 
--- A manifest with an ignore pattern isn't searched yet.
-abbrev pub without_pattern : Contents → Result Contents JoinRefusal
-without_pattern manifest = if is_some manifest.ignore_pattern_data then Err NotBuilt else Ok manifest
-
 -- A manifest that can't be read is refused with its cause.
 abbrev pub readable : Path → Result Contents HydrationCause → Result Contents JoinRefusal
-readable file (Ok manifest) = without_pattern manifest
+readable file (Ok manifest) = Ok manifest
 readable file (Err cause) = Err (FailedManifestHydration cause (text_of file))
 
 unfoldable pub read_manifest : Path → Plan (Result Contents JoinRefusal)
@@ -101,34 +91,34 @@ bare_target project base target =
     then Done (Ok target)
     else ends_by (raised of_node (search project.node base target))
 
--- Join row 5: the package name and the subpath. A scope alone names no package; its refusal isn't built.
+-- Join row 5: the package name and the subpath. A scope alone names no package.
 abbrev pub identifier_of : List ℕ → Result (List ℕ × Option (List ℕ)) JoinRefusal
-identifier_of target = or_not_built (split_bare target)
+identifier_of target = ok_or (split_bare target) (BadSpecifier target)
 
--- What the name is bound to, and what is told where nothing binds it. A binding to null isn't refused by name yet.
-abbrev pub bound_or_refused : Told → Binding → Result PackageLocator JoinRefusal
-bound_or_refused told (Bound locator) = Ok locator
-bound_or_refused told MissingPeer = Err NotBuilt
-bound_or_refused told Undeclared = Err (UndeclaredDependency told)
+-- what the name is bound to; where nothing binds it, whether it is a peer that nobody provides, or isn't declared
+abbrev pub bound_or_refused : Contents → PackageLocator → Path → List ℕ → List ℕ → Binding → Result PackageLocator JoinRefusal
+bound_or_refused manifest asking importer target name (Bound locator) = Ok locator
+bound_or_refused manifest asking importer target name MissingPeer =
+    Err (MissingPeerDependency (missing_peer manifest asking target name (text_of importer)))
+bound_or_refused manifest asking importer target name Undeclared =
+    Err (UndeclaredDependency (undeclared manifest asking target name (text_of importer)))
 
--- Join row 6: the binding of the name in the owner's row. A name that only a fallback could serve isn't searched yet.
+-- Join row 6: the binding of the name by the owner's row, or by a fallback that is allowed
 abbrev pub bound_of : Contents → PackageLocator → Path → List ℕ → List ℕ → Result PackageLocator JoinRefusal
 bound_of manifest asking importer target name =
-    if is_settled manifest asking name
-    then bound_or_refused (undeclared manifest asking target name (text_of importer)) (bind manifest asking name)
-    else Err NotBuilt
+    bound_or_refused manifest asking importer target name (bind manifest asking name)
 
--- Join row 7: the row of the bound package. Without one the refusal isn't built.
+-- Join row 7: the location of the bound package's row
 abbrev pub row_of : Contents → PackageLocator → Result (List ℕ) JoinRefusal
-row_of manifest bound = or_not_built (location_of manifest bound)
+row_of manifest bound = ok_or (location_of manifest bound) (NotInRegistry bound.name bound.reference)
 
 -- Join row 8: no project has a lock yet, so each binding passes.
 abbrev pub unlocked : PackageLocator → Result PackageLocator JoinRefusal
 unlocked bound = Ok bound
 
--- Join row 9: the location of the row as a plain folder. One of a virtual package or inside an archive isn't searched yet.
+-- Join row 9: the physical place of the location; one inside an archive is refused as the row says it.
 abbrev pub folder_of : List ℕ → Result Path JoinRefusal
-folder_of location = if is_plain location then Ok (clean [] location) else Err NotBuilt
+folder_of location = ok_or (physical_place location) (Archive location)
 
 -- The end of join row 11: a file, and whether a rule for browsers led to it. One that a rule hides ends the order by its name.
 abbrev pub unless_ignored : Placed → Row (Path × Bool) Resolution JoinRefusal

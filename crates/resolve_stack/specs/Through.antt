@@ -1,5 +1,5 @@
 -- What a file that was found through a row has to do with that row.
-use Rattle.std.specs.Prelude.{◌≡◌, ℕ, true, List, [], Option, Some, None, Ok}
+use Rattle.std.specs.Prelude.{◌≡◌, ◌⊎◌, ℕ, true, List, Option, Some, None, Ok}
 use Rattle.sugar_path.specs.Path.{Path, clean, below, text_of}
 use Rattle.tree_core.specs.Tree.{Files}
 use Rattle.pnp_core.specs.declared.manifest.PackageLocator.{PackageLocator}
@@ -9,14 +9,19 @@ use Rattle.pnp_core.specs.Manifest.{Contents, locator, location_of}
 use Rattle.pnp_core.specs.Owner.{owner}
 use Rattle.pnp_core.specs.Binding.{bind}
 use Rattle.pnp_core.specs.OnTree.{nearest_on, loaded_on}
+use Rattle.pnp_core.specs.PhysicalPlace.{physical_place}
 use Rattle.swc_loader.specs.Settings.{alias_of}
 use Rattle.swc_loader.specs.declared.resolution.FileName.TheVariants.{Real}
+use Rattle.swc_loader.specs.declared.resolution.Resolution.{Resolution}
 use Rattle.swc_loader.specs.declared.resolution.Via.{Via}
 use Rattle.swc_loader.specs.declared.resolution.Found.{Found}
+use Rattle.resolver_core.specs.Mapping.{Mapping, mapped}
+use Rattle.resolver_core.specs.MappingOnTree.{answers_on, tries_in, IsFirstAnswer}
 use Rattle.resolve_stack.specs.declared.verdict.Verdict.{Verdict}
 use Rattle.resolve_stack.specs.declared.verdict.Verdict.TheVariants.{Answered, Refused}
 use Rattle.resolve_stack.specs.Settings.{ProjectSettings}
-use Rattle.resolve_stack.specs.Request.{Request}
+use Rattle.resolve_stack.specs.Request.{Request, asked_for}
+use Rattle.resolve_stack.specs.Order.{join_order}
 
 -- a file lies below the location of a row
 pub record LiesBelow (file location : List ℕ) : Type 0 where
@@ -26,7 +31,7 @@ pub record LiesBelow (file location : List ℕ) : Type 0 where
   pub location_is : location ≡ text_of folder
   pub within : below path folder ≡ true
 
--- The importer is a path. The manifest nearest to it, which ignores no path by a pattern, says who owns it, and the owner's row, or an allowed fallback, binds the name asked for (that of the specifier's alias, where it has one) to the package whose row has this location. The file lies below it.
+-- The importer is a path. The manifest nearest to it says who owns it, and the owner's row, or an allowed fallback, binds the name asked for (that of the specifier's alias, where it has one) to the package whose row has a location with this physical place. The file lies below it.
 pub record ThroughRow (t : Files) (project : ProjectSettings) (request : Request) (file : List ℕ) (v : Via) : Type 0 where
   pub importer : List ℕ
   pub manifest : Path
@@ -35,15 +40,16 @@ pub record ThroughRow (t : Files) (project : ProjectSettings) (request : Request
   pub name : List ℕ
   pub subpath : Option (List ℕ)
   pub location : List ℕ
+  pub folder : Path
   pub from : request.importer ≡ Real importer
   pub nearest : nearest_on t (clean project.node.cwd importer) ≡ Some manifest
   pub reads : loaded_on t manifest ≡ Ok contents
-  pub no_pattern : contents.ignore_pattern_data ≡ None
   pub owns : owner contents (clean project.node.cwd importer) ≡ Some asking
   pub names : split_bare (alias_of project.node request.specifier) ≡ Some (name, subpath)
   pub binds : bind contents asking name ≡ Bound (locator v.name v.reference)
   pub row : location_of contents (locator v.name v.reference) ≡ Some location
-  pub place : v.location ≡ text_of (clean [] location)
+  pub place : physical_place location ≡ Some folder
+  pub told : v.location ≡ text_of folder
   pub lies : LiesBelow file v.location
 
 abbrev pub IsFoundVia : Files → ProjectSettings → Request → List ℕ → Option Via → Type 0
@@ -54,7 +60,19 @@ abbrev pub IsFoundFrom : Files → ProjectSettings → Request → Option Found 
 IsFoundFrom t project request None = Unit {0}
 IsFoundFrom t project request (Some found) = IsFoundVia t project request found.file found.via
 
+-- What is made of the first inner request of a mapping that the join answers was found by that request.
+pub record IsFoundByTry (t : Files) (project : ProjectSettings) (mapping : Mapping) (request : Request) (r : Resolution) : Type 0 where
+  pub first : IsFirstAnswer (answers_on t (join_order project))
+      (tries_in (mapped mapping request.importer request.specifier)) r
+  pub found : IsFoundFrom t project (asked_for first.by.base first.by.specifier) r.found
+
+-- Behind a mapping the inner request that decides says by what, and for what, it was found, or no file is told. Without one it is the request itself.
+abbrev pub IsFoundBehind : Files → ProjectSettings → Option Mapping → Request → Resolution → Type 0
+IsFoundBehind t project None request r = IsFoundFrom t project request r.found
+IsFoundBehind t project (Some mapping) request r =
+    (r.found ≡ None) ⊎ IsFoundByTry t project mapping request r
+
 -- what a verdict answers was found as it says
 abbrev pub IsFound : Files → ProjectSettings → Request → Verdict → Type 0
-IsFound t project request (Answered resolution) = IsFoundFrom t project request resolution.found
+IsFound t project request (Answered r) = IsFoundBehind t project project.mapping request r
 IsFound t project request (Refused refusal) = Unit {0}

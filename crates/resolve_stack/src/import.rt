@@ -1,20 +1,25 @@
 // The top call: the verdict of a request over any tree, with the trail that decides it.
 ghost use Rattle.std.specs.Prelude.{◌≡◌, IsTrue, IfOk, IsErrOf, length};
 ghost use Rattle.tree_core.specs.Tree.{Files, Agrees, HasCause, put_times};
-ghost use Rattle.tree_core.specs.Asks.{Asks, Settles, AgreeWith};
-ghost use Rattle.resolve_stack.specs.Verdict.{verdict};
+ghost use Rattle.tree_core.specs.Asks.{Asks, Settles, AgreeWith, seen};
+ghost use Rattle.tree_core.specs.RecorderView.{asking_of};
+ghost use Rattle.tree_core.specs.Resolving.{Resolves, resolving};
+ghost use Rattle.resolve_stack.specs.Verdict.{project_order, verdict};
+ghost use Rattle.resolve_stack.specs.OrderParts.{raised_result};
 ghost use Rattle.resolve_stack.specs.Through.{IsFound};
-ghost use Rattle.resolve_stack.specs.Request.{asked_for};
+ghost use Rattle.resolve_stack.specs.Request.{asked_for, request_of};
 ghost use Rattle.resolve_stack.specs.ImportFault.{as_read, EndsInFault, EndsStarved};
+ghost use Rattle.resolver_core.specs.declared.refusal.TsRefusal.TheVariants.{Inner};
 ghost use Rattle.resolve_stack.specs.declared.import.ImportError.TheVariants.{TreeFault, NoMemory};
 
 use crate::join::join;
 use crate::request::Request;
-use crate::{Outcome, Project, Verdict};
+use crate::{JoinRefusal, Outcome, PnpResolver, Project, Refusal, Verdict};
+use resolver_core::TsRefusal;
 use std::alloc::Global;
-use swc_loader::FileName;
+use swc_loader::{FileName, Resolution};
 use thiserror::Error;
-use tree_core::{Asker, ReadError, Recorder, ResolveError, Tree};
+use tree_core::{ReadError, Recorder, ResolveError, Tree};
 
 /// Why there is no verdict.
 #[derive(Clone, Copy, Debug, PartialEq, Eq, Error)]
@@ -87,19 +92,54 @@ pub fn resolve_import<T: Tree>(
 }
 
 // How the request ends: a refusal of the order is a verdict too.
-fn decide<R: Asker>(
+fn decide<T: Tree>(
     alloc: Global,
-    tree: &mut R,
+    tree: &mut Recorder<'_, T>,
     project: &Project,
     request: &Request<'_>,
 ) -> Result<Verdict, ReadError>
-    ensures { Asks (R.asking tree.old) (R.asking tree.new) result
-        (verdict project.now (asked_for request.now.importer.now request.now.specifier.now)) }
+    ensures { Asks (asking_of tree.old) (asking_of tree.new) result
+        (verdict project.now (request_of request.now)) }
 {
-    match join(alloc, tree, project, request) {
+    match by_order(alloc, tree, project, request) {
         Ok(resolution) => Ok(Verdict::Answered(resolution)),
         Err(ResolveError::Refused(refusal)) => Ok(Verdict::Refused(refusal)),
         Err(ResolveError::TreeFault) => Err(ReadError::Fault),
         Err(ResolveError::NoMemory) => Err(ReadError::NoMemory),
+    }
+}
+
+// What the request comes to: the join, behind the mapping where the project has one.
+fn by_order<T: Tree>(
+    alloc: Global,
+    tree: &mut Recorder<'_, T>,
+    project: &Project,
+    request: &Request<'_>,
+) -> Result<Resolution, ResolveError<Refusal>>
+    ensures { Resolves (asking_of tree.old) (asking_of tree.new) result
+        (project_order project.now (request_of request.now)) }
+{
+    match project.mapping() {
+        Some(mapping) => {
+            let mut inner = PnpResolver::of(alloc, project)?;
+            mapping.resolve(alloc, tree, &mut inner, request.importer, request.specifier)
+        }
+        None => inner_refusal(join(alloc, tree, project, request)),
+    }
+}
+
+// A result of the join, whose refusals are those of an inner request.
+fn inner_refusal(
+    found: Result<Resolution, ResolveError<JoinRefusal>>,
+) -> Result<Resolution, ResolveError<Refusal>>
+    ensures { seen resolving result ≡ raised_result Inner (seen resolving found) }
+{
+    match found {
+        Ok(resolution) => Ok(resolution),
+        Err(ResolveError::Refused(refusal)) => {
+            Err(ResolveError::Refused(TsRefusal::Inner(refusal)))
+        }
+        Err(ResolveError::TreeFault) => Err(ResolveError::TreeFault),
+        Err(ResolveError::NoMemory) => Err(ResolveError::NoMemory),
     }
 }

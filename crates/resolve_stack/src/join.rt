@@ -1,6 +1,6 @@
 // The join: a bare specifier from a file, bound by the row of the package that owns the file. Where a row has nothing to go on
 // with, the node rows answer.
-ghost use Rattle.std.specs.Prelude.{◌≡◌, IsNone};
+ghost use Rattle.std.specs.Prelude.{◌≡◌};
 ghost use Rattle.tree_core.specs.Resolving.{Resolves};
 ghost use Rattle.tree_core.specs.Rows.{order};
 ghost use Rattle.pnp_core.specs.Owner.{IsReady};
@@ -71,7 +71,6 @@ fn join_by_manifest<R: Asker>(
 ) -> Result<Resolution, ResolveError<JoinRefusal>>
     requires importer { importer.now ≡ path_of project.now base.now }
     requires ready { IsReady manifest.now }
-    requires no_pattern { IsNone manifest.now.ignore_pattern_data }
     ensures { Resolves (R.asking tree.old) (R.asking tree.new) result
         (order (manifest_rows project.now (request_of request.now) base.now manifest.now)) }
 {
@@ -150,7 +149,7 @@ fn join_in_package<R: Asker>(
     ensures { Resolves (R.asking tree.old) (R.asking tree.new) result
         (order (package_rows project.now manifest.now locator subpath.now)) }
 {
-    let location = row_of(manifest, &locator)?;
+    let location = row_of(alloc, manifest, &locator)?;
     let folder = folder_of(alloc, location)?;
     join_in_folder(alloc, tree, project, locator, &folder, subpath)
 }

@@ -1,5 +1,5 @@
 // The join rows, each by itself.
-ghost use Rattle.std.specs.Prelude.{◌≡◌, IsNone, IfOk, Err};
+ghost use Rattle.std.specs.Prelude.{◌≡◌, IfOk, Err};
 ghost use Rattle.std.specs.Option.{option_copied};
 ghost use Rattle.tree_core.specs.Asks.{seen};
 ghost use Rattle.tree_core.specs.Resolving.{Resolves, IsDecided, IsDecidedTo, resolving};
@@ -9,12 +9,11 @@ ghost use Rattle.resolve_stack.specs.Request.{request_of};
 ghost use Rattle.resolve_stack.specs.OrderParts.{raised_result};
 ghost use Rattle.resolve_stack.specs.Rows as rows;
 
-use crate::location::is_plain;
 use crate::request::Request;
 use crate::{JoinRefusal, Project};
 use pnp_core::{
-    Binding, HydrationCause, Manifest, PackageLocator, binding_of, get_package, has_package,
-    is_settled, loaded_manifest, split_bare_identifier, undeclared_of,
+    Binding, HydrationCause, Manifest, PackageLocator, binding_of_name, get_package, has_package,
+    loaded_manifest, missing_peer_of, physical_place, split_bare_identifier, undeclared_of,
 };
 use std::alloc::Global;
 use sugar_path::{CleanPath, Text};
@@ -42,7 +41,7 @@ pub(crate) fn bare_base<'a>(request: &Request<'a>) -> Option<&'a str>
 pub(crate) fn raised<A>(
     found: Result<A, ResolveError<NodeRefusal>>,
 ) -> Result<A, ResolveError<JoinRefusal>>
-    ensures { seen resolving result ≡ raised_result (seen resolving found) }
+    ensures { seen resolving result ≡ raised_result rows.of_node (seen resolving found) }
 {
     match found {
         Ok(answer) => Ok(answer),
@@ -72,26 +71,13 @@ pub(crate) fn read_manifest<R: Asker>(
     ensures asks { Resolves (R.asking tree.old) (R.asking tree.new) result
         (rows.read_manifest file) }
     ensures ready { IfOk result IsReady }
-    ensures no_pattern { IfOk result (λ m. IsNone m.ignore_pattern_data) }
 {
     match loaded_manifest(alloc, tree, &file) {
-        Ok(manifest) => without_pattern(manifest),
+        Ok(manifest) => Ok(manifest),
         Err(ResolveError::Refused(cause)) => Err(failed_hydration(file, cause)),
         Err(ResolveError::TreeFault) => Err(ResolveError::TreeFault),
         Err(ResolveError::NoMemory) => Err(ResolveError::NoMemory),
     }
-}
-// A manifest without an ignore pattern.
-fn without_pattern(manifest: Manifest) -> Result<Manifest, ResolveError<JoinRefusal>>
-    requires { IsReady manifest }
-    ensures decided { IsDecided result (rows.without_pattern manifest) }
-    ensures ready { IfOk result IsReady }
-    ensures no_pattern { IfOk result (λ m. IsNone m.ignore_pattern_data) }
-{
-    if manifest.ignore_pattern_data.is_some() {
-        return Err(ResolveError::Refused(JoinRefusal::NotBuilt));
-    }
-    Ok(manifest)
 }
 
 // The refusal of a file that is no manifest.
@@ -115,11 +101,13 @@ pub(crate) fn identifier_of(
 {
     match split_bare_identifier(alloc, target)? {
         Some(identifier) => Ok(identifier),
-        None => Err(ResolveError::Refused(JoinRefusal::NotBuilt)),
+        None => Err(ResolveError::Refused(JoinRefusal::BadSpecifier {
+            specifier: Text::of(alloc, target)?,
+        })),
     }
 }
 
-// The package that the owner's row binds a name to.
+// The package that a name is bound to, by the owner's row or by a fallback.
 pub(crate) fn bound_of(
     alloc: Global,
     manifest: &Manifest,
@@ -131,14 +119,14 @@ pub(crate) fn bound_of(
     ensures { IsDecided result
         (rows.bound_of manifest.now owner.now importer.now target.now name.now) }
 {
-    if !is_settled(manifest, owner, name) {
-        return Err(ResolveError::Refused(JoinRefusal::NotBuilt));
-    }
-    match binding_of(alloc, manifest, owner, name.as_str())? {
+    let issuer = importer.as_str();
+    match binding_of_name(alloc, manifest, owner, name)? {
         Binding::Bound(locator) => Ok(locator),
-        Binding::MissingPeer => Err(ResolveError::Refused(JoinRefusal::NotBuilt)),
+        Binding::MissingPeer => {
+            let told = missing_peer_of(alloc, manifest, owner, target, name.as_str(), issuer)?;
+            Err(ResolveError::Refused(JoinRefusal::MissingPeerDependency(told)))
+        }
         Binding::Undeclared => {
-            let issuer = importer.as_str();
             let told = undeclared_of(alloc, manifest, owner, target, name.as_str(), issuer)?;
             Err(ResolveError::Refused(JoinRefusal::UndeclaredDependency(told)))
         }
@@ -147,28 +135,34 @@ pub(crate) fn bound_of(
 
 // The location of a package's row.
 pub(crate) fn row_of<'a>(
+    alloc: Global,
     manifest: &'a Manifest,
     locator: &PackageLocator,
 ) -> Result<&'a str, ResolveError<JoinRefusal>>
     ensures { IsDecidedTo result (rows.row_of manifest.now locator.now) }
 {
     if !has_package(manifest, locator) {
-        return Err(ResolveError::Refused(JoinRefusal::NotBuilt));
+        return Err(ResolveError::Refused(JoinRefusal::NotInRegistry {
+            name: locator.name.try_clone(alloc)?,
+            reference: locator.reference.try_clone(alloc)?,
+        }));
     }
     Ok(get_package(manifest, locator).package_location.as_str())
 }
 
-// The folder that a location is.
+// The folder where a location's bytes are.
 pub(crate) fn folder_of(
     alloc: Global,
     location: &str,
 ) -> Result<CleanPath, ResolveError<JoinRefusal>>
     ensures { IsDecided result (rows.folder_of location.now) }
 {
-    if !is_plain(location) {
-        return Err(ResolveError::Refused(JoinRefusal::NotBuilt));
+    match physical_place(alloc, location)? {
+        Some(folder) => Ok(folder),
+        None => Err(ResolveError::Refused(JoinRefusal::Archive {
+            location: Text::of(alloc, location)?,
+        })),
     }
-    Ok(CleanPath::read(alloc, &CleanPath::root(alloc), location)?)
 }
 
 // What is found at the location of a package.

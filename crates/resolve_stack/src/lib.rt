@@ -5,15 +5,17 @@ mod import;
 mod join;
 mod join_rows;
 pub mod laws;
-mod location;
+mod pnp_resolver;
 mod project;
 mod request;
 mod verdict;
 
 pub use import::{ImportError, resolve_import};
-pub use project::{Project, ProjectError, Settings};
+pub use pnp_resolver::PnpResolver;
+pub use project::{Project, ProjectError, Settings, TsSettings};
+pub use resolver_core::{Resolve, TsRefusal};
 pub use swc_loader::{FileName, Found, Resolution, TargetEnv, Via};
-pub use verdict::{JoinRefusal, Outcome, Verdict};
+pub use verdict::{JoinRefusal, Outcome, Refusal, Verdict};
 
 #[cfg(test)]
 mod tests;
@@ -37,6 +39,7 @@ mod example {
             preserve_symlinks: false,
             node_modules: true,
             alias: IndexMap::new(rt.alloc()),
+            ts: None,
         };
         let project = Project::new(rt.alloc(), settings)?;
         let importer = FileName::Real(Text::of(rt.alloc(), "/shop/main.js")?);

@@ -1,13 +1,14 @@
 // A project: the settings that stay the same for all its requests.
-ghost use Rattle.std.specs.Prelude.{◌≡◌, IfOk, OnOk, IfErr};
+ghost use Rattle.std.specs.Prelude.{◌≡◌, Ok, IfOk, OnOk, IfErr};
+ghost use Rattle.std.specs.Option.{option_copied};
 ghost use Rattle.sugar_path.specs.Path.{IsCleanPath, path_in};
-ghost use Rattle.swc_loader.specs.Settings.{settings_of};
-ghost use Rattle.resolve_stack.specs.Settings.{IsFaultOf};
+ghost use Rattle.resolve_stack.specs.Settings.{given, project_of, mapping_of, clean_setting, IsCauseOf};
 
 use indexmap::IndexMap;
+use resolver_core::{Mapping, TsError};
 use std::alloc::{AllocError, Global};
 use std::marker::Model;
-use sugar_path::{CleanPath, Text, is_clean};
+use sugar_path::{CleanPath, List, Text, is_clean};
 use swc_loader::{NodeModulesResolver, TargetEnv};
 use thiserror::Error;
 
@@ -24,23 +25,53 @@ pub struct Settings {
     pub node_modules: bool,
     /// From whole specifiers to the targets that stand for them.
     pub alias: IndexMap<Text, Text>,
+    /// The mapping that requests go through first.
+    pub ts: Option<TsSettings>,
 }
 
-/// Why settings make no project.
+/// The settings of a mapping, as a tsconfig has them.
+#[derive(Drop)]
+pub struct TsSettings {
+    /// The base folder, a clean absolute path: targets are asked for from it.
+    pub base_url: Text,
+    /// Patterns in their order, each with its targets.
+    pub paths: List<(Text, List<Text>)>,
+}
+
+/// Why settings make no project, in the order in which the causes count.
 #[derive(Debug, Drop, Error)]
 pub enum ProjectError {
     /// The field isn't a clean absolute path.
     #[error("the setting {field} isn't a clean absolute path")]
     SettingsFault { field: Text },
+    /// The pattern at this place, from 0, has no target.
+    #[error("the pattern at {at} has no target")]
+    EmptyTargets { at: usize },
+    /// It holds more than one `*`.
+    #[error("the pattern at {at} holds more than one `*`")]
+    TwoWildcards { at: usize },
+    /// It holds no `*`, and has more than one target.
+    #[error("the pattern at {at} holds no `*` and has more than one target")]
+    ExactNeedsOne { at: usize },
     /// No memory was found.
     #[error("no memory was found")]
     NoMemory,
 }
 
 /// A project that can answer requests.
-#[derive(Drop)]
 pub struct Project {
     node: NodeModulesResolver,
+    mapping: Option<Mapping>,
+}
+
+// Written out, so that the end of a project is one call to the proofs of what holds it.
+impl Drop for Project {
+    fn drop(self) {
+        let Project {
+            node: _,
+            mapping: _,
+        } = self;
+    }
 }
 
 impl Model for Project {
@@ -48,17 +79,15 @@ impl Model for Project {
 
     ghost Value = { ProjectSettings };
 
-    ghost view = { λ p. record { node = p.node } };
+    ghost view = { λ p. record { node = p.node; mapping = p.mapping } };
 }
 
 impl Project {
-    /// A project of these settings.
+    /// A project of these settings, or the first cause against them.
     pub fn new(alloc: Global, settings: Settings) -> Result<Project, ProjectError>
-        ensures ok { IfOk result (λ p. p.node ≡
-            settings_of (path_in settings.cwd) settings.target settings.alias.entries
-            settings.preserve_symlinks settings.node_modules) }
+        ensures ok { IfOk result (λ p. project_of (given settings) ≡ Ok p) }
         ensures clean { OnOk result (IsCleanPath settings.cwd) }
-        ensures fault { IfErr result (IsFaultOf settings.cwd) }
+        ensures fault { IfErr result (λ e. IsCauseOf e (project_of (given settings))) }
     {
         let Settings {
             cwd,
@@ -66,18 +95,19 @@ impl Project {
             preserve_symlinks,
             node_modules,
             alias,
+            ts,
         } = settings;
-        if !is_clean(cwd.as_str()) {
-            return Err(ProjectError::SettingsFault {
-                field: Text::of(alloc, "cwd")?,
-            });
-        }
+        check_setting(alloc, "cwd", cwd.as_str())?;
+        let mapping = match ts {
+            Some(ts) => Some(mapping_of(alloc, ts)?),
+            None => None,
+        };
         let node = if node_modules {
             NodeModulesResolver::new(cwd, target, alias, preserve_symlinks)
         } else {
             NodeModulesResolver::without_node_modules(cwd, target, alias, preserve_symlinks)
         };
-        Ok(Project { node })
+        Ok(Project { node, mapping })
     }
 
     /// The working folder.
@@ -93,6 +123,36 @@ impl Project {
     {
         &self.node
     }
+
+    // The mapping that requests go through first.
+    pub(crate) fn mapping(&self) -> Option<&Mapping>
+        ensures { option_copied result ≡ self.now.mapping }
+    {
+        self.mapping.as_ref()
+    }
+}
+
+// The mapping of these settings, or the first cause against them.
+fn mapping_of(alloc: Global, ts: TsSettings) -> Result<Mapping, ProjectError>
+    ensures ok { IfOk result (λ m. mapping_of ts ≡ Ok m) }
+    ensures fault { IfErr result (λ e. IsCauseOf e (mapping_of ts)) }
+{
+    let TsSettings { base_url, paths } = ts;
+    check_setting(alloc, "base_url", base_url.as_str())?;
+    Ok(Mapping::new(alloc, base_url, paths)?)
+}
+
+// That a setting is a clean absolute path, or the fault that it isn't.
+fn check_setting(alloc: Global, field: &str, text: &str) -> Result<(), ProjectError>
+    ensures ok { OnOk result (clean_setting field.now text.now ≡ Ok (path_in text.now)) }
+    ensures clean { OnOk result (IsCleanPath text.now) }
+    ensures fault { IfErr result (λ e. IsCauseOf e (clean_setting field.now text.now)) }
+{
+    if !is_clean(text) {
+        let field = Text::of(alloc, field)?;
+        return Err(ProjectError::SettingsFault { field });
+    }
+    Ok(())
 }
 
 impl From<AllocError> for ProjectError {
@@ -103,5 +163,21 @@ impl From<AllocError> for ProjectError {
 
     fn from(_: AllocError) -> Self {
         ProjectError::NoMemory
+    }
+}
+
+impl From<TsError> for ProjectError {
+    ghost use Rattle.std.specs.Prelude.{◌≡◌};
+    ghost use Rattle.resolve_stack.specs.Settings.{cause_of};
+
+    ghost from_gives = { λ e cause. cause ≡ cause_of e };
+
+    fn from(e: TsError) -> Self {
+        match e {
+            TsError::EmptyTargets { at } => ProjectError::EmptyTargets { at },
+            TsError::TwoWildcards { at } => ProjectError::TwoWildcards { at },
+            TsError::ExactNeedsOne { at } => ProjectError::ExactNeedsOne { at },
+            TsError::NoMemory => ProjectError::NoMemory,
+        }
     }
 }

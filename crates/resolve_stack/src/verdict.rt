@@ -1,13 +1,20 @@
 // How a request ends: an answer or a refusal, with the trail that decides it.
-use pnp_core::{HydrationCause, UndeclaredDependency};
+use pnp_core::{HydrationCause, MissingPeerDependency, UndeclaredDependency};
+use resolver_core::TsRefusal;
 use sugar_path::Text;
 use swc_loader::Resolution;
 use thiserror::Error;
 use tree_core::Trail;
 
-/// Why the order of search ends without an answer.
+/// Why the order of the join ends without an answer.
 #[derive(Debug, Drop, PartialEq, Eq, Error)]
 pub enum JoinRefusal {
+    /// The target names no package.
+    #[error("{specifier} names no package")]
+    BadSpecifier {
+        /// The target.
+        specifier: Text,
+    },
     /// The nearest manifest can't be read.
     #[error("the manifest {manifest} can't be read")]
     FailedManifestHydration {
@@ -18,6 +25,27 @@ pub enum JoinRefusal {
     /// The asking package doesn't declare the package that was asked for.
     #[error("{0}")]
     UndeclaredDependency(UndeclaredDependency),
+    /// The asking package has it as a peer, and nobody provides it.
+    #[error("{0}")]
+    MissingPeerDependency(MissingPeerDependency),
+    /// The manifest has no row for the package that the name is bound to.
+    #[error("the manifest has no row for {name}@{reference}")]
+    NotInRegistry {
+        name: Text,
+        reference: Text,
+    },
+    /// A package.json that the search reads isn't one.
+    #[error("{path} is malformed")]
+    MalformedPackage {
+        /// The clean path of the package.json.
+        path: Text,
+    },
+    /// The bound package lies inside an archive.
+    #[error("{location} lies inside an archive")]
+    Archive {
+        /// The location as the package's row says it.
+        location: Text,
+    },
     /// The file that was found isn't below the location of the bound package.
     #[error("the file {file} isn't below {location}")]
     Outside {
@@ -36,22 +64,16 @@ pub enum JoinRefusal {
     /// What asks is no path, and the specifier needs one.
     #[error("the base is no file")]
     BaseNotAFile,
-    /// A package.json that the search reads isn't one.
-    #[error("{path} is malformed")]
-    MalformedPackage {
-        /// The clean path of the package.json.
-        path: Text,
-    },
-    /// The order reaches a step that isn't built yet.
-    #[error("the order reaches a step that isn't built")]
-    NotBuilt,
 }
+
+/// Why the order of search ends without an answer.
+pub type Refusal = TsRefusal<JoinRefusal>;
 
 /// How a request ends.
 #[derive(Debug, Drop, PartialEq, Eq)]
 pub enum Verdict {
     Answered(Resolution),
-    Refused(JoinRefusal),
+    Refused(Refusal),
 }
 
 /// A verdict, and the questions with their replies that decide it.

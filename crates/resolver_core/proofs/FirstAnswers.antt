@@ -1,7 +1,7 @@
 -- What a mapping answers is made of its first inner answer.
 use Rattle.std.proofs.Common.{◌≡◌, ◌⊎◌, inl, inr, ℕ, Bool, true, false, cond, List, [], ◌∷◌, ◌++◌, map, Option, Some, None, Result, Ok, Err, refl, sym, ap, ◌∙◌, append_assoc}
 use Rattle.std.specs.Prelude.{◌&&◌, ◌==◌, not, get_or, length, drop}
-use Rattle.std.specs.List.{AllByRecursion, after_last}
+use Rattle.std.specs.List.{AllByRecursion}
 use Rattle.sugar_path.specs.Path.{is_absolute, join}
 use Rattle.swc_loader.specs.declared.resolution.FileName.{FileName}
 use Rattle.swc_loader.specs.declared.resolution.FileName.TheVariants.{Real}
@@ -10,7 +10,7 @@ use Rattle.resolver_core.specs.declared.pattern.Pattern.{Pattern}
 use Rattle.resolver_core.specs.declared.pattern.Pattern.TheVariants.{Exact, Wildcard}
 use Rattle.resolver_core.specs.declared.refusal.TsRefusal.{TsRefusal}
 use Rattle.resolver_core.specs.Pattern.{deciding}
-use Rattle.resolver_core.specs.Mapping.{Mapping, Try, Tries, Last, First, Mapped, Passed, Unchecked, OrUnchecked, OrFault, is_in_modules, is_slash, masked, plain, with_slug, unchecked, here, is_passed, slug_of, by_exact, replaced, tries_of, by_targets, by_wildcard, by_base_folder, by_pattern, mapped, passed, or_unchecked, or_fault}
+use Rattle.resolver_core.specs.Mapping.{Mapping, Try, Tries, Last, First, Mapped, Passed, Unchecked, OrUnchecked, OrFault, is_in_modules, masked, plain, with_slug, unchecked, here, is_passed, slug_of, replaced, tries_of, by_targets, by_pattern, mapped, passed, or_unchecked, or_fault}
 use Rattle.resolver_core.specs.MappingOnTree.{Answers, made, tried_on, or_else, first_on, or_more, targets_on, mapped_on, Fails, IsFirstAnswer, listed, all_listed, tries_in, FirstAnswerDecides}
 
 -- a try whose answer tells the same file

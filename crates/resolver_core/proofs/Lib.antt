@@ -4,3 +4,4 @@ pub mod MappedOrders
 pub mod KeptAnswers
 pub mod MappingLaws
 pub mod FirstAnswers
+pub mod Sorts

@@ -1,16 +1,16 @@
 -- Calls by the order of a mapping.
-use Rattle.std.proofs.Common.{◌≡◌, ◌++◌, ◌∷◌, [], ℕ, Bool, true, false, List, Option, Some, None, Result, Ok, Err, cond, nat_eq, length, take, refl, sym, ap, ◌∙◌, inl, inr, ◌⊎◌, ◌≢◌, ◌==◌, ◌&&◌}
+use Rattle.std.proofs.Common.{◌≡◌, ◌++◌, ◌∷◌, [], ℕ, Bool, true, false, List, Some, Result, Ok, Err, cond, nat_eq, refl, sym, ap, ◌∙◌, inl, inr, ◌⊎◌, ◌≢◌, ◌==◌, ◌&&◌}
 use Rattle.std.specs.List.{starts_with, find}
 use Rattle.std.proofs.lemmas.Bool.Decides.{eqb_tells}
 use Rattle.tree_core.specs.declared.tree.ReadError.{ReadError}
-use Rattle.tree_core.specs.Plan.{Plan, Done, ◌>>=◌, on_ok}
+use Rattle.tree_core.specs.Plan.{Done, ◌>>=◌, on_ok}
 use Rattle.tree_core.specs.Asks.{Asking, Asks}
 use Rattle.tree_core.proofs.RowOrders.{then-then, then_alike}
 use Rattle.tree_core.proofs.RowCalls.{by_plan}
 use Rattle.tree_core.proofs.Asking.{asks_then, asks_done, asks_fails}
 use Rattle.swc_loader.specs.declared.resolution.FileName.{FileName}
 use Rattle.swc_loader.specs.declared.resolution.Resolution.{Resolution}
-use Rattle.resolver_core.specs.Mapping.{Order, Try, masked, plain, tried}
+use Rattle.resolver_core.specs.Mapping.{Order, masked, plain, tried}
 
 -- an answered try, made into another answer
 abbrev pub made : {X : Type 0} → (Resolution → Resolution) → Result Resolution X → Result Resolution X

@@ -1,15 +1,13 @@
 -- A mapping comes on a tree to what the laws say, and puts the questions that they say.
-use Rattle.std.proofs.Common.{◌≡◌, ℕ, List, [], ◌∷◌, ◌++◌, Result, Ok, Err, refl, sym, ap, ◌∙◌, append_assoc}
+use Rattle.std.proofs.Common.{◌≡◌, List, [], ◌∷◌, ◌++◌, Result, Ok, Err, refl, sym, ap, ◌∙◌, append_assoc}
 use Rattle.std.proofs.lemmas.List.{append-nil}
-use Rattle.tree_core.specs.declared.question.Question.{Question}
 use Rattle.tree_core.specs.Tree.{Files}
-use Rattle.tree_core.specs.Plan.{Plan, Done, answer, asked, on_ok}
+use Rattle.tree_core.specs.Plan.{Done, answer, asked, on_ok}
 use Rattle.tree_core.proofs.Asking.{answer-then, asked-then, answer-done, asked-done}
 use Rattle.tree_core.proofs.RowLaws.{answer-made, asked-made}
-use Rattle.swc_loader.specs.declared.resolution.FileName.{FileName}
 use Rattle.swc_loader.specs.declared.resolution.Resolution.{Resolution}
-use Rattle.resolver_core.specs.Mapping.{Order, Mapping, Try, Tries, Last, First, Mapped, Passed, Unchecked, OrUnchecked, OrFault, masked, mapped, mapping_order, tried, or_next, first_success, or_next_target, each_target, by_mapped, passed, or_unchecked, or_fault}
-use Rattle.resolver_core.specs.MappingOnTree.{Answers, Asked, answers_on, asked_on, made, tried_on, or_else, first_on, or_more, targets_on, mapped_on, unless_answered, tries_ask, targets_ask, mapped_asks, MappingOnTree}
+use Rattle.resolver_core.specs.Mapping.{Order, Try, Tries, Last, First, Mapped, Passed, Unchecked, OrUnchecked, OrFault, masked, mapped, tried, or_next, first_success, or_next_target, each_target, by_mapped, passed, or_unchecked, or_fault}
+use Rattle.resolver_core.specs.MappingOnTree.{answers_on, asked_on, made, tried_on, or_else, first_on, or_more, targets_on, mapped_on, unless_answered, tries_ask, targets_ask, mapped_asks, MappingOnTree}
 
 answer-tried : {X : Type 0} (t : Files) (inner : Order X) (x : Try) → answer t (tried inner x) ≡ tried_on (answers_on t inner) x
 unfolding tried

@@ -1,45 +1,32 @@
 -- Patterns in order, and their reading.
-use Rattle.std.proofs.Common.{◌≡◌, ◌≤◌, ◌<◌, ◌+◌, ℕ, zero, suc, Bool, true, false, not, cond, List, [], ◌∷◌, ◌++◌, length, Result, Ok, Err, IsErrAnd, refl, sym, ap, ◌∙◌, arith, one-add, append_assoc}
+use Rattle.std.proofs.Common.{◌≡◌, ◌+◌, ℕ, true, false, List, [], ◌∷◌, ◌++◌, Result, Ok, Err, IsErrAnd, refl, sym, ap, ◌∙◌, arith, append_assoc}
 use Rattle.std.proofs.lemmas.List.{append-nil}
-use Rattle.std.specs.Prelude.{Option, Some, None, unwrap_or, insert, position, nat_lt}
 use Rattle.std.proofs.lemmas.Bool.Decides.{nat_tests}
-use Rattle.std.specs.List.{position_or_len}
+use Rattle.std.specs.Cmp.{IsStrictWeakOrder}
 use Rattle.resolver_core.specs.declared.pattern.Pattern.{Pattern}
+use Rattle.resolver_core.specs.declared.pattern.Pattern.TheVariants.{Exact, Wildcard}
 use Rattle.sugar_path.specs.Results.{◌>>=◌}
 use Rattle.resolver_core.specs.declared.pattern.TsError.{TsError}
 use Rattle.resolver_core.specs.declared.pattern.TsError.TheVariants.{EmptyTargets, TwoWildcards, ExactNeedsOne, NoMemory}
-use Rattle.resolver_core.specs.Pattern.{Paths, IsReadAs, pattern_of, patterns_from, comes_before, placed, placed_each}
+use Rattle.resolver_core.specs.Pattern.{Paths, IsReadAs, pattern_of, patterns_from, comes_before}
 
--- the place of the first that passes is within the list
-pub place-le : {X : Type 0} (p : X → Bool) (xs : List X) → position_or_len p xs ≤ length xs
-place-le p [] = omega arith
-place-le p (x ∷ xs) = by_test (p x) (place-le p xs)
-  where
-    by_test : (b : Bool) → position_or_len p xs ≤ length xs → cond (not b) (1 + position_or_len p xs) 0 ≤ suc (length xs)
-    by_test true le = omega arith
-    by_test false le = omega arith
+-- Exact patterns before wildcards, and of these the longer prefix first: a strict weak order.
+one_way : (p q : Pattern) → comes_before p q ≡ true → comes_before q p ≡ false
+one_way (Exact text target) (Exact other_text other) h = absurd (cc)
+one_way (Exact text target) (Wildcard other_text other others) h = refl
+one_way (Wildcard text prefix targets) (Exact other_text other) h = absurd (cc)
+one_way (Wildcard text prefix targets) (Wildcard other_text other others) h = grind (arith, nat_tests)
 
--- A pattern is placed by an insertion before the first that it comes before.
-pub placed-insert : (p : Pattern) (qs : List Pattern) → placed p qs ≡ insert qs (position_or_len (comes_before p) qs) p
-placed-insert p [] = refl
-placed-insert p (q ∷ qs) = by_test (comes_before p q) (placed-insert p qs)
-  where
-    by_test : (b : Bool) → placed p qs ≡ insert qs (position_or_len (comes_before p) qs) p → cond b (p ∷ q ∷ qs) (q ∷ placed p qs) ≡ insert (q ∷ qs) (cond (not b) (1 + position_or_len (comes_before p) qs) 0) p
-    by_test true same = refl
-    by_test false same = rw (one-add (position_or_len (comes_before p) qs)) (ap (λ s. q ∷ s) same)
+chain : (p q r : Pattern) → comes_before p q ≡ false → comes_before q r ≡ false → comes_before p r ≡ false
+chain (Exact a b) (Exact c d) (Exact e f) h k = refl
+chain (Exact a b) (Exact c d) (Wildcard e f g) h k = absurd (cc)
+chain (Exact a b) (Wildcard c d e) r h k = absurd (cc)
+chain (Wildcard a b c) q (Exact d e) h k = refl
+chain (Wildcard a b c) (Exact d e) (Wildcard f g i) h k = absurd (cc)
+chain (Wildcard a b c) (Wildcard d e f) (Wildcard g i j) h k = grind (arith, nat_tests)
 
--- One more pattern is placed among those before it.
-pub placed_each-push : (sorted ps : List Pattern) (p : Pattern) → placed_each sorted (ps ++ p ∷ []) ≡ placed p (placed_each sorted ps)
-placed_each-push sorted [] p = refl
-placed_each-push sorted (q ∷ ps) p = placed_each-push (placed q sorted) ps p
-
--- The place of the first that passes, or the end.
-pub place-position : {X : Type 0} (p : X → Bool) (xs : List X) → unwrap_or (position p xs) (length xs) ≡ position_or_len p xs
-place-position p xs = by_test (nat_lt (position_or_len p xs) (length xs)) refl
-  where
-    by_test : (b : Bool) → nat_lt (position_or_len p xs) (length xs) ≡ b → unwrap_or (cond b (Some (position_or_len p xs)) None) (length xs) ≡ position_or_len p xs
-    by_test true e = refl
-    by_test false e = let le = place-le p xs in grind (arith, nat_tests)
+pub comes_before-order : IsStrictWeakOrder comes_before
+comes_before-order = record { one_way = one_way; chain = chain }
 
 -- what is read so far, and then the rest
 abbrev pub after : List Pattern → Result (List Pattern) TsError → Result (List Pattern) TsError

@@ -1,12 +1,10 @@
 -- Parts of texts: what stands behind the last `/`, and what replaces each `*`.
-use Rattle.std.proofs.Common.{◌≡◌, ◌≢◌, ◌<◌, ◌+◌, ◌-◌, ◌==◌, ◌||◌, bytes_eq, inl, inr, ℕ, suc, Bool, true, false, not, cond, List, [], ◌∷◌, ◌++◌, length, get_or, take, drop, refl, sym, ap, ◌∙◌, arith, append_assoc}
-use Rattle.std.specs.Prelude.{flat_map}
+use Rattle.std.proofs.Common.{◌≡◌, ◌≢◌, ◌<◌, ◌+◌, ◌-◌, ◌==◌, ◌||◌, bytes_eq, inl, inr, ℕ, suc, Bool, true, false, not, cond, List, [], ◌∷◌, ◌++◌, length, get_or, take, drop, refl, sym, ap, ◌∙◌, arith}
 use Rattle.std.specs.List.{suffix_len, after_last, position_or_len, before_first, after_first}
 use Rattle.std.proofs.lemmas.Bool.Decides.{eqb_tells}
 use Rattle.std.proofs.lemmas.List.Sums.{suffix_len_is}
 use Rattle.sugar_path.specs.Path.{ends_in_slash}
 use Rattle.sugar_path.proofs.RouteTexts.{ends-last}
-use Rattle.resolver_core.specs.Pattern.{is_star}
 use Rattle.resolver_core.specs.Mapping.{is_slash, replaced}
 
 not_eq : (a b : ℕ) → a ≢ b → (a == b) ≡ false

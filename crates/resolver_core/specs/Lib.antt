@@ -1,7 +1,9 @@
 pub mod Resolving
+pub mod Sorting
 pub mod Pattern
 pub mod Mapping
 pub mod MappingView
 pub mod Caching
 pub mod CacheParts
 pub mod MappingOnTree
+pub mod Laws

@@ -1,7 +1,8 @@
 -- The patterns of a mapping, as TypeScript's `paths` has them: which settings are accepted, in which order patterns are tested, and which one decides.
-use Rattle.std.specs.Prelude.{◌≡◌, ℕ, ◌+◌, ◌==◌, Bool, true, false, if◌then◌else◌, nat_eq, nat_lt, bytes_eq, length, take, drop, List, [], ◌∷◌, Option, Some, None, option_map, Result, Ok, Err, position, find}
+use Rattle.std.specs.Prelude.{◌≡◌, ℕ, ◌+◌, ◌==◌, Bool, true, false, nat_eq, nat_lt, bytes_eq, length, take, drop, List, [], ◌∷◌, Option, Some, None, option_map, Result, Ok, Err, position, find}
 use Rattle.std.specs.List.{starts_with}
 use Rattle.sugar_path.specs.Results.{◌>>=◌}
+use Rattle.resolver_core.specs.Sorting.{sorted_by}
 use Rattle.resolver_core.specs.declared.pattern.Pattern.{Pattern}
 use Rattle.resolver_core.specs.declared.pattern.Pattern.TheVariants.{Exact, Wildcard}
 use Rattle.resolver_core.specs.declared.pattern.TsError.{TsError}
@@ -60,18 +61,9 @@ comes_before (Wildcard text prefix targets) (Exact other_text other) = false
 comes_before (Wildcard text prefix targets) (Wildcard other_text other others) =
     nat_lt (length other) (length prefix)
 
--- a pattern among ones in order: behind all that it doesn't come before, so that ties stay as given
-abbrev pub placed : Pattern → List Pattern → List Pattern
-placed p [] = p ∷ []
-placed p (q ∷ qs) = if comes_before p q then (p ∷ q ∷ qs) else (q ∷ placed p qs)
-
-abbrev pub placed_each : List Pattern → List Pattern → List Pattern
-placed_each sorted [] = sorted
-placed_each sorted (p ∷ ps) = placed_each (placed p sorted) ps
-
 -- patterns in the order in which they are tested
 abbrev pub in_order : List Pattern → List Pattern
-in_order ps = placed_each [] ps
+in_order ps = sorted_by comes_before ps
 
 -- the patterns of settings in that order, or the first cause for which the settings are refused
 abbrev pub sorted_patterns : Paths → Result (List Pattern) TsError

@@ -1,4 +1,5 @@
 // What a mapping comes to on each tree. The resolvers have it by their contracts.
+ghost use Rattle.resolver_core.specs.Laws.{PatternsInOrder};
 ghost use Rattle.resolver_core.specs.MappingOnTree.{FirstAnswerDecides, MappingOnTree};
 
 /// A mapping in front of an order, said as a function of what that order comes to on the tree, with its questions.
@@ -9,4 +10,9 @@ pub fn mapping_on_tree<X>()
 /// What a mapping answers is made of the first inner request that is answered, and tells its file; or it tells none.
 pub fn first_answer_decides<X>()
     ensures { FirstAnswerDecides X }
+{}
+
+/// The patterns of settings are tested in the order that a stable sort gives them.
+pub fn patterns_in_order()
+    ensures { PatternsInOrder }
 {}

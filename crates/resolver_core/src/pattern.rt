@@ -1,10 +1,11 @@
 // The patterns of a mapping: their reading, their order, and which one decides.
 ghost use Rattle.std.specs.Prelude.{◌≡◌, ◌≢◌, [], IfOk, option_map};
-ghost use Rattle.std.specs.List.{position_or_len};
 ghost use Rattle.std.specs.Option.{option_copied};
+ghost use Rattle.std.specs.Ordering.{is_lt};
 ghost use Rattle.resolver_core.specs.Pattern.{IsReadAs, pattern_of, pattern_without_star, patterns_from, sorted_patterns, around_star, comes_before, in_order, matches, deciding};
 
 use std::alloc::{AllocError, Global};
+use std::cmp::Ordering;
 use sugar_path::{List, Text};
 use thiserror::Error;
 
@@ -52,16 +53,17 @@ pub enum Pattern {
 }
 
 impl Pattern {
-    // Whether it is tested before another pattern.
-    fn comes_before(&self, other: &Pattern) -> bool
-        ensures { result ≡ comes_before self.now other.now }
+    // How it stands to another pattern in the order in which they are tested.
+    fn order(&self, other: &Pattern) -> Ordering
+        ensures { is_lt result ≡ comes_before self.now other.now }
     {
         match (self, other) {
-            (Pattern::Exact { .. }, Pattern::Wildcard { .. }) => true,
+            (Pattern::Exact { .. }, Pattern::Exact { .. }) => Ordering::Equal,
+            (Pattern::Exact { .. }, Pattern::Wildcard { .. }) => Ordering::Less,
+            (Pattern::Wildcard { .. }, Pattern::Exact { .. }) => Ordering::Greater,
             (Pattern::Wildcard { prefix, .. }, Pattern::Wildcard { prefix: other, .. }) => {
-                other.as_str().len() < prefix.as_str().len()
+                other.as_str().len().cmp(&prefix.as_str().len())
             }
-            _ => false,
         }
     }
 
@@ -91,7 +93,7 @@ pub(crate) fn sorted_patterns(
     ensures { IsReadAs result (sorted_patterns paths) }
 {
     let patterns = read_patterns(alloc, paths)?;
-    Ok(in_order(alloc, patterns)?)
+    Ok(in_order(patterns)?)
 }
 
 // The patterns of settings as given, or the first cause for which one is refused.
@@ -154,21 +156,10 @@ fn around_star(text: &str) -> Option<(&str, &str)>
 }
 
 // Patterns in the order in which they are tested.
-fn in_order(alloc: Global, patterns: List<Pattern>) -> Result<List<Pattern>, AllocError>
+fn in_order(patterns: List<Pattern>) -> Result<List<Pattern>, AllocError>
     ensures { IfOk result (λ sorted. sorted ≡ in_order patterns) }
 {
-    let mut sorted = Vec::new(alloc);
-    for pattern in Vec::from(patterns) {
-        let at = place_of(&pattern, &sorted);
-        sorted.insert(at, pattern)?;
-    }
-    Ok(List::from(sorted))
-}
-
-// Where a pattern stands among ones in order: before the first that it comes before.
-fn place_of(pattern: &Pattern, sorted: &[Pattern]) -> usize
-    ensures { result ≡ position_or_len (comes_before pattern.now) sorted.now }
-{
-    let before = sorted.iter().position(|other| pattern.comes_before(other));
-    before.unwrap_or(sorted.len())
+    let mut patterns = Vec::from(patterns);
+    patterns.sort_by(|a, b| a.order(b))?;
+    Ok(List::from(patterns))
 }

@@ -25,18 +25,24 @@ fn document(alloc: Global, given: &str, request: &str) -> Result<String, AllocEr
     format!(in alloc; "{front}{given}{middle}{request}{}", "}]}")
 }
 
-#[test]
-fn each_search_has_its_line(rt: HostRuntime) -> Result<(), Fail> {
+// How many rows come to their lines; the first that doesn't ends it.
+pub(super) fn rows_that_come(alloc: Global, rows: &str) -> Result<u8, Fail> {
     let mut tried = 0u8;
-    for row in rows().lines() {
+    for row in rows.lines() {
         let (given, asked) = row.split_once('|').ok_or("files")?;
         let (request, line) = asked.split_once('|').ok_or("a request")?;
-        let document = document(rt.alloc(), given, request)?;
-        let line = ended(rt.alloc(), line)?;
-        let came = comes_to(rt.alloc(), "resolve", document.as_bytes(), 0, line.as_str())?;
-        assert!(rt; came, "at {given} with {request}");
+        let document = document(alloc, given, request)?;
+        let line = ended(alloc, line)?;
+        if !comes_to(alloc, "resolve", document.as_bytes(), 0, line.as_str())? {
+            return Ok(tried);
+        }
         tried = tried.saturating_add(1);
     }
-    assert_eq!(rt; tried, 12);
+    Ok(tried)
+}
+
+#[test]
+fn each_search_has_its_line(rt: HostRuntime) -> Result<(), Fail> {
+    assert_eq!(rt; rows_that_come(rt.alloc(), rows())?, 12);
     Ok(())
 }

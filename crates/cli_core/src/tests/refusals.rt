@@ -2,15 +2,16 @@
 use super::{comes_to, ended};
 use crate::report::line_of_verdict;
 use pnp_core::{Manifest, PackageLocator, read_manifest, undeclared_of};
-use resolve_stack::{JoinRefusal, Verdict};
+use resolve_stack::{JoinRefusal, TsRefusal, Verdict};
 use serde_json::Value;
 use std::alloc::{AllocError, Global};
 use std::test::Fail;
 use sugar_path::Text;
 
-// A package with the root `app` and the package `foo`, which declares itself alone and may not fall back.
+// The root `app`, which binds `foo`, `gone`, which has no row, and `zipped`, which lies in an archive; and `foo`, which binds itself
+// alone, has the peer `peer`, and may not fall back.
 fn whole_manifest() -> &'static str {
-    r#""text":"const RAW_RUNTIME_STATE =\n'{\"dependencyTreeRoots\":[{\"name\":\"app\",\"reference\":\"workspace:.\"}],\"enableTopLevelFallback\":false,\"fallbackExclusionList\":[],\"fallbackPool\":[],\"packageRegistryData\":[[null,[[null,{\"packageLocation\":\"./\",\"packageDependencies\":[[\"foo\",\"npm:1.0.0\"]]}]]],[\"app\",[[\"workspace:.\",{\"packageLocation\":\"./\",\"packageDependencies\":[[\"foo\",\"npm:1.0.0\"]]}]]],[\"foo\",[[\"npm:1.0.0\",{\"packageLocation\":\"./.yarn/foo/\",\"packageDependencies\":[[\"foo\",\"npm:1.0.0\"]]}]]]]}';\n""#
+    r#""text":"const RAW_RUNTIME_STATE =\n'{\"dependencyTreeRoots\":[{\"name\":\"app\",\"reference\":\"workspace:.\"}],\"enableTopLevelFallback\":false,\"fallbackExclusionList\":[],\"fallbackPool\":[],\"packageRegistryData\":[[null,[[null,{\"packageLocation\":\"./\",\"packageDependencies\":[[\"foo\",\"npm:1.0.0\"],[\"gone\",\"npm:1.0.0\"],[\"zipped\",\"npm:1.0.0\"]]}]]],[\"app\",[[\"workspace:.\",{\"packageLocation\":\"./\",\"packageDependencies\":[[\"foo\",\"npm:1.0.0\"],[\"gone\",\"npm:1.0.0\"],[\"zipped\",\"npm:1.0.0\"]]}]]],[\"foo\",[[\"npm:1.0.0\",{\"packageLocation\":\"./.yarn/foo/\",\"packageDependencies\":[[\"foo\",\"npm:1.0.0\"],[\"peer\",null]]}]]],[\"zipped\",[[\"npm:1.0.0\",{\"packageLocation\":\"./c/z.zip/node_modules/z/\",\"packageDependencies\":[]}]]]]}';\n""#
 }
 
 // The content of a manifest, a request and the line that it comes to.
@@ -19,6 +20,11 @@ fn rows() -> &'static str {
 "text":"module.exports = {};"|"from":"/w/a.js","specifier":"foo"|{"refused":{"cause":"NoPayload","kind":"FailedManifestHydration","manifest":"/w/.pnp.cjs"}}
 "text":"const RAW_RUNTIME_STATE =\n'{\"dependencyTreeRoots\":["|"from":"/w/a.js","specifier":"foo"|{"refused":{"cause":"BadJson","kind":"FailedManifestHydration","manifest":"/w/.pnp.cjs"}}
 "text":"const RAW_RUNTIME_STATE = '{\"dependencyTreeRoots\":[],\"enableTopLevelFallback\":true,\"fallbackExclusionList\":[],\"fallbackPool\":[],\"packageRegistryData\":[]}'"|"from":"/w/a.js","specifier":"foo"|{"refused":{"cause":"NoTopLevel","kind":"FailedManifestHydration","manifest":"/w/.pnp.cjs"}}
+"text":"const RAW_RUNTIME_STATE = '{\"dependencyTreeRoots\":[],\"enableTopLevelFallback\":true,\"ignorePatternData\":\"(\",\"fallbackExclusionList\":[],\"fallbackPool\":[],\"packageRegistryData\":[]}'"|"from":"/w/a.js","specifier":"foo"|{"refused":{"cause":"BadPattern","kind":"FailedManifestHydration","manifest":"/w/.pnp.cjs"}}
+whole|"from":"/w/a.js","specifier":"@scope"|{"refused":{"kind":"BadSpecifier","specifier":"@scope"}}
+whole|"from":"/w/a.js","specifier":"gone/x"|{"refused":{"kind":"NotInRegistry","name":"gone","reference":"npm:1.0.0"}}
+whole|"from":"/w/a.js","specifier":"zipped"|{"refused":{"kind":"Archive","location":"/w/c/z.zip/node_modules/z/"}}
+whole|"from":"/w/.yarn/foo/a.js","specifier":"peer/p"|{"refused":{"dependency":"peer","issuer":{"name":"foo","reference":"npm:1.0.0"},"kind":"MissingPeerDependency","message":"foo tried to access peer (a peer dependency) but it isn't provided by its ancestors; this makes the require call ambiguous and unsound.\n\nRequired package: peer (via \"peer/p\")\nRequired by: foo@npm:1.0.0 (via /w/.yarn/foo/a.js)","path":"/w/.yarn/foo/a.js","request":"peer/p"}}
 whole|"from":"/w/a.js","specifier":"bar"|{"refused":{"dependency":"bar","issuer":{"name":"app","reference":"workspace:."},"kind":"UndeclaredDependency","message":"Your application tried to access bar, but it isn't declared in your dependencies; this makes the require call ambiguous and unsound.\n\nRequired package: bar\nRequired by: /w/a.js","path":"/w/a.js","request":"bar"}}
 whole|"from":"/w/.yarn/foo/a.js","specifier":"bar/b"|{"refused":{"dependency":"bar","issuer":{"name":"foo","reference":"npm:1.0.0"},"kind":"UndeclaredDependency","message":"foo tried to access bar, but it isn't declared in its dependencies; this makes the require call ambiguous and unsound.\n\nRequired package: bar (via \"bar/b\")\nRequired by: foo@npm:1.0.0 (via /w/.yarn/foo/a.js)","path":"/w/.yarn/foo/a.js","request":"bar/b"}}
 whole|"from":"/w/a.js","specifier":"foo/b"|{"refused":{"kind":"NotFound","text":"/w/.yarn/foo/b"}}
@@ -48,21 +54,23 @@ fn each_refusal_has_its_line(rt: HostRuntime) -> Result<(), Fail> {
         assert!(rt; came, "at {manifest} with {request}");
         tried = tried.saturating_add(1);
     }
-    assert_eq!(rt; tried, 8);
+    assert_eq!(rt; tried, 13);
     Ok(())
+}
+
+fn line_of_refusal(alloc: Global, refusal: JoinRefusal) -> Result<String, AllocError> {
+    line_of_verdict(alloc, &Verdict::Refused(TsRefusal::Inner(refusal)))
 }
 
 #[test]
 fn a_refusal_of_the_node_rows_has_its_line(rt: HostRuntime) -> Result<(), Fail> {
-    let nowhere = Verdict::Refused(JoinRefusal::BaseNotAFile);
-    let line = line_of_verdict(rt.alloc(), &nowhere)?;
+    let line = line_of_refusal(rt.alloc(), JoinRefusal::BaseNotAFile)?;
     assert!(rt;
         line.as_str() == "{\"refused\":{\"kind\":\"BaseNotAFile\"}}\n",
         "{line}"
     );
     let path = Text::of(rt.alloc(), "/w/package.json")?;
-    let malformed = Verdict::Refused(JoinRefusal::MalformedPackage { path });
-    let line = line_of_verdict(rt.alloc(), &malformed)?;
+    let line = line_of_refusal(rt.alloc(), JoinRefusal::MalformedPackage { path })?;
     assert!(rt; line.as_str() == malformed_line(), "{line}");
     Ok(())
 }
@@ -72,17 +80,14 @@ fn malformed_line() -> &'static str {
 "#
 }
 
-// The line for the builtin `fs`, which a package doesn't declare. No request comes to it yet.
+// The line for the builtin `fs`, which a package doesn't declare, as a request for browsers has it.
 fn line_of_builtin(alloc: Global, manifest: &Manifest, name: &str) -> Result<String, AllocError> {
     let owner = PackageLocator {
         name: Text::of(alloc, name)?,
         reference: Text::of(alloc, "1")?,
     };
     let told = undeclared_of(alloc, manifest, &owner, "fs", "fs", "/w/a.js")?;
-    line_of_verdict(
-        alloc,
-        &Verdict::Refused(JoinRefusal::UndeclaredDependency(told)),
-    )
+    line_of_refusal(alloc, JoinRefusal::UndeclaredDependency(told))
 }
 
 // What each message of `fs` says: who asks for it and whose dependencies lack it.

@@ -32,6 +32,7 @@ fn its_outcome<T: Tree>(alloc: Global, tree: &mut T) -> Result<Option<Outcome>, 
         preserve_symlinks: false,
         node_modules: true,
         alias: Object::new(alloc).map,
+        ts: None,
     };
     let project = Project::new(alloc, settings)?;
     let importer = FileName::Real(Text::of(alloc, "/w/a.js")?);

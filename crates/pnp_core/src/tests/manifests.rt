@@ -32,18 +32,29 @@ pub(super) fn path(alloc: Global, text: &str) -> Result<CleanPath, Fail> {
     Ok(CleanPath::read(alloc, &CleanPath::root(alloc), text)?)
 }
 
-// The file `/w/.pnp.cjs`.
-fn tree(alloc: Global) -> Result<MemoryTree, Fail> {
+// The file `/w/.pnp.cjs` with a text.
+pub(super) fn tree_of(alloc: Global, text: &str) -> Result<MemoryTree, Fail> {
     let mut tree = MemoryTree::new(alloc);
-    tree.put("/w/.pnp.cjs", manifest_text().as_bytes(), "/w/.pnp.cjs")?;
+    tree.put("/w/.pnp.cjs", text.as_bytes(), "/w/.pnp.cjs")?;
     Ok(tree)
+}
+
+pub(super) fn tree(alloc: Global) -> Result<MemoryTree, Fail> {
+    tree_of(alloc, manifest_text())
 }
 
 // What that file says, ready.
 pub(super) fn ready_manifest(alloc: Global) -> Result<Manifest, Fail>
     ensures { IfOk result IsReady }
 {
-    let mut tree = tree(alloc)?;
+    ready_from(alloc, manifest_text())
+}
+
+// What a manifest's text says, ready.
+pub(super) fn ready_from(alloc: Global, text: &str) -> Result<Manifest, Fail>
+    ensures { IfOk result IsReady }
+{
+    let mut tree = tree_of(alloc, text)?;
     let mut recorder = Recorder::new(alloc, &mut tree);
     let file = path(alloc, "/w/.pnp.cjs")?;
     let manifest = loaded_manifest(alloc, &mut recorder, &file)?;

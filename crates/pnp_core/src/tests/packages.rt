@@ -1,12 +1,11 @@
 // What a manifest has of its packages, at values from outside. The manifest is lent to each check, so that one function owns it.
-ghost use Rattle.std.specs.Prelude.{IsNone};
 ghost use Rattle.pnp_core.specs.Owner.{IsReady};
 
 use super::manifests::{path, ready_manifest};
-use super::wordings::messages_are_told;
+use super::wordings::{messages_are_told, peers_are_told};
 use crate::{
     Binding, Manifest, PackageLocator, binding_of, find_locator, get_package, has_package,
-    is_dependency_tree_root, is_excluded_from_fallback, is_settled,
+    is_dependency_tree_root, is_excluded_from_fallback,
 };
 use std::alloc::{AllocError, Global};
 use std::process::Abort;
@@ -16,13 +15,11 @@ use sugar_path::Text;
 #[test]
 fn a_manifest_answers(rt: HostRuntime) -> Result<(), Fail> {
     let manifest = ready_manifest(rt.alloc())?;
-    assert!(rt; manifest.ignore_pattern_data.is_none());
     answers(&rt, rt.alloc(), &manifest)
 }
 
 fn answers(rt: &impl Abort, alloc: Global, manifest: &Manifest) -> Result<(), Fail>
-    requires ready { IsReady manifest.now }
-    requires no_pattern { IsNone manifest.now.ignore_pattern_data }
+    requires { IsReady manifest.now }
 {
     assert_eq!(rt; manifest.manifest_path.as_str(), "/w/.pnp.cjs");
     paths_have_owners(rt, alloc, manifest)?;
@@ -30,14 +27,13 @@ fn answers(rt: &impl Abort, alloc: Global, manifest: &Manifest) -> Result<(), Fa
     locators_have_rows(rt, alloc, manifest)?;
     lists_name_locators(rt, alloc, manifest)?;
     names_are_bound(rt, alloc, manifest)?;
-    an_excluded_row_decides_alone(rt, alloc, manifest)?;
-    messages_are_told(rt, alloc, manifest)
+    messages_are_told(rt, alloc, manifest)?;
+    peers_are_told(rt, alloc, manifest)
 }
 
 // The row of `hidden` is discarded, so `foo` owns what lies there.
 fn paths_have_owners(rt: &impl Abort, alloc: Global, manifest: &Manifest) -> Result<(), Fail>
-    requires ready { IsReady manifest.now }
-    requires no_pattern { IsNone manifest.now.ignore_pattern_data }
+    requires { IsReady manifest.now }
 {
     for (text, wanted) in [
         ("/w/.yarn/foo/lib/x.js", "foo"),
@@ -56,8 +52,7 @@ fn nothing_owns_a_path_outside(
     alloc: Global,
     manifest: &Manifest,
 ) -> Result<(), Fail>
-    requires ready { IsReady manifest.now }
-    requires no_pattern { IsNone manifest.now.ignore_pattern_data }
+    requires { IsReady manifest.now }
 {
     let path = path(alloc, "/x.js")?;
     assert!(rt; find_locator(alloc, manifest, path.as_str())?.is_none());
@@ -113,16 +108,6 @@ fn names_are_bound(rt: &impl Abort, alloc: Global, manifest: &Manifest) -> Resul
         let found = bound(alloc, manifest, package, name)?;
         assert_eq!(rt; found.as_str(), wanted, "{name} of {package}");
     }
-    Ok(())
-}
-
-fn an_excluded_row_decides_alone(
-    rt: &impl Abort,
-    alloc: Global,
-    manifest: &Manifest,
-) -> Result<(), Fail> {
-    let alone = locator(alloc, "alone", "npm:1.0.0")?;
-    assert!(rt; is_settled(manifest, &alone, &Text::of(alloc, "peer")?));
     Ok(())
 }
 

@@ -1,10 +1,10 @@
-use Rattle.std.proofs.Common.{◌≡◌, Ok, Some, refl, ap, sym, ◌∙◌, Bool, true, false, ◌&&◌}
+use Rattle.std.proofs.Common.{◌≡◌, Ok, refl, ◌∙◌}
 use Rattle.tree_core.specs.Plan.{Done}
 use Rattle.tree_core.specs.Resolving.{resolving}
 use Rattle.tree_core.specs.Rows.{never_refuses}
 use Rattle.tree_core.proofs.Asking.{asks_then, asks_done, asks_fails_in, asks_starved_in}
 use Rattle.resolve_stack.specs.Rows.{is_told_relative}
-use Rattle.tree_core.proofs.RowCalls.{after_row_as, stops_row, end_row, goes_on_row, after_decision, stops_decision, last_row, by_plan}
+use Rattle.tree_core.proofs.RowCalls.{after_row_as, stops_row, end_row, goes_on_row, after_decision, stops_decision, last_row}
 use Rattle.resolve_stack.proofs.join.join_in_folder.Goals as goal
 use Rattle.resolve_stack.proofs.join.join_in_folder.Goals.{then-rewritten, else-rewritten}
 

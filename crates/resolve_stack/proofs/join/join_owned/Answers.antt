@@ -1,7 +1,7 @@
-use Rattle.std.proofs.Common.{◌≡◌, Bool, true, false, not, refl, sym, ap, ◌∙◌, cond}
-use Rattle.swc_loader.specs.Specifier.{is_bare}
+use Rattle.std.proofs.Common.{sym, ◌∙◌}
 use Rattle.swc_loader.specs.NodeRows.{target_or_answer, target_before_search}
 use Rattle.tree_core.specs.Plan.{Done}
+use Rattle.resolve_stack.specs.Rows.{of_node}
 use Rattle.resolve_stack.proofs.Raising.{asks_raised_result, bare_row, searched_row}
 use Rattle.tree_core.proofs.RowCalls.{row_then, row_fails, end_row, goes_on_row}
 use Rattle.resolve_stack.proofs.join.join_owned.Goals as goal
@@ -19,11 +19,11 @@ unfolding target_before_search
 returns-then-not-is_bare g c =
     let bare = sym c.is_bare.ensures ∙ c.if-not-is_bare.true in
     row_then (λ before. Done (target_or_answer before)) _ (rw (c.node.ensures, c.requires) at c.in_ok-before.ensures) c.in-Target.is
-    (goes_on_row _ _ (searched_row _ _ _ _ _ (rw c.as_str.ensures at bare) (rw c.raised.ensures (asks_raised_result _ (rw (c.node-then-not-is_bare.ensures, c.as_str-then-not-is_bare.ensures) at c.search-found.ensures)))))
+    (goes_on_row _ _ (searched_row c.args.project.now _ _ _ _ (rw c.as_str.ensures at bare) (rw c.raised.ensures (asks_raised_result of_node _ (rw (c.node-then-not-is_bare.ensures, c.as_str-then-not-is_bare.ensures) at c.search-found.ensures)))))
 
 pub returns : goal.returns
 unfolding target_before_search
 returns g c =
     let bare = sym c.is_bare.ensures ∙ c.if-not-is_bare.false in
     row_then (λ before. Done (target_or_answer before)) _ (rw (c.node.ensures, c.requires) at c.in_ok-before.ensures) c.in-Target.is
-    (goes_on_row _ _ (bare_row _ _ _ _ _ (rw c.as_str.ensures at bare) (rw (c.as_str-2.ensures, c.requires) at c.join_bare.ensures)))
+    (goes_on_row _ _ (bare_row c.args.project.now _ _ _ _ (rw c.as_str.ensures at bare) (rw (c.as_str-2.ensures, c.requires) at c.join_bare.ensures)))

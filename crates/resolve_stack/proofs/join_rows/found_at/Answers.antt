@@ -1,5 +1,6 @@
-use Rattle.std.proofs.Common.{◌≡◌, Some, ap, sym, ◌∙◌}
+use Rattle.std.proofs.Common.{◌≡◌, Some, ap}
 use Rattle.std.specs.Option.{option_copied}
+use Rattle.resolve_stack.specs.Rows.{of_node}
 use Rattle.resolve_stack.proofs.Raising.{asks_raised_result}
 use Rattle.resolve_stack.proofs.join_rows.found_at.Goals as goal
 use Rattle.resolve_stack.proofs.join_rows.found_at.Goals.{in-Some, in-None}
@@ -10,4 +11,4 @@ returns g c =
       | in-Some w ↦ rw (w.subpath-is, w.in-Some.is) (ap Some w.as_str.ensures)
       | in-None w ↦ rw (w.subpath-is, w.in-None.is)
     ] in
-    rw c.raised.ensures (asks_raised_result _ (rw (c.node.ensures, same) at c.resolve_at-found.ensures))
+    rw c.raised.ensures (asks_raised_result of_node _ (rw (c.node.ensures, same) at c.resolve_at-found.ensures))

@@ -1,11 +1,11 @@
 use Rattle.std.proofs.Common.{Err, refl}
-use Rattle.tree_core.proofs.Asking.{asks_then, asks_fails, asks_decided}
+use Rattle.tree_core.proofs.Asking.{asks_then, asks_done, asks_fails, asks_decided}
 use Rattle.resolve_stack.specs.Rows.{read_manifest}
 use Rattle.resolve_stack.proofs.join_rows.read_manifest.Goals as goal
 
 pub returns-in-Ok-clause-asks : goal.returns-in-Ok-clause-asks
 unfolding read_manifest
-returns-in-Ok-clause-asks g c = asks_then _ c.in-Ok.ensures.asks (asks_decided _ c.without_pattern.ensures.decided)
+returns-in-Ok-clause-asks g c = asks_then _ c.in-Ok.ensures.asks (asks_done refl)
 
 pub returns-in-Err-Refused-clause-asks : goal.returns-in-Err-Refused-clause-asks
 unfolding read_manifest

@@ -1,4 +1,3 @@
-use Rattle.std.proofs.Common.{rules}
 use Rattle.resolver_core.proofs.MappedOrders.{begins}
 use Rattle.resolver_core.proofs.requests.behind.Goals as goal
 

@@ -1,4 +1,4 @@
-use Rattle.std.proofs.Common.{◌≡◌, ◌==◌, Bool, true, false, get_or, refl, sym, ◌∙◌, lit<}
+use Rattle.std.proofs.Common.{◌≡◌, ◌==◌, true, false, get_or, refl, sym, ◌∙◌, lit<}
 use Rattle.tree_core.proofs.RowOrders.{then-then}
 use Rattle.tree_core.proofs.RowCalls.{by_plan}
 use Rattle.tree_core.proofs.Asking.{asks_as, asks_then, asks_done, asks_fails}

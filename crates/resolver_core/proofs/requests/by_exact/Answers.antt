@@ -1,4 +1,4 @@
-use Rattle.std.proofs.Common.{◌≡◌, Ok, Bool, true, false, refl, sym, ap, ◌∙◌, lit<}
+use Rattle.std.proofs.Common.{◌≡◌, Ok, true, false, sym, ap, ◌∙◌, lit<}
 use Rattle.sugar_path.specs.Path.{is_absolute}
 use Rattle.tree_core.proofs.Asking.{asks_as, asks_done, asks_fails, asks_starved}
 use Rattle.resolver_core.specs.Mapping.{slug_of, with_slug, unchecked, by_mapped}

@@ -5,6 +5,7 @@ use Rattle.std.proofs.lemmas.Result.{err_from_is_err_and}
 use Rattle.es_pattern.specs.Pieces.{tree_of}
 use Rattle.es_pattern.proofs.Sound.{accepted_is_pattern}
 use Rattle.es_pattern.proofs.Beginnings.{pattern_accepted}
+use Rattle.es_pattern.proofs.Accepting.{accepted_as, caused_none}
 use Rattle.es_pattern.proofs.OneFault.{caused_as, caused_by_memory, no_fault}
 use Rattle.es_pattern.proofs.pattern.Pattern.parse.Goals as goal
 
@@ -26,3 +27,11 @@ pub returns-in_err-pieces-clause-accepts : goal.returns-in_err-pieces-clause-acc
 returns-in_err-pieces-clause-accepts c = λ tree h limits.
     let p = err_from_is_err_and c.from_residual.result c.from_residual.ensures.1 in rw (p.1, p.2)
     (caused_by_memory (chars c.args.text.now) tree c.in_err-pieces.field-0.0 h limits c.in_err-pieces.ensures.fault)
+
+pub returns-clause-reads : goal.returns-clause-reads
+returns-clause-reads c = accepted_as (chars c.args.text.now) (tree_of c.in_ok-pieces.pieces.items) c.in_ok-pieces.ensures.ok c.in_ok-pieces.ensures.clear
+
+pub returns-in_err-pieces-clause-none : goal.returns-in_err-pieces-clause-none
+returns-in_err-pieces-clause-none c =
+    let p = err_from_is_err_and c.from_residual.result c.from_residual.ensures.1 in rw (p.1, p.2)
+    (caused_none (chars c.args.text.now) c.in_err-pieces.field-0.0 c.in_err-pieces.ensures.fault)

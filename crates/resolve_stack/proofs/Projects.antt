@@ -1,0 +1,90 @@
+-- What settings make, one cause after the other.
+use Rattle.std.proofs.Common.{◌≡◌, ℕ, List, Option, Some, Result, Ok, Err, IfErr, IsErrAnd, sym, ap, ◌∙◌, subst}
+use Rattle.std.specs.Prelude.{codes}
+use Rattle.sugar_path.specs.Path.{Path}
+use Rattle.sugar_path.specs.Results.{◌>>=◌}
+use Rattle.tree_core.specs.Asks.{widened}
+use Rattle.resolver_core.specs.declared.pattern.TsError.{TsError}
+use Rattle.resolver_core.specs.declared.pattern.TsError.TheVariants as ts_error
+use Rattle.resolver_core.specs.declared.pattern.Pattern.{Pattern}
+use Rattle.resolver_core.specs.Mapping.{Mapping}
+use Rattle.resolver_core.specs.Pattern.{IsReadAs, sorted_patterns}
+use Rattle.swc_loader.specs.Settings.{NodeSettings, settings_of}
+use Rattle.resolve_stack.specs.declared.project.TsSettings.{TsSettings}
+use Rattle.resolve_stack.specs.declared.project.ProjectError.{ProjectError}
+use Rattle.resolve_stack.specs.declared.project.ProjectError.TheVariants.{SettingsFault, EmptyTargets, TwoWildcards, ExactNeedsOne, NoMemory}
+use Rattle.resolve_stack.specs.Settings.{GivenSettings, ProjectSettings, clean_setting, cause_of, mapping_of, mapping_given, project_of, IsCauseOf}
+
+-- what fails with a cause is refused by it
+pub refused_by : {A B : Type 0} (made : Result A ProjectError) (e : ProjectError) (r : Result B ProjectError) → IsErrAnd r (λ x. x ≡ e) → IsCauseOf e made → IfErr r (λ x. IsCauseOf x made)
+refused_by made e (Ok b) is h = elim is [ ]
+refused_by made e (Err x) is h = let P : ProjectError → Type 0 = λ y. IsCauseOf y made in subst P (sym is) h
+
+-- the cause of a first step is that of the whole
+pub cause_first : {A B : Type 0} (e : ProjectError) (r : Result A ProjectError) (next : A → Result B ProjectError) → IsCauseOf e r → IsCauseOf e (r >>= next)
+cause_first (SettingsFault field) r next is = ap (λ x. x >>= next) is
+cause_first (EmptyTargets at) r next is = ap (λ x. x >>= next) is
+cause_first (TwoWildcards at) r next is = ap (λ x. x >>= next) is
+cause_first (ExactNeedsOne at) r next is = ap (λ x. x >>= next) is
+cause_first NoMemory r next is = tt
+
+-- so is the cause of a later one
+pub cause_then : {A B : Type 0} (e : ProjectError) (r : Result A ProjectError) (a : A) (next : A → Result B ProjectError) → r ≡ Ok a → IsCauseOf e (next a) → IsCauseOf e (r >>= next)
+cause_then {A = A} e r a next is h = let P : Result A ProjectError → Type 0 = λ x. IsCauseOf e (x >>= next) in subst P (sym is) h
+
+-- the cause against patterns, as one against the settings
+pub cause_of_patterns : {A : Type 0} (e : TsError) (r : Result A TsError) → IsReadAs (Err e) r → IsCauseOf (cause_of e) (widened cause_of r)
+cause_of_patterns (ts_error.EmptyTargets at) r is = ap (widened cause_of) is
+cause_of_patterns (ts_error.TwoWildcards at) r is = ap (widened cause_of) is
+cause_of_patterns (ts_error.ExactNeedsOne at) r is = ap (widened cause_of) is
+cause_of_patterns ts_error.NoMemory r is = tt
+
+-- A mapping whose base folder isn't clean, and one whose patterns are refused
+pub mapping_unclean : (e : ProjectError) (ts : TsSettings) (text : List ℕ) → text ≡ ts.base_url → IsCauseOf e (clean_setting (codes "base_url") text) → IsCauseOf e (mapping_of ts)
+unfolding mapping_of
+mapping_unclean e ts text same is =
+    let P : List ℕ → Type 0 = λ t. IsCauseOf e (clean_setting (codes "base_url") t) in
+    cause_first e (clean_setting (codes "base_url") ts.base_url) _ (subst P same is)
+
+pub mapping_unread : (e : TsError) (ts : TsSettings) (text : List ℕ) (p : Path) → text ≡ ts.base_url → clean_setting (codes "base_url") text ≡ Ok p → IsReadAs {A = List Pattern} (Err e) (sorted_patterns ts.paths) → IsCauseOf (cause_of e) (mapping_of ts)
+unfolding mapping_of
+mapping_unread e ts text p same clean is =
+    cause_then (cause_of e) (clean_setting (codes "base_url") ts.base_url) p _ (ap (clean_setting (codes "base_url")) (sym same) ∙ clean)
+    (cause_first (cause_of e) (widened cause_of (sorted_patterns ts.paths)) _ (cause_of_patterns e (sorted_patterns ts.paths) is))
+
+-- the mapping that settings make
+pub mapping_made : (ts : TsSettings) (text : List ℕ) (p : Path) (m : Mapping) → text ≡ ts.base_url → clean_setting (codes "base_url") text ≡ Ok p → sorted_patterns ts.paths ≡ Ok m.patterns → m.base_url ≡ ts.base_url → mapping_of ts ≡ Ok m
+unfolding mapping_of
+mapping_made ts text p m same clean sorted base =
+    let with : List ℕ → List Pattern → Result Mapping ProjectError = λ url patterns. Ok (record { base_url = url; patterns = patterns }) in
+    ap (λ (r : Result Path ProjectError). r >>= λ folder. widened cause_of (sorted_patterns ts.paths) >>= with ts.base_url) (ap (clean_setting (codes "base_url")) (sym same) ∙ clean)
+    ∙ ap (λ (r : Result (List Pattern) TsError). widened cause_of r >>= with ts.base_url) sorted
+    ∙ ap (λ url. with url m.patterns) (sym base)
+
+pub some_mapping : (ts : TsSettings) (m : Mapping) → mapping_of ts ≡ Ok m → mapping_given (Some ts) ≡ Ok (Some m)
+some_mapping ts m made = ap (λ (r : Result Mapping ProjectError). r >>= λ mapping. Ok (Some mapping)) made
+
+-- A project whose working folder isn't clean, and one whose mapping is refused
+pub project_unclean : (e : ProjectError) (s : GivenSettings) (text : List ℕ) → text ≡ s.cwd → IsCauseOf e (clean_setting (codes "cwd") text) → IsCauseOf e (project_of s)
+unfolding project_of
+project_unclean e s text same is =
+    let P : List ℕ → Type 0 = λ t. IsCauseOf e (clean_setting (codes "cwd") t) in
+    cause_first e (clean_setting (codes "cwd") s.cwd) _ (subst P same is)
+
+pub project_unmapped : (e : ProjectError) (s : GivenSettings) (text : List ℕ) (p : Path) (ts : TsSettings) → text ≡ s.cwd → clean_setting (codes "cwd") text ≡ Ok p → s.ts ≡ Some ts → IsCauseOf e (mapping_of ts) → IsCauseOf e (project_of s)
+unfolding project_of
+project_unmapped e s text p ts same clean is h =
+    let P : Option TsSettings → Type 0 = λ o. IsCauseOf e (mapping_given o) in
+    let refused : IsCauseOf e (mapping_given s.ts) = subst P (sym is) (cause_first e (mapping_of ts) (λ m. Ok (Some m)) h) in
+    cause_then e (clean_setting (codes "cwd") s.cwd) p _ (ap (clean_setting (codes "cwd")) (sym same) ∙ clean)
+    (cause_first e (mapping_given s.ts) _ refused)
+
+-- the project that settings make
+pub project_made : (s : GivenSettings) (text : List ℕ) (p : Path) (o : Option Mapping) (node : NodeSettings) → text ≡ s.cwd → clean_setting (codes "cwd") text ≡ Ok p → mapping_given s.ts ≡ Ok o → node ≡ settings_of p s.target s.alias s.preserve_symlinks s.node_modules → project_of s ≡ Ok (record { node = node; mapping = o })
+unfolding project_of
+project_made s text p o node same clean mapped is =
+    let with : NodeSettings → Option Mapping → Result ProjectSettings ProjectError = λ n m. Ok (record { node = n; mapping = m }) in
+    let from : Path → NodeSettings = λ cwd. settings_of cwd s.target s.alias s.preserve_symlinks s.node_modules in
+    ap (λ (r : Result Path ProjectError). r >>= λ cwd. mapping_given s.ts >>= with (from cwd)) (ap (clean_setting (codes "cwd")) (sym same) ∙ clean)
+    ∙ ap (λ (r : Result (Option Mapping) ProjectError). r >>= with (from p)) mapped
+    ∙ ap (λ n. with n o) (sym is)
