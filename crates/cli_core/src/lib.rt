@@ -30,25 +30,3 @@ pub use sink::{Sink, SinkFault};
 pub use source::{Source, SourceFault};
 pub use standard_streams::{ReaderSource, WriterSink};
 pub use status::Status;
-
-#[cfg(test)]
-mod tests;
-
-// A document with one request, and the line that is written for it.
-#[cfg(test)]
-mod example {
-    use crate::report_for;
-    use std::test::Fail;
-
-    #[test]
-    fn a_request_has_its_line(rt: HostRuntime) -> Result<(), Fail> {
-        let document = r#"{"cwd": "/w", "target": "node",
-            "files": [{"path": "/w/a.js", "text": ""}, {"path": "/w/b.js", "text": ""}],
-            "requests": [{"from": "/w/a.js", "specifier": "./b"}]}"#;
-        let line =
-            r#"{"answer":{"real":"/w/b.js"},"found":{"file":"/w/b.js","via":null},"slug":null}"#;
-        let report = report_for(rt.alloc(), document.as_bytes())?;
-        assert_eq!(rt; report.trim_end(), line);
-        Ok(())
-    }
-}

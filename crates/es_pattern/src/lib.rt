@@ -1,5 +1,5 @@
 //! Patterns: regular expressions after ECMAScript without flags, and whether one is found in a
-//! text. The test `the_example` runs these lines:
+//! text. The test `the_example` of `es_pattern_tests` runs these lines:
 //!
 //! ```
 //! let pattern = Pattern::parse(alloc, "^src/.*\\.ts$")?;
@@ -28,8 +28,6 @@ mod program;
 mod reader;
 mod search;
 mod step;
-#[cfg(test)]
-mod tests;
 mod turns;
 mod walk;
 

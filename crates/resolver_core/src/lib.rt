@@ -18,6 +18,3 @@ pub use mapping::{Mapping, TsConfigResolver};
 pub use pattern::{Pattern, TsError};
 pub use refusal::TsRefusal;
 pub use resolve::Resolve;
-
-#[cfg(test)]
-mod tests;

@@ -24,8 +24,8 @@ pub enum PackageEntry {
     At(Text),
 }
 
-// The entry that the content of a package.json names.
-pub(crate) fn entry_of(
+/// The entry that the content of a package.json names; a content that is missing, as of a file that can't be read, is malformed.
+pub fn entry_of(
     alloc: Global,
     conventions: &Conventions,
     target: TargetEnv,

@@ -24,8 +24,8 @@ pub enum Searched {
     Malformed(CleanPath),
 }
 
-// The place of a text that means this path: its file candidates, and then its folder.
-pub(crate) fn place<R: Asker>(
+/// The place of a text that means this path: its file candidates, and then its folder.
+pub fn place<R: Asker>(
     alloc: Global,
     tree: &mut R,
     conventions: &Conventions,
@@ -84,8 +84,8 @@ fn file_of<R: Asker>(
     }
 }
 
-// The search of a folder: by the entry of its package.json where it has one, else by its index files.
-pub(crate) fn folder<R: Asker>(
+/// The search of a folder: by the entry of its package.json where it has one, else by its index files.
+pub fn folder<R: Asker>(
     alloc: Global,
     tree: &mut R,
     conventions: &Conventions,

@@ -1,0 +1,13 @@
+//! The tests of `cli_core`.
+#![tactic(auto)]
+
+#[cfg(test)]
+mod documents;
+#[cfg(test)]
+mod example;
+#[cfg(test)]
+mod mappings;
+#[cfg(test)]
+mod node_search;
+#[cfg(test)]
+mod refusals;

@@ -1,0 +1,11 @@
+//! The tests of `deno_package_json`.
+#![tactic(auto)]
+
+#[cfg(test)]
+mod example;
+#[cfg(test)]
+mod fields;
+#[cfg(test)]
+mod fixtures;
+#[cfg(test)]
+mod loads;

@@ -1,0 +1,5 @@
+//! The tests of `es_pattern`.
+#![tactic(auto)]
+
+#[cfg(test)]
+mod patterns;

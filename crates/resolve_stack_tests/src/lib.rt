@@ -1,0 +1,15 @@
+//! The tests of `resolve_stack`.
+#![tactic(auto)]
+
+#[cfg(test)]
+mod example;
+#[cfg(test)]
+mod join_rows;
+#[cfg(test)]
+mod mappings;
+#[cfg(test)]
+mod projects;
+#[cfg(test)]
+mod requests;
+#[cfg(test)]
+mod trail;

@@ -1,0 +1,11 @@
+//! The tests of `swc_loader`.
+#![tactic(auto)]
+
+#[cfg(test)]
+mod browser_maps;
+#[cfg(test)]
+mod example;
+#[cfg(test)]
+mod node_orders;
+#[cfg(test)]
+mod searches;

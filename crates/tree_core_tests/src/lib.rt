@@ -1,0 +1,7 @@
+//! The tests of `tree_core`.
+#![tactic(auto)]
+
+#[cfg(test)]
+mod example;
+#[cfg(test)]
+mod trees;
