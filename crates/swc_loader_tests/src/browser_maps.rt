@@ -1,6 +1,6 @@
 // Browser maps, worked out by hand from docs/ORDER.md: what a request comes to by them, and its questions in order.
 use crate::node_orders::{base_of, came_to, resolver_of};
-use crate::searches::questions_in;
+use crate::searches::{questions_in, tree_of};
 use std::alloc::Global;
 use std::test::Fail;
 use sugar_path::CleanPath;
@@ -665,7 +665,7 @@ const RULES: [Mapped; 24] = [
 ];
 
 fn tree(alloc: Global, files: &str, packages: &[(&str, &str)]) -> Result<MemoryTree, Fail> {
-    let mut tree = super::tree_of(alloc, packages)?;
+    let mut tree = tree_of(alloc, packages)?;
     for path in files.split_whitespace() {
         tree.put(path, b"", path)?;
     }

@@ -76,7 +76,7 @@ fn candidates_stand_in_their_order(rt: HostRuntime) -> Result<(), Fail> {
 }
 
 // The questions of a trail, each behind a blank: a path alone asks whether it is a file.
-fn questions_in(alloc: Global, trail: &Trail) -> Result<String, Fail> {
+pub(crate) fn questions_in(alloc: Global, trail: &Trail) -> Result<String, Fail> {
     let mut questions = String::new(alloc);
     for (question, _) in trail.iter() {
         questions.push_str(match question {
@@ -101,7 +101,7 @@ fn told(alloc: Global, found: &Searched) -> Result<String, Fail> {
 }
 
 // A tree with these files, each with its content.
-fn tree_of(alloc: Global, files: &[(&str, &str)]) -> Result<MemoryTree, Fail> {
+pub(crate) fn tree_of(alloc: Global, files: &[(&str, &str)]) -> Result<MemoryTree, Fail> {
     let mut tree = MemoryTree::new(alloc);
     for (path, content) in files {
         tree.put(path, content.as_bytes(), path)?;
