@@ -12,7 +12,7 @@ use Rattle.resolve_stack.specs.Settings.{ProjectSettings, IsCauseOf}
 use Rattle.resolve_stack.specs.Request.{asked_for}
 use Rattle.resolve_stack.specs.Verdict.{verdict}
 use Rattle.resolve_stack.specs.declared.project.ProjectError.{ProjectError}
-use Rattle.resolve_stack.specs.declared.project.ProjectError.TheVariants.{SettingsFault, EmptyTargets, TwoWildcards, ExactNeedsOne, NoMemory}
+use Rattle.resolve_stack.specs.declared.project.ProjectError.TheVariants.{SettingsFault, EmptyTargets, TwoWildcards, ExactNeedsOne, LockParser, NoMemory}
 use Rattle.resolve_stack.specs.declared.verdict.Verdict.{Verdict}
 use Rattle.cli_core.specs.Cause.{◌>>=◌, Meets, error_of}
 use Rattle.cli_core.specs.Document.{Given, fields_in, lines_by, lines_of, document, project_in, put_files, report, settings_in, verdict_on}
@@ -37,6 +37,7 @@ project_stops e made (Err refused) raised is = rw raised (by_cause e is)
     by_cause (EmptyTargets at) told = rw told refl
     by_cause (TwoWildcards at) told = rw told refl
     by_cause (ExactNeedsOne at) told = rw told refl
+    by_cause (LockParser place cause) told = rw told refl
     by_cause NoMemory told = tt
 
 -- any cause but want of memory is the document's
@@ -45,6 +46,7 @@ error_refused (SettingsFault field) other = refl
 error_refused (EmptyTargets at) other = refl
 error_refused (TwoWildcards at) other = refl
 error_refused (ExactNeedsOne at) other = refl
+error_refused (LockParser place cause) other = refl
 error_refused NoMemory other = absurd (other refl)
 
 -- a verdict that a trail settles is that of a tree in memory whose trees agree with the trail
@@ -74,9 +76,9 @@ report_untreed bytes fields ended.NoMemory read found = tt
 
 -- the report by a document's settings, on the tree of its files
 pub report_by : (bytes : List ℕ) (fields : Document) (t : Files) (result : Result (List ℕ) DocumentError) → fields_in bytes ≡ Ok fields → put_files finite.empty fields.files ≡ Ok t
-    → Meets result (lines_by t fields.requests (project_in (settings_in fields.settings))) → Meets result (report bytes)
+    → Meets result (lines_by t fields.requests (project_in (settings_in fields.settings fields.lock))) → Meets result (report bytes)
 unfolding report document
-report_by bytes fields t result read filed lines = rw (read, filed) (by_project (project_in (settings_in fields.settings)) lines)
+report_by bytes fields t result read filed lines = rw (read, filed) (by_project (project_in (settings_in fields.settings fields.lock)) lines)
   where
     given_by : ProjectSettings → Result Given Cause
     given_by project = Ok (record { files = t; project = project; requests = fields.requests })

@@ -34,4 +34,5 @@ error_of (project.SettingsFault field) = Refused (BadProject (project.SettingsFa
 error_of (project.EmptyTargets at) = Refused (BadProject (project.EmptyTargets at))
 error_of (project.TwoWildcards at) = Refused (BadProject (project.TwoWildcards at))
 error_of (project.ExactNeedsOne at) = Refused (BadProject (project.ExactNeedsOne at))
+error_of (project.LockParser place cause) = Refused (BadProject (project.LockParser place cause))
 error_of project.NoMemory = NoMemory

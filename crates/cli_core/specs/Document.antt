@@ -50,15 +50,16 @@ put_files t (file ∷ files) = do
 abbrev pub mapping_settings : GivenMapping → TsSettings
 mapping_settings m = record { base_url = m.base_url; paths = m.paths }
 
--- the settings of a document
-abbrev pub settings_in : Fields → GivenSettings
-settings_in fields = record {
+-- the settings of a document, with its lock
+abbrev pub settings_in : Fields → Option (List ℕ) → GivenSettings
+settings_in fields lock = record {
   cwd = fields.cwd;
   target = fields.target;
   preserve_symlinks = fields.preserve_symlinks;
   node_modules = fields.node_modules;
   alias = fields.alias;
   ts = option_map mapping_settings fields.ts;
+  lock = lock;
 }
 
 -- the project of settings, or the first cause against them
@@ -82,7 +83,7 @@ unfoldable pub document : List ℕ → Result Given Cause
 document bytes = do
   fields ← fields_in bytes
   files ← put_files finite.empty fields.files
-  project ← project_in (settings_in fields.settings)
+  project ← project_in (settings_in fields.settings fields.lock)
   Ok (record { files = files; project = project; requests = fields.requests })
 
 -- the verdict on a request, on a tree

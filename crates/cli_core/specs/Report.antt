@@ -10,9 +10,9 @@ use Rattle.swc_loader.specs.declared.resolution.Found.{Found}
 use Rattle.pnp_core.specs.declared.error.HydrationCause.{HydrationCause}
 use Rattle.pnp_core.specs.declared.error.HydrationCause.TheVariants.{NotText, NoPayload, BadJson, BadPattern, NoTopLevel}
 use Rattle.resolve_stack.specs.declared.project.ProjectError.{ProjectError}
-use Rattle.resolve_stack.specs.declared.project.ProjectError.TheVariants.{SettingsFault, EmptyTargets, TwoWildcards, ExactNeedsOne, NoMemory}
+use Rattle.resolve_stack.specs.declared.project.ProjectError.TheVariants.{SettingsFault, EmptyTargets, TwoWildcards, ExactNeedsOne, LockParser, NoMemory}
 use Rattle.resolve_stack.specs.declared.verdict.JoinRefusal.{JoinRefusal}
-use Rattle.resolve_stack.specs.declared.verdict.JoinRefusal.TheVariants.{BadSpecifier, FailedManifestHydration, UndeclaredDependency, MissingPeerDependency, NotInRegistry, MalformedPackage, Archive, Outside, NotFound, BaseNotAFile}
+use Rattle.resolve_stack.specs.declared.verdict.JoinRefusal.TheVariants.{BadSpecifier, FailedManifestHydration, UndeclaredDependency, MissingPeerDependency, NotInRegistry, NotLocked, MalformedPackage, OutOfRange, Archive, Outside, NotFound, BaseNotAFile}
 use Rattle.resolver_core.specs.declared.refusal.TsRefusal.{TsRefusal}
 use Rattle.resolver_core.specs.declared.refusal.TsRefusal.TheVariants.{Inner, TsFault}
 use Rattle.pnp_core.specs.declared.manifest.PackageLocator.{PackageLocator}
@@ -98,6 +98,14 @@ refusal_value (NotInRegistry name reference) = object
     (member (codes "kind") (string (codes "NotInRegistry"))
     (member (codes "name") (string name)
     (member (codes "reference") (string reference) no_members)))
+refusal_value (NotLocked name reference) = object
+    (member (codes "kind") (string (codes "NotLocked"))
+    (member (codes "name") (string name)
+    (member (codes "reference") (string reference) no_members)))
+refusal_value (OutOfRange range version) = object
+    (member (codes "kind") (string (codes "OutOfRange"))
+    (member (codes "range") (string range)
+    (member (codes "version") (string version) no_members)))
 refusal_value (MalformedPackage path) = object
     (member (codes "kind") (string (codes "MalformedPackage"))
     (member (codes "path") (string path) no_members))
@@ -134,19 +142,19 @@ verdict_line verdict = compact_text (verdict_value verdict) ++ 10 ∷ []
 abbrev pub verdict_lines : List Verdict → List ℕ
 verdict_lines verdicts = flat_map verdict_line verdicts
 
--- why settings make no project: patterns are told by their number. No document is refused for want of memory
+-- why settings make no project: patterns are told by their number, and of a lock only that it is none. No document is refused for want of memory
 abbrev pub project_cause : ProjectError → List ℕ
 project_cause (SettingsFault field) = codes "SettingsFault " ++ field
 project_cause (EmptyTargets at) = codes "EmptyTargets " ++ decimal at
 project_cause (TwoWildcards at) = codes "TwoWildcards " ++ decimal at
 project_cause (ExactNeedsOne at) = codes "ExactNeedsOne " ++ decimal at
+project_cause (LockParser place cause) = codes "LockParser"
 project_cause NoMemory = codes "NoMemory"
 
 -- a cause, with its texts as JSON
 abbrev pub cause_text : Cause → List ℕ
 cause_text cause.NotJson = codes "not-json"
 cause_text (cause.BadField field) = codes "bad-field " ++ name_of field
-cause_text (cause.NotBuilt field) = codes "not-built " ++ name_of field
 cause_text (cause.BadTree path None) = codes "bad-tree " ++ quoted path
 cause_text (cause.BadTree path (Some other)) = codes "bad-tree " ++ quoted path ++ 32 ∷ quoted other
 cause_text (cause.BadProject e) = codes "bad-project " ++ project_cause e

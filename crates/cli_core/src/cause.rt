@@ -46,8 +46,6 @@ pub enum Cause {
     NotJson,
     /// The first field that is missing without a default or of another kind.
     BadField(Field),
-    /// The first field that asks for more than is built.
-    NotBuilt(Field),
     /// The first file that the tree refuses, and the other file on a conflict.
     BadTree { path: Text, other: Option<Text> },
     /// Why the settings make no project.

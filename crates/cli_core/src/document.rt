@@ -1,5 +1,5 @@
 // What a document asks, and the report on it.
-ghost use Rattle.std.specs.Prelude.{◌≡◌, ◌++◌, IfOk, OnErr, string_bytes};
+ghost use Rattle.std.specs.Prelude.{◌≡◌, ◌++◌, IfOk, OnErr, option_map, string_bytes};
 ghost use Rattle.std.specs.FinMap as finite;
 ghost use Rattle.std.specs.Result.{result_map_both};
 ghost use Rattle.resolve_stack.specs.Settings.{given};
@@ -14,6 +14,7 @@ use crate::json_text::read_json;
 use crate::report::line_of_verdict;
 use resolve_stack::{ImportError, Project, Settings, Verdict, resolve_import};
 use std::alloc::{AllocError, Global};
+use sugar_path::Text;
 use tree_core::{MemoryTree, PutError};
 
 /// The report on a document's bytes: the lines of the verdicts on its requests, in order; or the first cause against it.
@@ -22,11 +23,12 @@ pub fn report_for(alloc: Global, bytes: &[u8]) -> Result<String, DocumentError>
 {
     let Document {
         settings,
+        lock,
         files,
         requests,
     } = read_document(alloc, bytes)?;
     let mut tree = tree_of(alloc, files.as_slice())?;
-    lines_by(alloc, &mut tree, settings, requests.as_slice())
+    lines_by(alloc, &mut tree, settings, &lock, requests.as_slice())
 }
 
 // The fields of a document's bytes.
@@ -38,18 +40,29 @@ fn read_document(alloc: Global, bytes: &[u8]) -> Result<Document, DocumentError>
     read_fields(alloc, &value)
 }
 
-// The lines of the verdicts by these settings.
+// The lines of the verdicts by these settings and a lock.
 fn lines_by(
     alloc: Global,
     tree: &mut MemoryTree,
     settings: GivenSettings,
+    lock: &Option<Text>,
     requests: &[Request],
 ) -> Result<String, DocumentError>
     ensures { Meets (result_map_both string_bytes (λ e. e) result)
-        (lines_by tree.old.files requests.now (project_in (settings_in settings))) }
+        (lines_by tree.old.files requests.now (project_in (settings_in settings lock.now))) }
 {
-    let project = project_in(alloc, settings.into_settings())?;
+    let project = project_in(alloc, settings.into_settings(text_in(lock)))?;
     Ok(lines_on(alloc, tree, &project, requests)?)
+}
+
+// The text that is there, lent.
+fn text_in(text: &Option<Text>) -> Option<&str>
+    ensures { option_map (λ t. t.now) result ≡ text.now }
+{
+    match text {
+        Some(text) => Some(text.as_str()),
+        None => None,
+    }
 }
 
 // The tree of a document's files.
@@ -86,7 +99,7 @@ fn put(alloc: Global, tree: &mut MemoryTree, file: &GivenFile) -> Result<(), Doc
 }
 
 // The project of a document's settings.
-fn project_in(alloc: Global, settings: Settings) -> Result<Project, DocumentError>
+fn project_in<'l>(alloc: Global, settings: Settings<'l>) -> Result<Project<'l>, DocumentError>
     ensures { Meets result (project_in (given settings)) }
 {
     Ok(Project::new(alloc, settings)?)
@@ -96,7 +109,7 @@ fn project_in(alloc: Global, settings: Settings) -> Result<Project, DocumentErro
 fn lines_on(
     alloc: Global,
     tree: &mut MemoryTree,
-    project: &Project,
+    project: &Project<'_>,
     requests: &[Request],
 ) -> Result<String, AllocError>
     ensures { IfOk result (λ lines.
@@ -114,7 +127,7 @@ fn lines_on(
 fn line_of(
     alloc: Global,
     tree: &mut MemoryTree,
-    project: &Project,
+    project: &Project<'_>,
     request: &Request,
 ) -> Result<String, AllocError>
     ensures line { IfOk result (λ line. string_bytes line
@@ -129,7 +142,7 @@ fn line_of(
 fn verdict_of(
     alloc: Global,
     tree: &mut MemoryTree,
-    project: &Project,
+    project: &Project<'_>,
     request: &Request,
 ) -> Result<Verdict, AllocError>
     ensures verdict { IfOk result (λ v. v ≡ verdict_on tree.old.files project.now request.now) }

@@ -1,12 +1,12 @@
 // Reads the fields of a document from its JSON value.
-ghost use Rattle.std.specs.Prelude.{◌≡◌, codes, Option, option_map};
+ghost use Rattle.std.specs.Prelude.{◌≡◌, codes, option_map};
 ghost use Rattle.serde_json.specs.View.{view};
 ghost use Rattle.json_reading.specs.Reading.{field_by};
 ghost use Rattle.json_reading.specs.Reading as reading;
 ghost use Rattle.resolve_stack.specs.Settings.{given};
 ghost use Rattle.cli_core.specs.Cause.{Meets, name_of};
 ghost use Rattle.cli_core.specs.Document.{settings_in};
-ghost use Rattle.cli_core.specs.Fields.{fields_of, is_nothing, required, settings_of, target_of, unbuilt};
+ghost use Rattle.cli_core.specs.Fields.{fields_of, required, settings_of, target_of};
 ghost use Rattle.cli_core.specs.declared.cause.Field.TheVariants.{Target};
 ghost use Rattle.swc_loader.specs.declared.target.TargetEnv.TheVariants.{Browser};
 
@@ -22,11 +22,12 @@ use sugar_path::{List, Text};
 #[derive(Drop)]
 pub(crate) struct Document {
     pub(crate) settings: GivenSettings,
+    pub(crate) lock: Option<Text>,
     pub(crate) files: List<GivenFile>,
     pub(crate) requests: List<Request>,
 }
 
-// The settings of a document.
+// The settings of a document but for its lock, which a project borrows.
 pub(crate) struct GivenSettings {
     cwd: Text,
     target: TargetEnv,
@@ -51,9 +52,9 @@ impl Drop for GivenSettings {
 }
 
 impl GivenSettings {
-    // As the settings of a project.
-    pub(crate) fn into_settings(self) -> Settings
-        ensures { given result ≡ settings_in self }
+    // As the settings of a project, with a lock.
+    pub(crate) fn into_settings<'l>(self, lock: Option<&'l str>) -> Settings<'l>
+        ensures { given result ≡ settings_in self (option_map (λ text. text.now) lock.entry) }
     {
         let GivenSettings {
             cwd,
@@ -70,6 +71,7 @@ impl GivenSettings {
             node_modules,
             alias: alias.map,
             ts: ts.map(TsSettings::from),
+            lock,
         }
     }
 }
@@ -79,13 +81,12 @@ pub(crate) fn read_fields(alloc: Global, value: &Value) -> Result<Document, Docu
     ensures { Meets result (fields_of (view value.now)) }
 {
     let settings = read_settings(alloc, value)?;
+    let lock: Option<Text> = field_or(alloc, value, Field::Lock, None)?;
     let files: List<GivenFile> = field(alloc, value, Field::Files)?;
     let requests: List<Request> = field(alloc, value, Field::Requests)?;
-    if let Some(field) = first_unbuilt(value) {
-        return Err(DocumentError::Refused(Cause::NotBuilt(field)));
-    }
     Ok(Document {
         settings,
+        lock,
         files,
         requests,
     })
@@ -152,26 +153,5 @@ fn target_in(value: &Value) -> Result<TargetEnv, DocumentError>
         Some("browser") => Ok(TargetEnv::Browser),
         Some("node") => Ok(TargetEnv::Node),
         _ => Err(DocumentError::Refused(Cause::BadField(Field::Target))),
-    }
-}
-
-// The first setting that asks for more than is built.
-fn first_unbuilt(value: &Value) -> Option<Field>
-    ensures { result ≡ unbuilt (view value.now) }
-{
-    if !has_nothing(value.get("lock")) {
-        return Some(Field::Lock);
-    }
-    None
-}
-
-// Whether a value is missing or null.
-fn has_nothing(value: Option<&Value>) -> bool
-    ensures { result ≡ is_nothing (option_map (λ v. view v.now) value.entry) }
-{
-    match value {
-        None => true,
-        Some(Value::Null) => true,
-        Some(_) => false,
     }
 }

@@ -127,7 +127,13 @@ fn value_of_refusal(alloc: Global, refusal: &JoinRefusal) -> Result<Value, Alloc
         JoinRefusal::NotInRegistry { name, reference } => {
             value_of_package(alloc, name, reference)
         }
+        JoinRefusal::NotLocked { name, reference } => {
+            value_of_unlocked(alloc, name, reference)
+        }
         JoinRefusal::MalformedPackage { path } => value_of_malformed(alloc, path),
+        JoinRefusal::OutOfRange { range, version } => {
+            value_of_out_of_range(alloc, range, version)
+        }
         JoinRefusal::Archive { location } => value_of_archive(alloc, location),
         JoinRefusal::Outside { file, location } => value_of_outside(alloc, file, location),
         JoinRefusal::NotFound { text } => value_of_unfound(alloc, text),
@@ -198,6 +204,28 @@ fn value_of_package(alloc: Global, name: &Text, reference: &Text) -> Result<Valu
     })
 }
 
+fn value_of_unlocked(alloc: Global, name: &Text, reference: &Text) -> Result<Value, AllocError>
+    ensures { IfOk result (λ value.
+        view value ≡ refusal_value (refusal.NotLocked name.now reference.now)) }
+{
+    json!(in alloc; {
+        "kind": "NotLocked",
+        "name": name.as_str(),
+        "reference": reference.as_str()
+    })
+}
+
+fn value_of_out_of_range(alloc: Global, range: &Text, version: &Text) -> Result<Value, AllocError>
+    ensures { IfOk result (λ value.
+        view value ≡ refusal_value (refusal.OutOfRange range.now version.now)) }
+{
+    json!(in alloc; {
+        "kind": "OutOfRange",
+        "range": range.as_str(),
+        "version": version.as_str()
+    })
+}
+
 fn value_of_malformed(alloc: Global, path: &Text) -> Result<Value, AllocError>
     ensures { IfOk result (λ value.
         view value ≡ refusal_value (refusal.MalformedPackage path.now)) }
@@ -261,7 +289,6 @@ fn text_of_cause(alloc: Global, cause: &Cause) -> Result<String, AllocError>
     match cause {
         Cause::NotJson => String::from_str(alloc, "not-json"),
         Cause::BadField(field) => format!(in alloc; "bad-field {}", field.name()),
-        Cause::NotBuilt(field) => format!(in alloc; "not-built {}", field.name()),
         Cause::BadTree { path, other: None } => {
             let path = quoted_text(alloc, path)?;
             format!(in alloc; "bad-tree {path}")
@@ -290,6 +317,9 @@ fn text_of_project_error(alloc: Global, e: &ProjectError) -> Result<String, Allo
         ProjectError::EmptyTargets { at } => format!(in alloc; "bad-project EmptyTargets {at}"),
         ProjectError::TwoWildcards { at } => format!(in alloc; "bad-project TwoWildcards {at}"),
         ProjectError::ExactNeedsOne { at } => format!(in alloc; "bad-project ExactNeedsOne {at}"),
+        ProjectError::LockParser { place: _, cause: _ } => {
+            String::from_str(alloc, "bad-project LockParser")
+        }
         ProjectError::NoMemory => String::from_str(alloc, "bad-project NoMemory"),
     }
 }

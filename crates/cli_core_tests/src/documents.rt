@@ -17,7 +17,7 @@ fn its_line() -> &'static str {
 
 // Documents, and what is written for each.
 fn documents() -> &'static str {
-    r#"|refused: not-json
+    r##"|refused: not-json
 {"cwd":"/w"}x|refused: not-json
 []|refused: bad-field cwd
 {"cwd":"/w","target":"deno","preserve_symlinks":1}|refused: bad-field target
@@ -45,8 +45,13 @@ fn documents() -> &'static str {
 {"cwd":"/w","target":"browser","files":[],"requests":[]}|
 {"cwd":"/w","target":"node","ts":{"base_url":"/w","paths":[]},"files":[],"requests":[]}|
 {"cwd":"/w","target":"node","ts":{},"lock":"","files":[],"requests":[]}|refused: bad-field ts
-{"cwd":"/w","target":"node","lock":"","files":[],"requests":[]}|refused: not-built lock
-{"cwd":"/w","target":"node","lock":"","files":[{"path":"a","text":""}],"requests":[]}|refused: not-built lock
+{"cwd":"/w","target":"node","lock":1,"files":1,"requests":[]}|refused: bad-field lock
+{"cwd":"/w","target":"node","lock":["# a"],"files":[{"path":"a","text":""}],"requests":[]}|refused: bad-field lock
+{"cwd":"/w","target":"node","lock":"","files":[],"requests":[]}|refused: bad-project LockParser
+{"cwd":"/w","target":"node","lock":"","files":[{"path":"a","text":""}],"requests":[]}|refused: bad-tree "a"
+{"cwd":"/w","ts":{"base_url":"/w","paths":[["*/*",["c"]]]},"lock":"# a","files":[],"requests":[]}|refused: bad-project TwoWildcards 0
+{"cwd":"/w","ts":{"base_url":"/w","paths":[]},"lock":"# a\n# b\n","files":[],"requests":[]}|refused: bad-project LockParser
+{"cwd":"/w","lock":"# a\n# yarn lockfile v1\n\n","files":[],"requests":[]}|
 {"cwd":"w","target":"node","files":[{"path":"a","text":""}],"requests":[]}|refused: bad-tree "a"
 {"cwd":"w","target":"node","files":[{"path":"/a","text":"","canonical":"/"}],"requests":[]}|refused: bad-tree "/a"
 {"cwd":"w","target":"node","files":[{"path":"/a/b","text":""},{"path":"/a","text":""}],"requests":[]}|refused: bad-tree "/a" "/a/b"
@@ -58,7 +63,7 @@ fn documents() -> &'static str {
 {"cwd":"/w","target":"browser","files":[{"path":"/w/a.js","text":""},{"path":"/w/package.json","text":"{\"browser\":{\"./b.js\":\"./gone.js\"}}"},{"path":"/w/b.js","text":""}],"requests":[{"from":"/w/a.js","specifier":"./b.js"}]}|{"answer":{"real":"/w/b.js"},"found":{"file":"/w/b.js","via":null},"slug":null}
 {"cwd":"/w","files":[{"path":"/w/.pnp.cjs","text":"hydrateRuntimeState(JSON.parse('{\"dependencyTreeRoots\":[],\"enableTopLevelFallback\":false,\"fallbackExclusionList\":[],\"fallbackPool\":[],\"packageRegistryData\":[[null,[[null,{\"packageLocation\":\"./\",\"packageDependencies\":[[\"q\",\"1\"]]}]]],[\"q\",[[\"1\",{\"packageLocation\":\"./q/\",\"packageDependencies\":[]}]]]]}'"},{"path":"/w/q/index.js","text":""},{"path":"/w/q/package.json","text":"{\"browser\":{\"./index.js\":\"../b.js\"}}"},{"path":"/w/b.js","text":""}],"requests":[{"from":"/w/a.js","specifier":"q"}]}|{"refused":{"file":"/w/b.js","kind":"Outside","location":"/w/q"}}
 {"cwd":"/w","preserve_symlinks":true,"files":[{"path":"/w/.pnp.cjs","text":"hydrateRuntimeState(JSON.parse('{\"dependencyTreeRoots\":[],\"enableTopLevelFallback\":false,\"fallbackExclusionList\":[],\"fallbackPool\":[],\"packageRegistryData\":[[null,[[null,{\"packageLocation\":\"./\",\"packageDependencies\":[[\"q\",\"1\"]]}]]],[\"q\",[[\"1\",{\"packageLocation\":\"./q/\",\"packageDependencies\":[]}]]]]}'"},{"path":"/w/q/index.js","text":""},{"path":"/w/q/package.json","text":"{\"browser\":{\"./index.js\":\"./c.js\"}}"},{"path":"/w/q/c.js","text":""}],"requests":[{"from":"/w/a.js","specifier":"q"}]}|{"answer":{"real":"q/c.js"},"found":{"file":"/w/q/c.js","via":{"location":"/w/q","name":"q","reference":"1"}},"slug":null}
-{"cwd":"/w","files":[{"path":"/w/.pnp.cjs","text":"hydrateRuntimeState(JSON.parse('{\"dependencyTreeRoots\":[],\"enableTopLevelFallback\":false,\"fallbackExclusionList\":[],\"fallbackPool\":[],\"packageRegistryData\":[[null,[[null,{\"packageLocation\":\"./\",\"packageDependencies\":[[\"q\",\"1\"]]}]]],[\"q\",[[\"1\",{\"packageLocation\":\"./q/\",\"packageDependencies\":[]}]]]]}'"},{"path":"/w/q/index.js","text":""},{"path":"/w/q/package.json","text":"{\"browser\":{\"./index.js\":false}}"}],"requests":[{"from":"/w/a.js","specifier":"q"}]}|{"answer":{"custom":"/w/q/index.js"},"found":null,"slug":null}"#
+{"cwd":"/w","files":[{"path":"/w/.pnp.cjs","text":"hydrateRuntimeState(JSON.parse('{\"dependencyTreeRoots\":[],\"enableTopLevelFallback\":false,\"fallbackExclusionList\":[],\"fallbackPool\":[],\"packageRegistryData\":[[null,[[null,{\"packageLocation\":\"./\",\"packageDependencies\":[[\"q\",\"1\"]]}]]],[\"q\",[[\"1\",{\"packageLocation\":\"./q/\",\"packageDependencies\":[]}]]]]}'"},{"path":"/w/q/index.js","text":""},{"path":"/w/q/package.json","text":"{\"browser\":{\"./index.js\":false}}"}],"requests":[{"from":"/w/a.js","specifier":"q"}]}|{"answer":{"custom":"/w/q/index.js"},"found":null,"slug":null}"##
 }
 
 fn words_of(alloc: Global, words: &str) -> Result<Vec<String>, AllocError> {
@@ -148,7 +153,7 @@ fn each_cause_has_its_line(rt: HostRuntime) -> Result<(), Fail> {
         assert!(rt; came, "at {document}");
         tried = tried.saturating_add(1);
     }
-    assert_eq!(rt; tried, 42);
+    assert_eq!(rt; tried, 47);
     Ok(())
 }
 

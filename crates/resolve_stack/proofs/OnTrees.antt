@@ -3,7 +3,7 @@ use Rattle.std.proofs.Common.{◌≡◌, ℕ, Bool, true, false, cond, List, [],
 use Rattle.sugar_path.specs.Path.{Path}
 use Rattle.tree_core.specs.declared.question.Question.{Question}
 use Rattle.tree_core.specs.Tree.{Files}
-use Rattle.tree_core.specs.Plan.{Plan, Done, answer, asked, ◌>>=◌, ◌>>=?◌}
+use Rattle.tree_core.specs.Plan.{Plan, Done, answer, asked}
 use Rattle.tree_core.specs.Asks.{raised, widened}
 use Rattle.tree_core.specs.Rows.{end_of, or_refused, ends_by}
 use Rattle.tree_core.proofs.Asking.{answer-then, asked-then, answer-done, asked-done}
@@ -11,6 +11,11 @@ use Rattle.pnp_core.specs.Nearest.{nearest}
 use Rattle.pnp_core.specs.Loading.{loading}
 use Rattle.pnp_core.specs.OnTree.{nearest_on, nearest_asks, loaded_on, loaded_asks}
 use Rattle.pnp_core.proofs.OnTrees.{answer-nearest, asked-nearest, answer-loading, asked-loading}
+use Rattle.pnp_core.specs.declared.manifest.PackageLocator.{PackageLocator}
+use Rattle.pnp_core.specs.Manifest.{Contents}
+use Rattle.lock_checks.specs.Checks.{checked_location}
+use Rattle.lock_checks.specs.OnTree.{location_asks}
+use Rattle.lock_checks.proofs.OnTrees.{location_on_tree}
 use Rattle.swc_loader.specs.declared.resolution.FileName.{FileName}
 use Rattle.swc_loader.specs.declared.resolution.Via.{Via}
 use Rattle.swc_loader.specs.declared.located.Placed.{Placed}
@@ -30,10 +35,10 @@ use Rattle.resolver_core.proofs.MappingLaws.{mapping_on_tree}
 use Rattle.resolve_stack.specs.declared.verdict.JoinRefusal.{JoinRefusal}
 use Rattle.resolve_stack.specs.Settings.{ProjectSettings, path_of}
 use Rattle.resolve_stack.specs.Request.{Request, asked_for}
-use Rattle.resolve_stack.specs.Rows.{bare_base, of_node, node_rows_of, or_node_rows, readable, read_manifest, manifest_in, nearest_manifest, bare_target, found_at, unless_ignored, answered_through, is_told_relative}
+use Rattle.resolve_stack.specs.Rows.{bare_base, of_node, node_rows_of, or_node_rows, readable, read_manifest, manifest_in, nearest_manifest, bare_target, of_fault, checked_row, found_at, unless_ignored, answered_through, is_told_relative}
 use Rattle.resolve_stack.specs.Order.{join_rows, join, join_order}
 use Rattle.resolve_stack.specs.Verdict.{verdict_of, behind_mapping, project_order, verdict}
-use Rattle.resolve_stack.specs.OnTree.{by_node_rows_on, node_rows_asks, or_node_rows_on, or_node_rows_asks, manifest_in_file, manifest_on, reading_asks, manifest_asks, bare_target_on, bare_target_asks, placed_on, found_or_name, through_on, join_on, join_asks, join_answers, join_asked, behind_mapping_on, behind_mapping_asks, project_on, project_asks, JoinOnTree, VerdictOnTree}
+use Rattle.resolve_stack.specs.OnTree.{by_node_rows_on, node_rows_asks, or_node_rows_on, or_node_rows_asks, manifest_in_file, manifest_on, reading_asks, manifest_asks, bare_target_on, bare_target_asks, checked_on, placed_on, found_or_name, through_on, join_on, join_asks, join_answers, join_asked, behind_mapping_on, behind_mapping_asks, project_on, project_asks, JoinOnTree, VerdictOnTree}
 use Rattle.tree_core.proofs.RowLaws.{answer-made, asked-made, answer-order, asked-order, answer-refuses_by, asked-refuses_by, answer-ends_by, asked-ends_by, answer-never_refuses, asked-never_refuses, answer-raised, asked-raised, step, step_asks, row, decided_asks, refusing_asks}
 
 answer-node_rows : (t : Files) (project : ProjectSettings) (request : Request) → answer t (node_rows_of project request) ≡ widened of_node (node_on t project.node request.importer request.specifier)
@@ -94,6 +99,12 @@ asked-bare t project base target = by_test (is_bare target)
     by_test true = asked-done t _
     by_test false = asked-ends_by _ t (raised of_node (search project.node base target)) ∙ asked-raised t of_node (search project.node base target) ∙ search_on_tree.asks t project.node base target
 
+answer-checked : (t : Files) (project : ProjectSettings) (manifest : Contents) (asking : PackageLocator) (name : List ℕ) (bound : PackageLocator) → answer t (checked_row project manifest asking name bound) ≡ checked_on t project manifest asking name bound
+answer-checked t project manifest asking name bound = answer-raised t (of_fault bound) (checked_location project.lock manifest asking name bound) ∙ ap (widened (of_fault bound)) (location_on_tree.answers t project.lock manifest asking name bound)
+
+asked-checked : (t : Files) (project : ProjectSettings) (manifest : Contents) (asking : PackageLocator) (name : List ℕ) (bound : PackageLocator) → asked t (checked_row project manifest asking name bound) ≡ location_asks project.lock manifest asking bound
+asked-checked t project manifest asking name bound = asked-raised t (of_fault bound) (checked_location project.lock manifest asking name bound) ∙ location_on_tree.asks t project.lock manifest asking name bound
+
 answer-found_at : (t : Files) (project : ProjectSettings) (folder : Path) (subpath : Option (List ℕ)) → answer t (found_at project folder subpath) ≡ placed_on t project folder subpath
 answer-found_at t project folder subpath = answer-raised t of_node (resolve_at project.node folder subpath) ∙ ap (widened of_node) (located_on_tree.answers t project.node folder subpath)
 
@@ -121,16 +132,12 @@ answer-rows t project request = ap end_of (
     step t _ _ (answer-or_node_rows t project request _) (λ owner.
     step t _ _ (answer-target t project.node (path_of project base) request.specifier) (λ target.
     step t _ _ (answer-bare t project base target) (λ named.
-    row t _ _ (λ identifier. row t _ _ (λ locator. row t _ _ (λ location. row t _ _ (λ bound. row t _ _ (λ folder.
+    row t _ _ (λ identifier. row t _ _ (λ locator.
+    step t _ _ (answer-refuses_by t (checked_row project manifest owner identifier.0 locator) ∙ ap (λ r. or_refused r) (answer-checked t project manifest owner identifier.0 locator)) (λ location. row t _ _ (λ folder.
     step t _ _ (answer-refuses_by t (found_at project folder identifier.1) ∙ ap (λ r. or_refused r) (answer-found_at t project folder identifier.1)) (λ placed.
     step t _ _ (answer-unless_ignored t placed) (λ found.
     row t _ _ (λ file.
-    answer-refuses_by t (answered_through project _ file found.1) ∙ ap (λ r. or_refused r) (answer-through t project _ file found.1)))))))))))))))
-
--- a row that goes on at once
-goes_on_asks : {A B X : Type 0} {questions : List Question} (t : Files) (a : A) (k : A → Plan (Result B X)) → asked t (k a) ≡ questions → asked t (Done (Ok a) >>=? k) ≡ questions
-unfolding ◌>>=◌
-goes_on_asks t a k rest = rest
+    answer-refuses_by t (answered_through project _ file found.1) ∙ ap (λ r. or_refused r) (answer-through t project _ file found.1))))))))))))))
 
 asked-rows : (t : Files) (project : ProjectSettings) (request : Request) → asked t (join_rows project request) ≡ join_asks t project request
 asked-rows t project request =
@@ -139,7 +146,8 @@ asked-rows t project request =
     step_asks t _ _ (answer-or_node_rows t project request _) (asked-or_node_rows t project request _) (λ owner.
     step_asks t _ _ (answer-target t project.node (path_of project base) request.specifier) (asked-target _ t project.node (path_of project base) request.specifier) (λ target.
     step_asks t _ _ (answer-bare t project base target) (asked-bare t project base target) (λ named.
-    decided_asks t _ _ (λ identifier. decided_asks t _ _ (λ locator. decided_asks t _ _ (λ location. goes_on_asks t locator _ (decided_asks t _ _ (λ folder.
+    decided_asks t _ _ (λ identifier. decided_asks t _ _ (λ locator.
+    refusing_asks t _ _ (answer-checked t project manifest owner identifier.0 locator) (asked-checked t project manifest owner identifier.0 locator) (λ location. decided_asks t _ _ (λ folder.
     refusing_asks t _ _ (answer-found_at t project folder identifier.1) (asked-found_at t project folder identifier.1) (λ placed.
     step_asks t _ _ (answer-unless_ignored t placed) (asked-unless_ignored t placed) (λ found.
     decided_asks t _ _ (λ file.

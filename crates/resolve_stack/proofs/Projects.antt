@@ -4,6 +4,9 @@ use Rattle.std.specs.Prelude.{codes}
 use Rattle.sugar_path.specs.Path.{Path}
 use Rattle.sugar_path.specs.Results.{◌>>=◌}
 use Rattle.tree_core.specs.Asks.{widened}
+use Rattle.yarn_lock_parser.specs.declared.error.YarnLockError.{YarnLockError}
+use Rattle.yarn_lock_parser.specs.declared.error.YarnLockError.TheVariants as yarn_lock_error
+use Rattle.yarn_lock_parser.specs.Lock.{Lock, Explains, lock_of}
 use Rattle.resolver_core.specs.declared.pattern.TsError.{TsError}
 use Rattle.resolver_core.specs.declared.pattern.TsError.TheVariants as ts_error
 use Rattle.resolver_core.specs.declared.pattern.Pattern.{Pattern}
@@ -12,8 +15,8 @@ use Rattle.resolver_core.specs.Pattern.{IsReadAs, sorted_patterns}
 use Rattle.swc_loader.specs.Settings.{NodeSettings, settings_of}
 use Rattle.resolve_stack.specs.declared.project.TsSettings.{TsSettings}
 use Rattle.resolve_stack.specs.declared.project.ProjectError.{ProjectError}
-use Rattle.resolve_stack.specs.declared.project.ProjectError.TheVariants.{SettingsFault, EmptyTargets, TwoWildcards, ExactNeedsOne, NoMemory}
-use Rattle.resolve_stack.specs.Settings.{GivenSettings, ProjectSettings, clean_setting, cause_of, mapping_of, mapping_given, project_of, IsCauseOf}
+use Rattle.resolve_stack.specs.declared.project.ProjectError.TheVariants.{SettingsFault, EmptyTargets, TwoWildcards, ExactNeedsOne, LockParser, NoMemory}
+use Rattle.resolve_stack.specs.Settings.{GivenSettings, ProjectSettings, clean_setting, cause_of, mapping_of, mapping_given, cause_in_lock, error_of_lock, lock_in, lock_given, project_of, IsCauseOf}
 
 -- what fails with a cause is refused by it
 pub refused_by : {A B : Type 0} (made : Result A ProjectError) (e : ProjectError) (r : Result B ProjectError) → IsErrAnd r (λ x. x ≡ e) → IsCauseOf e made → IfErr r (λ x. IsCauseOf x made)
@@ -26,6 +29,7 @@ cause_first (SettingsFault field) r next is = ap (λ x. x >>= next) is
 cause_first (EmptyTargets at) r next is = ap (λ x. x >>= next) is
 cause_first (TwoWildcards at) r next is = ap (λ x. x >>= next) is
 cause_first (ExactNeedsOne at) r next is = ap (λ x. x >>= next) is
+cause_first (LockParser place cause) r next is = ap (λ x. x >>= next) is
 cause_first NoMemory r next is = tt
 
 -- so is the cause of a later one
@@ -79,12 +83,34 @@ project_unmapped e s text p ts same clean is h =
     cause_then e (clean_setting (codes "cwd") s.cwd) p _ (ap (clean_setting (codes "cwd")) (sym same) ∙ clean)
     (cause_first e (mapping_given s.ts) _ refused)
 
--- the project that settings make
-pub project_made : (s : GivenSettings) (text : List ℕ) (p : Path) (o : Option Mapping) (node : NodeSettings) → text ≡ s.cwd → clean_setting (codes "cwd") text ≡ Ok p → mapping_given s.ts ≡ Ok o → node ≡ settings_of p s.target s.alias s.preserve_symlinks s.node_modules → project_of s ≡ Ok (record { node = node; mapping = o })
+-- A text that is no lock file, and a lock that settings have
+pub lock_unread : (e : YarnLockError) (text : List ℕ) → Explains (lock_of text) e → IsCauseOf (error_of_lock e) (lock_in text)
+lock_unread (yarn_lock_error.Parser place cause) text is = ap (widened cause_in_lock) is
+lock_unread yarn_lock_error.NoMemory text is = tt
+
+pub lock_read : (text : List ℕ) (lock : Lock) → lock_of text ≡ Ok lock → lock_in text ≡ Ok lock
+lock_read text lock is = ap (widened cause_in_lock) is
+
+pub some_lock : (text : List ℕ) (lock : Lock) → lock_in text ≡ Ok lock → lock_given (Some text) ≡ Ok (Some lock)
+some_lock text lock read = ap (λ (r : Result Lock ProjectError). r >>= λ lock. Ok (Some lock)) read
+
+-- a project whose lock is refused
+pub project_unlocked : (e : ProjectError) (s : GivenSettings) (text : List ℕ) (p : Path) (o : Option Mapping) (lock : List ℕ) → text ≡ s.cwd → clean_setting (codes "cwd") text ≡ Ok p → mapping_given s.ts ≡ Ok o → s.lock ≡ Some lock → IsCauseOf e (lock_in lock) → IsCauseOf e (project_of s)
 unfolding project_of
-project_made s text p o node same clean mapped is =
-    let with : NodeSettings → Option Mapping → Result ProjectSettings ProjectError = λ n m. Ok (record { node = n; mapping = m }) in
+project_unlocked e s text p o lock same clean mapped is h =
+    let P : Option (List ℕ) → Type 0 = λ l. IsCauseOf e (lock_given l) in
+    let refused : IsCauseOf e (lock_given s.lock) = subst P (sym is) (cause_first e (lock_in lock) (λ l. Ok (Some l)) h) in
+    cause_then e (clean_setting (codes "cwd") s.cwd) p _ (ap (clean_setting (codes "cwd")) (sym same) ∙ clean)
+    (cause_then e (mapping_given s.ts) o _ mapped
+    (cause_first e (lock_given s.lock) _ refused))
+
+-- the project that settings make
+pub project_made : (s : GivenSettings) (text : List ℕ) (p : Path) (o : Option Mapping) (l : Option Lock) (node : NodeSettings) → text ≡ s.cwd → clean_setting (codes "cwd") text ≡ Ok p → mapping_given s.ts ≡ Ok o → lock_given s.lock ≡ Ok l → node ≡ settings_of p s.target s.alias s.preserve_symlinks s.node_modules → project_of s ≡ Ok (record { node = node; mapping = o; lock = l })
+unfolding project_of
+project_made s text p o l node same clean mapped locked is =
+    let with : NodeSettings → Option Mapping → Option Lock → Result ProjectSettings ProjectError = λ n m k. Ok (record { node = n; mapping = m; lock = k }) in
     let from : Path → NodeSettings = λ cwd. settings_of cwd s.target s.alias s.preserve_symlinks s.node_modules in
-    ap (λ (r : Result Path ProjectError). r >>= λ cwd. mapping_given s.ts >>= with (from cwd)) (ap (clean_setting (codes "cwd")) (sym same) ∙ clean)
-    ∙ ap (λ (r : Result (Option Mapping) ProjectError). r >>= with (from p)) mapped
-    ∙ ap (λ n. with n o) (sym is)
+    ap (λ (r : Result Path ProjectError). r >>= λ cwd. mapping_given s.ts >>= λ m. lock_given s.lock >>= with (from cwd) m) (ap (clean_setting (codes "cwd")) (sym same) ∙ clean)
+    ∙ ap (λ (r : Result (Option Mapping) ProjectError). r >>= λ m. lock_given s.lock >>= with (from p) m) mapped
+    ∙ ap (λ (r : Result (Option Lock) ProjectError). r >>= with (from p) o) locked
+    ∙ ap (λ n. with n o l) (sym is)

@@ -37,16 +37,21 @@ use Rattle.resolver_core.specs.Mapping.{Mapping, mapped}
 use Rattle.resolver_core.specs.MappingOnTree.{answers_on, mapped_on, tries_in, IsFirstAnswer}
 use Rattle.resolver_core.proofs.FirstAnswers.{first_answer_decides}
 use Rattle.resolver_core.proofs.MappingLaws.{mapping_on_tree}
+use Rattle.yarn_lock_parser.specs.Lock.{Lock}
+use Rattle.lock_checks.specs.declared.fault.EdgeFault.TheVariants.{NotInRegistry}
+use Rattle.lock_checks.specs.Checks.{registered}
+use Rattle.lock_checks.specs.OnTree.{check_on, location_on}
+use Rattle.lock_checks.proofs.LockedBindings.{passes_as_locked}
 use Rattle.resolve_stack.specs.declared.verdict.JoinRefusal.{JoinRefusal}
-use Rattle.resolve_stack.specs.declared.verdict.JoinRefusal.TheVariants.{BadSpecifier, NotInRegistry, Archive, Outside}
+use Rattle.resolve_stack.specs.declared.verdict.JoinRefusal.TheVariants.{BadSpecifier, Archive, Outside}
 use Rattle.resolve_stack.specs.declared.verdict.Verdict.{Verdict}
 use Rattle.resolve_stack.specs.Settings.{ProjectSettings, path_of}
 use Rattle.resolve_stack.specs.Request.{Request, asked_for}
 use Rattle.resolve_stack.specs.Order.{join, join_order}
-use Rattle.resolve_stack.specs.Rows.{of_node, bare_from, bare_base, readable, identifier_of, bound_or_refused, bound_of, row_of, unlocked, folder_of, contained, via_of}
-use Rattle.resolve_stack.specs.OnTree.{or_node_rows_on, manifest_in_file, manifest_on, asking_package, bare_target_on, placed_on, found_or_name, through_on, join_on}
+use Rattle.resolve_stack.specs.Rows.{of_node, bare_from, bare_base, readable, identifier_of, bound_or_refused, bound_of, of_fault, folder_of, contained, via_of}
+use Rattle.resolve_stack.specs.OnTree.{or_node_rows_on, manifest_in_file, manifest_on, asking_package, bare_target_on, checked_on, placed_on, found_or_name, through_on, join_on}
 use Rattle.resolve_stack.specs.Verdict.{verdict_of, behind_mapping, project_order, verdict}
-use Rattle.resolve_stack.specs.Through.{ThroughRow, IsFoundFrom, IsFoundByTry, IsFoundBehind, IsFound}
+use Rattle.resolve_stack.specs.Through.{IsHeldBy, ThroughRow, IsFoundFrom, IsFoundByTry, IsFoundBehind, IsFound}
 use Rattle.resolve_stack.proofs.OnTrees.{answer-join}
 use Rattle.resolve_stack.proofs.Plain.{IsPlain, IsPlainResult, IsPlainBefore, node-plain, search-plain, before-plain}
 
@@ -206,31 +211,56 @@ folder_end t project request bound folder subpath through =
     through file (ap (λ f. below f folder) (sym inside.1) ∙ inside.0))))
 
 -- the rows behind the binding, on a tree
-abbrev behind_binding : Files → ProjectSettings → Contents → PackageLocator → Option (List ℕ) → Going Resolution Resolution JoinRefusal
-behind_binding t project manifest locator subpath =
-    or_refused (row_of manifest locator) >>= λ location. or_refused (unlocked locator) >>= λ bound. or_refused (folder_of location) >>= λ folder. behind_folder t project bound folder subpath
+abbrev behind_binding : Files → ProjectSettings → Contents → PackageLocator → List ℕ → PackageLocator → Option (List ℕ) → Going Resolution Resolution JoinRefusal
+behind_binding t project manifest asking name locator subpath =
+    or_refused (checked_on t project manifest asking name locator) >>= λ location. or_refused (folder_of location) >>= λ folder. behind_folder t project locator folder subpath
 
-abbrev ThroughBound : Files → ProjectSettings → Request → Contents → PackageLocator → Type 0
-ThroughBound t project request manifest bound = (location : List ℕ) (folder f : Path) → location_of manifest bound ≡ Some location → physical_place location ≡ Some folder → below f folder ≡ true → ThroughRow t project request (text_of f) (via_of bound folder)
+abbrev ThroughBound : Files → ProjectSettings → Request → Contents → PackageLocator → List ℕ → PackageLocator → Type 0
+ThroughBound t project request manifest asking name bound = (location : List ℕ) (folder f : Path) → location_of manifest bound ≡ Some location → IsHeldBy t project.lock manifest asking name bound → physical_place location ≡ Some folder → below f folder ≡ true → ThroughRow t project request (text_of f) (via_of bound folder)
 
-binding_end : (t : Files) (project : ProjectSettings) (request : Request) (manifest : Contents) (locator : PackageLocator) (subpath : Option (List ℕ)) → ThroughBound t project request manifest locator → IsFoundEnd t project request (end_of (behind_binding t project manifest locator subpath))
-binding_end t project request manifest locator subpath through =
-    goes t project request (or_refused (row_of manifest locator)) (λ location. or_refused (unlocked locator) >>= λ bound. or_refused (folder_of location) >>= λ folder. behind_folder t project bound folder subpath) (refused_end t project request (row_of manifest locator)) (λ location row.
+-- what passes the checks has passed them before the order's own words for refusals
+unwidened : {A X Y : Type 0} (f : X → Y) (r : Result A X) (a : A) → widened f r ≡ Ok a → r ≡ Ok a
+unwidened f (Ok b) a h = let same : b ≡ a = cc in ap Ok same
+unwidened f (Err x) a h = cc
+
+-- a first result, where what is made behind it is its own value
+first_value : {A X : Type 0} (first : Result A X) (check : Result (Unit {0}) X) (a : A) → (first >>= λ b. check >>= λ passed. Ok b) ≡ Ok a → first ≡ Ok a
+first_value (Ok b) (Ok tt) a h = let same : b ≡ a = cc in ap Ok same
+first_value (Ok b) (Err x) a h = cc
+first_value (Err x) check a h = cc
+
+-- a location that the checks let through is that of the row, and the lock holds the binding
+row_behind : (t : Files) (project : ProjectSettings) (manifest : Contents) (asking : PackageLocator) (name : List ℕ) (bound : PackageLocator) (location : List ℕ) → checked_on t project manifest asking name bound ≡ Ok location → location_of manifest bound ≡ Some location
+row_behind t project manifest asking name bound location h =
+    there (location_of manifest bound) NotInRegistry location (first_value (registered manifest bound) (check_on t project.lock manifest asking name bound) location (unwidened (of_fault bound) (location_on t project.lock manifest asking name bound) location h))
+
+held_behind : (t : Files) (project : ProjectSettings) (manifest : Contents) (asking : PackageLocator) (name : List ℕ) (bound : PackageLocator) (location : List ℕ) → checked_on t project manifest asking name bound ≡ Ok location → IsHeldBy t project.lock manifest asking name bound
+held_behind t project manifest asking name bound location h = by_lock project.lock (unwidened (of_fault bound) (location_on t project.lock manifest asking name bound) location h)
+  where
+    by_lock : (lock : Option Lock) → location_on t lock manifest asking name bound ≡ Ok location → IsHeldBy t lock manifest asking name bound
+    by_lock None passes = tt
+    by_lock (Some lock) passes = λ other. passes_as_locked t lock manifest asking name bound location passes other
+
+binding_end : (t : Files) (project : ProjectSettings) (request : Request) (manifest : Contents) (asking : PackageLocator) (name : List ℕ) (locator : PackageLocator) (subpath : Option (List ℕ)) → ThroughBound t project request manifest asking name locator → IsFoundEnd t project request (end_of (behind_binding t project manifest asking name locator subpath))
+binding_end t project request manifest asking name locator subpath through =
+    goes t project request (or_refused (checked_on t project manifest asking name locator)) (λ location. or_refused (folder_of location) >>= λ folder. behind_folder t project locator folder subpath) (refused_end t project request (checked_on t project manifest asking name locator)) (λ location checked.
     goes t project request (or_refused (folder_of location)) (λ folder. behind_folder t project locator folder subpath) (refused_end t project request (folder_of location)) (λ folder place.
+    let passes = unrefused (checked_on t project manifest asking name locator) location checked in
     folder_end t project request locator folder subpath (λ f within. through location folder f
-    (there (location_of manifest locator) (NotInRegistry locator.name locator.reference) location (unrefused (row_of manifest locator) location row))
+    (row_behind t project manifest asking name locator location passes)
+    (held_behind t project manifest asking name locator location passes)
     (there (physical_place location) (Archive location) folder (unrefused (folder_of location) folder place)) within)))
 
 -- the rows behind a bare target, on a tree
 abbrev behind_target : Files → ProjectSettings → List ℕ → Contents → PackageLocator → List ℕ → Going Resolution Resolution JoinRefusal
 behind_target t project base manifest asking named =
-    or_refused (identifier_of named) >>= λ identifier. or_refused (bound_of manifest asking (path_of project base) named identifier.0) >>= λ locator. behind_binding t project manifest locator identifier.1
+    or_refused (identifier_of named) >>= λ identifier. or_refused (bound_of manifest asking (path_of project base) named identifier.0) >>= λ locator. behind_binding t project manifest asking identifier.0 locator identifier.1
 
-target_end : (t : Files) (project : ProjectSettings) (request : Request) (base : List ℕ) (manifest : Contents) (asking : PackageLocator) (named : List ℕ) → ((identifier : List ℕ × Option (List ℕ)) (locator : PackageLocator) → split_bare named ≡ Some identifier → bind manifest asking identifier.0 ≡ Bound locator → ThroughBound t project request manifest locator) → IsFoundEnd t project request (end_of (behind_target t project base manifest asking named))
+target_end : (t : Files) (project : ProjectSettings) (request : Request) (base : List ℕ) (manifest : Contents) (asking : PackageLocator) (named : List ℕ) → ((identifier : List ℕ × Option (List ℕ)) (locator : PackageLocator) → split_bare named ≡ Some identifier → bind manifest asking identifier.0 ≡ Bound locator → ThroughBound t project request manifest asking identifier.0 locator) → IsFoundEnd t project request (end_of (behind_target t project base manifest asking named))
 target_end t project request base manifest asking named through =
-    goes t project request (or_refused (identifier_of named)) (λ identifier. or_refused (bound_of manifest asking (path_of project base) named identifier.0) >>= λ locator. behind_binding t project manifest locator identifier.1) (refused_end t project request (identifier_of named)) (λ identifier split.
-    goes t project request (or_refused (bound_of manifest asking (path_of project base) named identifier.0)) (λ locator. behind_binding t project manifest locator identifier.1) (refused_end t project request (bound_of manifest asking (path_of project base) named identifier.0)) (λ locator binds.
-    binding_end t project request manifest locator identifier.1
+    goes t project request (or_refused (identifier_of named)) (λ identifier. or_refused (bound_of manifest asking (path_of project base) named identifier.0) >>= λ locator. behind_binding t project manifest asking identifier.0 locator identifier.1) (refused_end t project request (identifier_of named)) (λ identifier split.
+    goes t project request (or_refused (bound_of manifest asking (path_of project base) named identifier.0)) (λ locator. behind_binding t project manifest asking identifier.0 locator identifier.1) (refused_end t project request (bound_of manifest asking (path_of project base) named identifier.0)) (λ locator binds.
+    binding_end t project request manifest asking identifier.0 locator identifier.1
     (through identifier locator (there (split_bare named) (BadSpecifier named) identifier (unrefused (identifier_of named) identifier split)) (bound_by manifest asking (path_of project base) named identifier.0 locator (unrefused (bound_of manifest asking (path_of project base) named identifier.0) locator binds)))))
 
 -- the rows behind the owner, on a tree
@@ -247,7 +277,7 @@ found_end t project request =
     goes t project request (target_or_answer (before_on t project.node (path_of project base) request.specifier)) (λ target. bare_target_on t project base target >>= λ named. behind_target t project base manifest asking named) (before_end t project request (path_of project base)) (λ target alias.
     goes t project request (bare_target_on t project base target) (λ named. behind_target t project base manifest asking named) (bare_end t project request base target) (λ named bare.
     let reading = read_from t project request base manifest read in
-    target_end t project request base manifest asking named (λ identifier locator split binds location folder f row place within. record {
+    target_end t project request base manifest asking named (λ identifier locator split binds location folder f row held place within. record {
       importer = base;
       manifest = reading.manifest;
       contents = manifest;
@@ -263,6 +293,7 @@ found_end t project request =
       names = ap split_bare (aliased t project.node (path_of project base) request.specifier target alias ∙ bare_value t project base target named bare) ∙ split;
       binds = binds;
       row = row;
+      locked = held;
       place = place;
       told = refl;
       lies = record { path = f; folder = folder; file_is = refl; location_is = refl; within = within };

@@ -25,10 +25,11 @@ use Rattle.resolver_core.specs.declared.refusal.TsRefusal.{TsRefusal}
 use Rattle.resolver_core.specs.declared.refusal.TsRefusal.TheVariants.{Inner}
 use Rattle.resolver_core.specs.Mapping.{Mapping, mapped}
 use Rattle.resolver_core.specs.MappingOnTree.{Answers, Asked, mapped_on, mapped_asks}
+use Rattle.lock_checks.specs.OnTree.{location_on, location_asks}
 use Rattle.resolve_stack.specs.declared.verdict.JoinRefusal.{JoinRefusal}
 use Rattle.resolve_stack.specs.Settings.{ProjectSettings, path_of}
 use Rattle.resolve_stack.specs.Request.{Request, asked_for}
-use Rattle.resolve_stack.specs.Rows.{of_node, bare_base, readable, identifier_of, bound_of, row_of, unlocked, folder_of, contained, via_of, is_told_relative}
+use Rattle.resolve_stack.specs.Rows.{of_node, bare_base, readable, identifier_of, bound_of, of_fault, folder_of, contained, via_of, is_told_relative}
 use Rattle.resolve_stack.specs.Order.{join}
 use Rattle.resolve_stack.specs.Verdict.{verdict_of, verdict}
 
@@ -82,6 +83,11 @@ abbrev pub bare_target_asks : Files → ProjectSettings → List ℕ → List �
 bare_target_asks t project base target =
     if is_bare target then [] else search_asks t project.node base target
 
+-- the location of the bound package, or the first check that refuses the binding
+abbrev pub checked_on : Files → ProjectSettings → Contents → PackageLocator → List ℕ → PackageLocator → Result (List ℕ) JoinRefusal
+checked_on t project manifest asking name bound =
+    widened (of_fault bound) (location_on t project.lock manifest asking name bound)
+
 -- what is found at a location
 abbrev pub placed_on : Files → ProjectSettings → Path → Option (List ℕ) → Result Placed JoinRefusal
 placed_on t project folder subpath = widened of_node (located_on t project.node folder subpath)
@@ -105,13 +111,12 @@ join_on t project request = end_of (do
   named ← bare_target_on t project base target
   identifier ← or_refused (identifier_of named)
   locator ← or_refused (bound_of manifest owner (path_of project base) named identifier.0)
-  location ← or_refused (row_of manifest locator)
-  bound ← or_refused (unlocked locator)
+  location ← or_refused (checked_on t project manifest owner identifier.0 locator)
   folder ← or_refused (folder_of location)
   placed ← or_refused (placed_on t project folder identifier.1)
   found ← found_or_name placed
   file ← or_refused (contained folder found.0)
-  Ok (through_on t project (via_of bound folder) file found.1))
+  Ok (through_on t project (via_of locator folder) file found.1))
 
 -- the order's questions
 abbrev pub join_asks : Files → ProjectSettings → Request → List Question
@@ -128,7 +133,8 @@ join_asks t project request =
     asks_after (bare_target_on t project base target) (λ named.
     asks_after (identifier_of named) (λ identifier.
     asks_after (bound_of manifest owner (path_of project base) named identifier.0) (λ locator.
-    asks_after (row_of manifest locator) (λ location.
+    location_asks project.lock manifest owner locator ++
+    asks_after (checked_on t project manifest owner identifier.0 locator) (λ location.
     asks_after (folder_of location) (λ folder.
     located_asks t project.node folder identifier.1 ++
     asks_after (placed_on t project folder identifier.1) (λ placed.

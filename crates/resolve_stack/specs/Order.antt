@@ -9,7 +9,7 @@ use Rattle.resolver_core.specs.Mapping.{Order}
 use Rattle.resolve_stack.specs.declared.verdict.JoinRefusal.{JoinRefusal}
 use Rattle.resolve_stack.specs.Settings.{ProjectSettings, path_of}
 use Rattle.resolve_stack.specs.Request.{Request, asked_for}
-use Rattle.resolve_stack.specs.Rows.{or_node_rows, bare_base, nearest_manifest, owner_of, bare_target, identifier_of, bound_of, row_of, unlocked, folder_of, found_at, unless_ignored, contained, via_of, answered_through}
+use Rattle.resolve_stack.specs.Rows.{or_node_rows, bare_base, nearest_manifest, owner_of, bare_target, identifier_of, bound_of, checked_row, folder_of, found_at, unless_ignored, contained, via_of, answered_through}
 
 abbrev pub join_rows : ProjectSettings → Request → Row Resolution Resolution JoinRefusal
 join_rows project request = do
@@ -20,13 +20,12 @@ join_rows project request = do
   named ← bare_target project base target
   identifier ← decided (identifier_of named)
   locator ← decided (bound_of manifest owner (path_of project base) named identifier.0)
-  location ← decided (row_of manifest locator)
-  bound ← decided (unlocked locator)
+  location ← refuses_by (checked_row project manifest owner identifier.0 locator)
   folder ← decided (folder_of location)
   placed ← refuses_by (found_at project folder identifier.1)
   found ← unless_ignored placed
   file ← decided (contained folder found.0)
-  refuses_by (answered_through project (via_of bound folder) file found.1)
+  refuses_by (answered_through project (via_of locator folder) file found.1)
 
 -- the order of search for a request of a project
 unfoldable pub join : ProjectSettings → Request → Plan (Result Resolution JoinRefusal)

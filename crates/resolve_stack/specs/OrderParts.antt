@@ -12,7 +12,7 @@ use Rattle.swc_loader.specs.NodeRows.{target_before_search}
 use Rattle.resolve_stack.specs.declared.verdict.JoinRefusal.{JoinRefusal}
 use Rattle.resolve_stack.specs.Settings.{ProjectSettings, path_of}
 use Rattle.resolve_stack.specs.Request.{Request}
-use Rattle.resolve_stack.specs.Rows.{owner_of, bare_target, identifier_of, bound_of, row_of, unlocked, folder_of, found_at, unless_ignored, contained, via_of, answered_through}
+use Rattle.resolve_stack.specs.Rows.{owner_of, bare_target, identifier_of, bound_of, checked_row, folder_of, found_at, unless_ignored, contained, via_of, answered_through}
 
 -- behind the folder of the row: the search there, its containment and the answer
 abbrev pub folder_rows : ProjectSettings → PackageLocator → Path → Option (List ℕ) → Row Resolution Resolution JoinRefusal
@@ -22,20 +22,19 @@ folder_rows project bound folder subpath = do
   file ← decided (contained folder found.0)
   refuses_by (answered_through project (via_of bound folder) file found.1)
 
--- behind the binding: the row of the bound package, and the search there
-abbrev pub package_rows : ProjectSettings → Contents → PackageLocator → Option (List ℕ) → Row Resolution Resolution JoinRefusal
-package_rows project manifest locator subpath = do
-  location ← decided (row_of manifest locator)
-  bound ← decided (unlocked locator)
+-- behind the binding: its checks, and the search at the location of the row
+abbrev pub package_rows : ProjectSettings → Contents → PackageLocator → List ℕ → PackageLocator → Option (List ℕ) → Row Resolution Resolution JoinRefusal
+package_rows project manifest owner name locator subpath = do
+  location ← refuses_by (checked_row project manifest owner name locator)
   folder ← decided (folder_of location)
-  folder_rows project bound folder subpath
+  folder_rows project locator folder subpath
 
 -- behind a bare target: its binding by the owner's row
 abbrev pub bare_rows : ProjectSettings → Contents → PackageLocator → Path → List ℕ → Row Resolution Resolution JoinRefusal
 bare_rows project manifest owner importer target = do
   identifier ← decided (identifier_of target)
   locator ← decided (bound_of manifest owner importer target identifier.0)
-  package_rows project manifest locator identifier.1
+  package_rows project manifest owner identifier.0 locator identifier.1
 
 -- behind the owner: what is known before a search, and then the target
 abbrev pub owned_rows : ProjectSettings → Request → List ℕ → Contents → PackageLocator → Row Resolution Resolution JoinRefusal

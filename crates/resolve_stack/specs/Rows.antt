@@ -9,7 +9,7 @@ use Rattle.pnp_core.specs.declared.manifest.Binding.{Binding}
 use Rattle.pnp_core.specs.declared.manifest.Binding.TheVariants.{Bound, MissingPeer, Undeclared}
 use Rattle.pnp_core.specs.declared.error.HydrationCause.{HydrationCause}
 use Rattle.pnp_core.specs.BareIdentifier.{split_bare}
-use Rattle.pnp_core.specs.Manifest.{Contents, location_of}
+use Rattle.pnp_core.specs.Manifest.{Contents}
 use Rattle.pnp_core.specs.Owner.{owner}
 use Rattle.pnp_core.specs.Binding.{bind}
 use Rattle.pnp_core.specs.Loading.{loading}
@@ -29,8 +29,11 @@ use Rattle.swc_loader.specs.Spelling.{custom, answered}
 use Rattle.swc_loader.specs.NodeRows.{search}
 use Rattle.swc_loader.specs.NodeOrder.{node}
 use Rattle.swc_loader.specs.Located.{resolve_at}
+use Rattle.lock_checks.specs.declared.fault.EdgeFault.{EdgeFault}
+use Rattle.lock_checks.specs.declared.fault.EdgeFault.TheVariants as edge_fault
+use Rattle.lock_checks.specs.Checks.{checked_location}
 use Rattle.resolve_stack.specs.declared.verdict.JoinRefusal.{JoinRefusal}
-use Rattle.resolve_stack.specs.declared.verdict.JoinRefusal.TheVariants.{BadSpecifier, FailedManifestHydration, UndeclaredDependency, MissingPeerDependency, NotInRegistry, MalformedPackage, Archive, Outside, NotFound, BaseNotAFile}
+use Rattle.resolve_stack.specs.declared.verdict.JoinRefusal.TheVariants.{BadSpecifier, FailedManifestHydration, UndeclaredDependency, MissingPeerDependency, NotInRegistry, NotLocked, MalformedPackage, OutOfRange, Archive, Outside, NotFound, BaseNotAFile}
 use Rattle.resolve_stack.specs.Settings.{ProjectSettings, path_of}
 use Rattle.resolve_stack.specs.Request.{Request}
 
@@ -108,13 +111,16 @@ abbrev pub bound_of : Contents → PackageLocator → Path → List ℕ → List
 bound_of manifest asking importer target name =
     bound_or_refused manifest asking importer target name (bind manifest asking name)
 
--- Join row 7: the location of the bound package's row
-abbrev pub row_of : Contents → PackageLocator → Result (List ℕ) JoinRefusal
-row_of manifest bound = ok_or (location_of manifest bound) (NotInRegistry bound.name bound.reference)
+-- why a check refuses the binding to a package, as the order's refusal
+abbrev pub of_fault : PackageLocator → EdgeFault → JoinRefusal
+of_fault bound edge_fault.NotInRegistry = NotInRegistry bound.name bound.reference
+of_fault bound edge_fault.NotLocked = NotLocked bound.name bound.reference
+of_fault bound (edge_fault.MalformedPackage path) = MalformedPackage path
+of_fault bound (edge_fault.OutOfRange range version) = OutOfRange range version
 
--- Join row 8: no project has a lock yet, so each binding passes.
-abbrev pub unlocked : PackageLocator → Result PackageLocator JoinRefusal
-unlocked bound = Ok bound
+-- Join rows 7 and 8: the location of the bound package's row, where the lock, if there is one, allows the binding of the name
+abbrev pub checked_row : ProjectSettings → Contents → PackageLocator → List ℕ → PackageLocator → Plan (Result (List ℕ) JoinRefusal)
+checked_row project manifest asking name bound = raised (of_fault bound) (checked_location project.lock manifest asking name bound)
 
 -- Join row 9: the physical place of the location; one inside an archive is refused as the row says it.
 abbrev pub folder_of : List ℕ → Result Path JoinRefusal

@@ -1,5 +1,5 @@
 -- What a file that was found through a row has to do with that row.
-use Rattle.std.specs.Prelude.{◌≡◌, ◌⊎◌, ℕ, true, List, Option, Some, None, Ok}
+use Rattle.std.specs.Prelude.{◌≡◌, ◌⊎◌, ℕ, true, false, List, Option, Some, None, Ok}
 use Rattle.sugar_path.specs.Path.{Path, clean, below, text_of}
 use Rattle.tree_core.specs.Tree.{Files}
 use Rattle.pnp_core.specs.declared.manifest.PackageLocator.{PackageLocator}
@@ -10,6 +10,9 @@ use Rattle.pnp_core.specs.Owner.{owner}
 use Rattle.pnp_core.specs.Binding.{bind}
 use Rattle.pnp_core.specs.OnTree.{nearest_on, loaded_on}
 use Rattle.pnp_core.specs.PhysicalPlace.{physical_place}
+use Rattle.yarn_lock_parser.specs.Lock.{Lock}
+use Rattle.lock_checks.specs.Locked.{IsLocked}
+use Rattle.lock_checks.specs.Reference.{is_workspace}
 use Rattle.swc_loader.specs.Settings.{alias_of}
 use Rattle.swc_loader.specs.declared.resolution.FileName.TheVariants.{Real}
 use Rattle.swc_loader.specs.declared.resolution.Resolution.{Resolution}
@@ -31,6 +34,12 @@ pub record LiesBelow (file location : List ℕ) : Type 0 where
   pub location_is : location ≡ text_of folder
   pub within : below path folder ≡ true
 
+-- Where there is a lock, it holds the binding of a name to a package that isn't of the workspace.
+abbrev pub IsHeldBy : Files → Option Lock → Contents → PackageLocator → List ℕ → PackageLocator → Type 0
+IsHeldBy t None contents asking name bound = Unit {0}
+IsHeldBy t (Some lock) contents asking name bound =
+    is_workspace bound.reference ≡ false → IsLocked t lock contents asking name bound
+
 -- The importer is a path. The manifest nearest to it says who owns it, and the owner's row, or an allowed fallback, binds the name asked for (that of the specifier's alias, where it has one) to the package whose row has a location with this physical place. The file lies below it.
 pub record ThroughRow (t : Files) (project : ProjectSettings) (request : Request) (file : List ℕ) (v : Via) : Type 0 where
   pub importer : List ℕ
@@ -48,6 +57,7 @@ pub record ThroughRow (t : Files) (project : ProjectSettings) (request : Request
   pub names : split_bare (alias_of project.node request.specifier) ≡ Some (name, subpath)
   pub binds : bind contents asking name ≡ Bound (locator v.name v.reference)
   pub row : location_of contents (locator v.name v.reference) ≡ Some location
+  pub locked : IsHeldBy t project.lock contents asking name (locator v.name v.reference)
   pub place : physical_place location ≡ Some folder
   pub told : v.location ≡ text_of folder
   pub lies : LiesBelow file v.location

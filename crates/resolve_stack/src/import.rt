@@ -50,7 +50,7 @@ impl From<ReadError> for ImportError {
 pub fn resolve_import<T: Tree>(
     alloc: Global,
     tree: &mut T,
-    project: &Project,
+    project: &Project<'_>,
     importer: &FileName,
     specifier: &str,
 ) -> Result<Outcome, ImportError>
@@ -95,7 +95,7 @@ pub fn resolve_import<T: Tree>(
 fn decide<T: Tree>(
     alloc: Global,
     tree: &mut Recorder<'_, T>,
-    project: &Project,
+    project: &Project<'_>,
     request: &Request<'_>,
 ) -> Result<Verdict, ReadError>
     ensures { Asks (asking_of tree.old) (asking_of tree.new) result
@@ -113,7 +113,7 @@ fn decide<T: Tree>(
 fn by_order<T: Tree>(
     alloc: Global,
     tree: &mut Recorder<'_, T>,
-    project: &Project,
+    project: &Project<'_>,
     request: &Request<'_>,
 ) -> Result<Resolution, ResolveError<Refusal>>
     ensures { Resolves (asking_of tree.old) (asking_of tree.new) result

@@ -11,8 +11,8 @@ ghost use Rattle.resolve_stack.specs.OrderParts.{manifest_rows, owned_rows, bare
 ghost use Rattle.resolve_stack.specs.Rows.{node_rows_of};
 
 use crate::join_rows::{
-    bare_base, bound_of, contained, folder_of, found_at, identifier_of, raised, read_manifest,
-    row_of,
+    bare_base, bound_of, checked_row, contained, folder_of, found_at, identifier_of, raised,
+    read_manifest,
 };
 use crate::request::Request;
 use crate::{JoinRefusal, Project};
@@ -26,7 +26,7 @@ use tree_core::{Asker, ResolveError};
 pub(crate) fn join<R: Asker>(
     alloc: Global,
     tree: &mut R,
-    project: &Project,
+    project: &Project<'_>,
     request: &Request<'_>,
 ) -> Result<Resolution, ResolveError<JoinRefusal>>
     ensures { Resolves (R.asking tree.old) (R.asking tree.new) result
@@ -47,7 +47,7 @@ pub(crate) fn join<R: Asker>(
 fn by_node_rows<R: Asker>(
     alloc: Global,
     tree: &mut R,
-    project: &Project,
+    project: &Project<'_>,
     request: &Request<'_>,
 ) -> Result<Resolution, ResolveError<JoinRefusal>>
     ensures { Resolves (R.asking tree.old) (R.asking tree.new) result
@@ -63,7 +63,7 @@ fn by_node_rows<R: Asker>(
 fn join_by_manifest<R: Asker>(
     alloc: Global,
     tree: &mut R,
-    project: &Project,
+    project: &Project<'_>,
     request: &Request<'_>,
     base: &str,
     manifest: &Manifest,
@@ -86,7 +86,7 @@ fn join_by_manifest<R: Asker>(
 fn join_owned<R: Asker>(
     alloc: Global,
     tree: &mut R,
-    project: &Project,
+    project: &Project<'_>,
     request: &Request<'_>,
     base: &str,
     manifest: &Manifest,
@@ -123,7 +123,7 @@ fn join_owned<R: Asker>(
 fn join_bare<R: Asker>(
     alloc: Global,
     tree: &mut R,
-    project: &Project,
+    project: &Project<'_>,
     manifest: &Manifest,
     owner: &PackageLocator,
     importer: &CleanPath,
@@ -134,22 +134,26 @@ fn join_bare<R: Asker>(
 {
     let (name, subpath) = identifier_of(alloc, target)?;
     let locator = bound_of(alloc, manifest, owner, importer, target, &name)?;
-    join_in_package(alloc, tree, project, manifest, locator, &subpath)
+    join_in_package(
+        alloc, tree, project, manifest, owner, &name, locator, &subpath,
+    )
 }
 
 // The rows behind the binding of the name.
 fn join_in_package<R: Asker>(
     alloc: Global,
     tree: &mut R,
-    project: &Project,
+    project: &Project<'_>,
     manifest: &Manifest,
+    owner: &PackageLocator,
+    name: &Text,
     locator: PackageLocator,
     subpath: &Option<Text>,
 ) -> Result<Resolution, ResolveError<JoinRefusal>>
     ensures { Resolves (R.asking tree.old) (R.asking tree.new) result
-        (order (package_rows project.now manifest.now locator subpath.now)) }
+        (order (package_rows project.now manifest.now owner.now name.now locator subpath.now)) }
 {
-    let location = row_of(alloc, manifest, &locator)?;
+    let location = checked_row(alloc, tree, project, manifest, owner, name, &locator)?;
     let folder = folder_of(alloc, location)?;
     join_in_folder(alloc, tree, project, locator, &folder, subpath)
 }
@@ -158,7 +162,7 @@ fn join_in_package<R: Asker>(
 fn join_in_folder<R: Asker>(
     alloc: Global,
     tree: &mut R,
-    project: &Project,
+    project: &Project<'_>,
     locator: PackageLocator,
     folder: &CleanPath,
     subpath: &Option<Text>,

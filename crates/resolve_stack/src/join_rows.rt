@@ -2,7 +2,8 @@
 ghost use Rattle.std.specs.Prelude.{◌≡◌, IfOk, Err};
 ghost use Rattle.std.specs.Option.{option_copied};
 ghost use Rattle.tree_core.specs.Asks.{seen};
-ghost use Rattle.tree_core.specs.Resolving.{Resolves, IsDecided, IsDecidedTo, resolving};
+ghost use Rattle.tree_core.specs.Resolving.{Resolves, IsDecided, resolving};
+ghost use Rattle.lock_checks.specs.Lent.{lent};
 ghost use Rattle.pnp_core.specs.Manifest.{Contents};
 ghost use Rattle.pnp_core.specs.Owner.{IsReady};
 ghost use Rattle.resolve_stack.specs.Request.{request_of};
@@ -11,11 +12,12 @@ ghost use Rattle.resolve_stack.specs.Rows as rows;
 
 use crate::request::Request;
 use crate::{JoinRefusal, Project};
+use lock_checks::{EdgeFault, checked_location};
 use pnp_core::{
-    Binding, HydrationCause, Manifest, PackageLocator, binding_of_name, get_package, has_package,
-    loaded_manifest, missing_peer_of, physical_place, split_bare_identifier, undeclared_of,
+    Binding, HydrationCause, Manifest, PackageLocator, binding_of_name, loaded_manifest,
+    missing_peer_of, physical_place, split_bare_identifier, undeclared_of,
 };
-use std::alloc::Global;
+use std::alloc::{AllocError, Global};
 use sugar_path::{CleanPath, Text};
 use swc_loader::{FileName, NodeRefusal, Placed, is_bare};
 use tree_core::{Asker, ResolveError};
@@ -133,21 +135,62 @@ pub(crate) fn bound_of(
     }
 }
 
-// The location of a package's row.
-pub(crate) fn row_of<'a>(
+// The location of the bound package's row, where the project's lock, if it has one, allows the binding.
+pub(crate) fn checked_row<'m, R: Asker>(
     alloc: Global,
-    manifest: &'a Manifest,
-    locator: &PackageLocator,
-) -> Result<&'a str, ResolveError<JoinRefusal>>
-    ensures { IsDecidedTo result (rows.row_of manifest.now locator.now) }
+    tree: &mut R,
+    project: &Project<'_>,
+    manifest: &'m Manifest,
+    owner: &PackageLocator,
+    name: &Text,
+    bound: &PackageLocator,
+) -> Result<&'m str, ResolveError<JoinRefusal>>
+    ensures { Resolves (R.asking tree.old) (R.asking tree.new) (lent result)
+        (rows.checked_row project.now manifest.now owner.now name.now bound.now) }
 {
-    if !has_package(manifest, locator) {
-        return Err(ResolveError::Refused(JoinRefusal::NotInRegistry {
-            name: locator.name.try_clone(alloc)?,
-            reference: locator.reference.try_clone(alloc)?,
-        }));
+    let lock = project.lock();
+    match checked_location(alloc, tree, lock, manifest, owner, name.as_str(), bound) {
+        Ok(location) => Ok(location),
+        Err(ResolveError::Refused(fault)) => Err(refused_binding(alloc, bound, fault)),
+        Err(ResolveError::TreeFault) => Err(ResolveError::TreeFault),
+        Err(ResolveError::NoMemory) => Err(ResolveError::NoMemory),
     }
-    Ok(get_package(manifest, locator).package_location.as_str())
+}
+
+// The refusal of a binding that a check refuses.
+fn refused_binding(
+    alloc: Global,
+    bound: &PackageLocator,
+    fault: EdgeFault,
+) -> ResolveError<JoinRefusal>
+    ensures { IsDecided {A = Contents} (Err result) (Err (rows.of_fault bound.now fault)) }
+{
+    match of_fault(alloc, bound, fault) {
+        Ok(refusal) => ResolveError::Refused(refusal),
+        Err(_) => ResolveError::NoMemory,
+    }
+}
+
+// A fault of a binding, as the order's refusal.
+fn of_fault(
+    alloc: Global,
+    bound: &PackageLocator,
+    fault: EdgeFault,
+) -> Result<JoinRefusal, AllocError>
+    ensures { IfOk result (λ refusal. refusal ≡ rows.of_fault bound.now fault) }
+{
+    match fault {
+        EdgeFault::NotInRegistry => Ok(JoinRefusal::NotInRegistry {
+            name: bound.name.try_clone(alloc)?,
+            reference: bound.reference.try_clone(alloc)?,
+        }),
+        EdgeFault::NotLocked => Ok(JoinRefusal::NotLocked {
+            name: bound.name.try_clone(alloc)?,
+            reference: bound.reference.try_clone(alloc)?,
+        }),
+        EdgeFault::MalformedPackage { path } => Ok(JoinRefusal::MalformedPackage { path }),
+        EdgeFault::OutOfRange { range, version } => Ok(JoinRefusal::OutOfRange { range, version }),
+    }
 }
 
 // The folder where a location's bytes are.
@@ -169,7 +212,7 @@ pub(crate) fn folder_of(
 pub(crate) fn found_at<R: Asker>(
     alloc: Global,
     tree: &mut R,
-    project: &Project,
+    project: &Project<'_>,
     folder: &CleanPath,
     subpath: &Option<Text>,
 ) -> Result<Placed, ResolveError<JoinRefusal>>

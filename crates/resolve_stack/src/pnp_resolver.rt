@@ -17,20 +17,23 @@ use tree_core::{Recorder, ResolveError, Tree};
 
 /// The join of a project as a resolver, without the project's mapping.
 #[derive(Drop)]
-pub struct PnpResolver<'p> {
-    project: &'p Project,
+pub struct PnpResolver<'p, 'l> {
+    project: &'p Project<'l>,
 }
 
-impl<'p> PnpResolver<'p> {
+impl<'p, 'l> PnpResolver<'p, 'l> {
     /// The join of this project. It takes no memory.
-    pub fn of(_alloc: Global, project: &'p Project) -> Result<PnpResolver<'p>, AllocError>
+    pub fn of(
+        _alloc: Global,
+        project: &'p Project<'l>,
+    ) -> Result<PnpResolver<'p, 'l>, AllocError>
         ensures { IsOkAnd result (λ r. joined_project r ≡ project.now) }
     {
         Ok(PnpResolver { project })
     }
 }
 
-impl<'p> Resolve for PnpResolver<'p> {
+impl<'p, 'l> Resolve for PnpResolver<'p, 'l> {
     type Refusal = JoinRefusal;
 
     ghost View = { ProjectSettings };

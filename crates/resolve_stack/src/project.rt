@@ -2,19 +2,21 @@
 ghost use Rattle.std.specs.Prelude.{◌≡◌, Ok, IfOk, OnOk, IfErr};
 ghost use Rattle.std.specs.Option.{option_copied};
 ghost use Rattle.sugar_path.specs.Path.{IsCleanPath, path_in};
-ghost use Rattle.resolve_stack.specs.Settings.{given, project_of, mapping_of, clean_setting, IsCauseOf};
+ghost use Rattle.resolve_stack.specs.Settings.{given, project_of, mapping_of, lock_in, clean_setting, IsCauseOf};
 
 use indexmap::IndexMap;
+use lock_checks::Lock;
 use resolver_core::{Mapping, TsError};
 use std::alloc::{AllocError, Global};
 use std::marker::Model;
 use sugar_path::{CleanPath, List, Text, is_clean};
 use swc_loader::{NodeModulesResolver, TargetEnv};
 use thiserror::Error;
+use yarn_lock_parser::{LockCause, YarnLockError, parse_str};
 
 /// The settings of a project.
 #[derive(Drop)]
-pub struct Settings {
+pub struct Settings<'l> {
     /// The working folder, a clean absolute path: relative texts are read from it.
     pub cwd: Text,
     /// For what modules are resolved: browsers have rules of their own.
@@ -27,6 +29,8 @@ pub struct Settings {
     pub alias: IndexMap<Text, Text>,
     /// The mapping that requests go through first.
     pub ts: Option<TsSettings>,
+    /// The text of a lock file: what it doesn't hold is refused.
+    pub lock: Option<&'l str>,
 }
 
 /// The settings of a mapping, as a tsconfig has them.
@@ -53,38 +57,43 @@ pub enum ProjectError {
     /// It holds no `*`, and has more than one target.
     #[error("the pattern at {at} holds no `*` and has more than one target")]
     ExactNeedsOne { at: usize },
+    /// The lock's text is no lock file: what is wrong with it, and at which byte.
+    #[error("the lock is no lock file: {cause:?} at {place}")]
+    LockParser { place: usize, cause: LockCause },
     /// No memory was found.
     #[error("no memory was found")]
     NoMemory,
 }
 
 /// A project that can answer requests.
-pub struct Project {
+pub struct Project<'l> {
     node: NodeModulesResolver,
     mapping: Option<Mapping>,
+    lock: Option<Lock<'l>>,
 }
 
 // Written out, so that the end of a project is one call to the proofs of what holds it.
-impl Drop for Project {
+impl<'l> Drop for Project<'l> {
     fn drop(self) {
         let Project {
             node: _,
             mapping: _,
+            lock: _,
         } = self;
     }
 }
 
-impl Model for Project {
+impl<'l> Model for Project<'l> {
     ghost use Rattle.resolve_stack.specs.Settings.{ProjectSettings};
 
     ghost Value = { ProjectSettings };
 
-    ghost view = { λ p. record { node = p.node; mapping = p.mapping } };
+    ghost view = { λ p. record { node = p.node; mapping = p.mapping; lock = p.lock } };
 }
 
-impl Project {
+impl<'l> Project<'l> {
     /// A project of these settings, or the first cause against them.
-    pub fn new(alloc: Global, settings: Settings) -> Result<Project, ProjectError>
+    pub fn new(alloc: Global, settings: Settings<'l>) -> Result<Project<'l>, ProjectError>
         ensures ok { IfOk result (λ p. project_of (given settings) ≡ Ok p) }
         ensures clean { OnOk result (IsCleanPath settings.cwd) }
         ensures fault { IfErr result (λ e. IsCauseOf e (project_of (given settings))) }
@@ -96,10 +105,15 @@ impl Project {
             node_modules,
             alias,
             ts,
+            lock,
         } = settings;
         check_setting(alloc, "cwd", cwd.as_str())?;
         let mapping = match ts {
             Some(ts) => Some(mapping_of(alloc, ts)?),
+            None => None,
+        };
+        let lock = match lock {
+            Some(text) => Some(lock_of(alloc, text)?),
             None => None,
         };
         let node = if node_modules {
@@ -107,7 +121,11 @@ impl Project {
         } else {
             NodeModulesResolver::without_node_modules(cwd, target, alias, preserve_symlinks)
         };
-        Ok(Project { node, mapping })
+        Ok(Project {
+            node,
+            mapping,
+            lock,
+        })
     }
 
     /// The working folder.
@@ -130,6 +148,22 @@ impl Project {
     {
         self.mapping.as_ref()
     }
+
+    /// The lock that bindings are held to.
+    pub fn lock(&self) -> Option<&Lock<'l>>
+        ensures { option_copied result ≡ self.now.lock }
+    {
+        self.lock.as_ref()
+    }
+}
+
+// The lock that a text is, or the cause against it.
+fn lock_of(alloc: Global, text: &str) -> Result<Lock<'_>, ProjectError>
+    ensures ok { IfOk result (λ l. lock_in text.now ≡ Ok l) }
+    ensures fault { IfErr result (λ e. IsCauseOf e (lock_in text.now)) }
+{
+    let file = parse_str(alloc, text)?;
+    Ok(Lock::of(alloc, file)?)
 }
 
 // The mapping of these settings, or the first cause against them.
@@ -178,6 +212,20 @@ impl From<TsError> for ProjectError {
             TsError::TwoWildcards { at } => ProjectError::TwoWildcards { at },
             TsError::ExactNeedsOne { at } => ProjectError::ExactNeedsOne { at },
             TsError::NoMemory => ProjectError::NoMemory,
+        }
+    }
+}
+
+impl From<YarnLockError> for ProjectError {
+    ghost use Rattle.std.specs.Prelude.{◌≡◌};
+    ghost use Rattle.resolve_stack.specs.Settings.{error_of_lock};
+
+    ghost from_gives = { λ e cause. cause ≡ error_of_lock e };
+
+    fn from(e: YarnLockError) -> Self {
+        match e {
+            YarnLockError::Parser { place, cause } => ProjectError::LockParser { place, cause },
+            YarnLockError::NoMemory => ProjectError::NoMemory,
         }
     }
 }

@@ -34,11 +34,25 @@ pub enum JoinRefusal {
         name: Text,
         reference: Text,
     },
-    /// A package.json that the search reads isn't one.
+    /// The lock has no entry for the package that the name is bound to.
+    #[error("the lock has no entry for {name}@{reference}")]
+    NotLocked {
+        name: Text,
+        reference: Text,
+    },
+    /// A package.json that is needed, of the package that asks or of one that is searched, isn't one.
     #[error("{path} is malformed")]
     MalformedPackage {
         /// The clean path of the package.json.
         path: Text,
+    },
+    /// The version that the lock holds isn't within the range that the asking package declares.
+    #[error("the locked version {version} isn't within {range}")]
+    OutOfRange {
+        /// The range as the package.json of the asking package says it.
+        range: Text,
+        /// The version of the lock's entry.
+        version: Text,
     },
     /// The bound package lies inside an archive.
     #[error("{location} lies inside an archive")]

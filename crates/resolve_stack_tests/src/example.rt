@@ -16,6 +16,7 @@ fn a_request_is_answered(rt: HostRuntime) -> Result<(), Fail> {
         node_modules: true,
         alias: IndexMap::new(rt.alloc()),
         ts: None,
+        lock: None,
     };
     let project = Project::new(rt.alloc(), settings)?;
     let importer = FileName::Real(Text::of(rt.alloc(), "/shop/main.js")?);

@@ -56,7 +56,7 @@ fn came(alloc: Global, importer: &str, specifier: &str) -> Result<String, Fail> 
 
 fn came_by(
     alloc: Global,
-    project: &Project,
+    project: &Project<'_>,
     importer: &str,
     specifier: &str,
 ) -> Result<String, Fail> {

@@ -49,12 +49,12 @@ fn tree_of(alloc: Global, location: &str) -> Result<MemoryTree, Fail> {
     Ok(tree)
 }
 
-fn project_with(alloc: Global, paths: &str) -> Result<Project, Fail> {
+fn project_with(alloc: Global, paths: &str) -> Result<Project<'static>, Fail> {
     let ts = ts_of(alloc, "/w", paths)?;
     Ok(project_of(alloc, "/w", Some(ts))?)
 }
 
-fn came_by(alloc: Global, project: &Project, location: &str, asked: &str) -> Result<String, Fail> {
+fn came_by(alloc: Global, project: &Project<'_>, location: &str, asked: &str) -> Result<String, Fail> {
     let (importer, specifier) = asked.split_once(' ').ok_or("no specifier")?;
     let mut tree = tree_of(alloc, location)?;
     Ok(told_from(alloc, &mut tree, project, importer, specifier)?)
@@ -104,13 +104,13 @@ where
 }
 
 // The project's own mapping is left aside.
-fn by_the_join(alloc: Global, project: &Project) -> Result<String, Fail> {
+fn by_the_join(alloc: Global, project: &Project<'_>) -> Result<String, Fail> {
     let mut join = PnpResolver::of(alloc, project)?;
     answer_by(alloc, &mut join, "q")
 }
 
 // Another mapping, or a cache, can be put in front of it.
-fn by_a_cache(alloc: Global, project: &Project) -> Result<String, Fail> {
+fn by_a_cache(alloc: Global, project: &Project<'_>) -> Result<String, Fail> {
     let ts = ts_of(alloc, "/w", "x/*:cart")?;
     let join = PnpResolver::of(alloc, project)?;
     let Ok(mapped) = TsConfigResolver::new(alloc, join, ts.base_url, ts.paths) else {

@@ -47,12 +47,22 @@ fn targets_of(alloc: Global, targets: &str) -> Result<List<Text>, AllocError> {
     Ok(List::from(texts))
 }
 
-/// A project for Node with this working folder.
+/// A project for Node with this working folder, without a lock.
 pub fn project_of(
     alloc: Global,
     cwd: &str,
     ts: Option<TsSettings>,
-) -> Result<Project, ProjectError> {
+) -> Result<Project<'static>, ProjectError> {
+    locked_project_of(alloc, cwd, ts, None)
+}
+
+/// The same with a lock.
+pub fn locked_project_of<'l>(
+    alloc: Global,
+    cwd: &str,
+    ts: Option<TsSettings>,
+    lock: Option<&'l str>,
+) -> Result<Project<'l>, ProjectError> {
     Project::new(
         alloc,
         Settings {
@@ -62,6 +72,7 @@ pub fn project_of(
             node_modules: true,
             alias: IndexMap::new(alloc),
             ts,
+            lock,
         },
     )
 }
@@ -89,7 +100,7 @@ fn came(alloc: Global, specifier: &str) -> Result<String, Fail> {
     came_by(alloc, &project, specifier)
 }
 
-fn came_by(alloc: Global, project: &Project, specifier: &str) -> Result<String, Fail> {
+fn came_by(alloc: Global, project: &Project<'_>, specifier: &str) -> Result<String, Fail> {
     let mut tree = tree(alloc)?;
     Ok(told_from(alloc, &mut tree, project, importer(), specifier)?)
 }
@@ -98,7 +109,7 @@ fn came_by(alloc: Global, project: &Project, specifier: &str) -> Result<String, 
 pub fn told_from(
     alloc: Global,
     tree: &mut MemoryTree,
-    project: &Project,
+    project: &Project<'_>,
     importer: &str,
     specifier: &str,
 ) -> Result<String, AllocError> {
@@ -109,7 +120,7 @@ pub fn told_from(
 fn told_on(
     alloc: Global,
     tree: &mut MemoryTree,
-    project: &Project,
+    project: &Project<'_>,
     importer: &FileName,
     specifier: &str,
 ) -> Result<String, AllocError> {

@@ -35,6 +35,7 @@ fn its_outcome<T: Tree>(alloc: Global, tree: &mut T) -> Result<Option<Outcome>, 
         node_modules: true,
         alias: IndexMap::new(alloc),
         ts: None,
+        lock: None,
     };
     let project = Project::new(alloc, settings)?;
     let importer = FileName::Real(Text::of(alloc, "/w/a.js")?);

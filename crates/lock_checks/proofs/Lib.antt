@@ -1,0 +1,4 @@
+pub mod FirstPlaces
+pub mod Texts
+pub mod OnTrees
+pub mod LockedBindings

@@ -1,0 +1,46 @@
+-- A binding that passes the checks is locked.
+use Rattle.std.proofs.Common.{◌≡◌, ℕ, Bool, true, false, cond, List, Option, Some, None, Result, Ok, Err, IsTrue, refl, sym, ap, ◌∙◌}
+use Rattle.tree_core.specs.Tree.{Files}
+use Rattle.sugar_path.specs.Results.{◌>>=◌}
+use Rattle.npm_req.specs.Requirement.{Requirement}
+use Rattle.yarn_lock_parser.specs.Entry.{Entry}
+use Rattle.yarn_lock_parser.specs.Lock.{Lock}
+use Rattle.pnp_core.specs.declared.manifest.PackageLocator.{PackageLocator}
+use Rattle.pnp_core.specs.Manifest.{Contents}
+use Rattle.lock_checks.specs.declared.fault.EdgeFault.{EdgeFault}
+use Rattle.lock_checks.specs.declared.fault.EdgeFault.TheVariants.{OutOfRange}
+use Rattle.lock_checks.specs.Checks.{registered}
+use Rattle.lock_checks.specs.Locked.{IsLocked, PassesAsLocked}
+use Rattle.lock_checks.specs.Naming.{first_naming}
+use Rattle.lock_checks.specs.OnTree.{check_on, entry_check_on, location_on, range_check_on, range_in_place_on}
+use Rattle.lock_checks.specs.Range.{folder_of, is_within, within}
+use Rattle.lock_checks.specs.Reference.{is_npm, is_workspace}
+
+-- a result behind others is reached only where those pass
+second_passes : {A B X : Type 0} {b : B} (first : Result A X) (check : Result (Unit {0}) X) (f : A → B) → (first >>= λ a. check >>= λ passed. Ok (f a)) ≡ Ok b → check ≡ Ok tt
+second_passes (Ok a) (Ok tt) f h = refl
+second_passes (Ok a) (Err x) f h = cc
+second_passes (Err x) check f h = cc
+
+passes_within : (range : Requirement) (version : List ℕ) → within (Some range) version ≡ Ok tt → is_within range version ≡ true
+passes_within range version = by_test (is_within range version)
+  where
+    by_test : (b : Bool) → cond b (Ok tt) (Err (OutOfRange range.text version)) ≡ Ok tt → b ≡ true
+    by_test true h = refl
+    by_test false h = cc
+
+by_entry : (t : Files) (lock : Lock) (manifest : Contents) (owner : PackageLocator) (name : List ℕ) (bound : PackageLocator) (entry : Option Entry) → first_naming lock bound ≡ entry → entry_check_on t manifest owner name bound entry ≡ Ok tt → IsLocked t lock manifest owner name bound
+by_entry t lock manifest owner name bound None is h = cc
+by_entry t lock manifest owner name bound (Some entry) is h = record {
+  entry = entry;
+  first = is;
+  within = λ range npm declared.
+      let checked : range_check_on t manifest owner name entry ≡ Ok tt = rw npm at h in
+      let held : within (Some range) entry.version ≡ Ok tt = rw declared at checked in
+      passes_within range entry.version held;
+}
+
+pub passes_as_locked : PassesAsLocked
+passes_as_locked t lock manifest owner name bound location passes other =
+    let checked : check_on t (Some lock) manifest owner name bound ≡ Ok tt = second_passes (registered manifest bound) (check_on t (Some lock) manifest owner name bound) (λ (l : List ℕ). l) passes in
+    by_entry t lock manifest owner name bound (first_naming lock bound) refl (rw other at checked)

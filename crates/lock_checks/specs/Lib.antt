@@ -1,0 +1,10 @@
+pub mod Reference
+pub mod Naming
+pub mod Places
+pub mod PlacesView
+pub mod Range
+pub mod Checks
+pub mod Fault
+pub mod Lent
+pub mod OnTree
+pub mod Locked

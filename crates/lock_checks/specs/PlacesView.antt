@@ -1,0 +1,16 @@
+-- What the index of a lock holds.
+use Rattle.std.specs.Prelude.{◌≡◌, ℕ, Bool, ◌==◌, ◌&&◌, List, Bor, bytes_eq}
+use Rattle.std.specs.HashMap.{get_by}
+use Rattle.yarn_lock_parser.specs.Entry.{Entry}
+use Rattle.lock_checks.specs.declared.lock.Lock.TheInside.{Inside}
+use Rattle.lock_checks.specs.Places.{first_place}
+
+-- an entry of a lock of version 1 has this name and version
+abbrev pub is_released_as : ℕ → List ℕ → List ℕ → Entry → Bool
+is_released_as lock_version name version entry = (lock_version == 1) && (bytes_eq name entry.name && bytes_eq version entry.version)
+
+-- By each text, the place of the first entry that is resolved to it; and by each name and version, that of the first entry of a lock of version 1 that has both.
+abbrev pub HoldsPlaces : Inside → Type 0
+HoldsPlaces l =
+    ((text : List ℕ) → get_by (λ k. bytes_eq text k.now) l.resolutions ≡ first_place (λ e. bytes_eq text e.resolved) l.file.entries)
+    × ((name version : List ℕ) → get_by (λ k. bytes_eq name k.0.now && bytes_eq version k.1.now) l.releases ≡ first_place (is_released_as l.file.version name version) l.file.entries)
