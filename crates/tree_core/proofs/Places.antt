@@ -9,10 +9,11 @@ use Rattle.tree_core.specs.Question.{question_eq, reply_in, place_in, fits}
 use Rattle.tree_core.specs.Places.{hash_of, place_with, place_from, with_place, IsKept}
 use Rattle.tree_core.proofs.Replies.{question_eq-is, chosen, all_fit-push}
 
+-- the first place, by a recursion along the list
 position-is : {X : Type 0} (p : X → Bool) (xs : List X) → position p xs ≡ position_from p 0 xs
 position-is p xs = position_from-zero p xs
 
--- where a test passes at each x where another does, its first place comes no later
+-- Where p passes, r does. So p's first place is the first from r's first place on.
 module _ {X : Type 0} (p r : X → Bool) (pass : (x : X) → p x ≡ true → r x ≡ true) where
   fails : (x : X) → r x ≡ false → p x ≡ false
   fails x e = by_test (p x) (pass x)

@@ -288,7 +288,7 @@ fn first_with_prefix<'a>(files: &'a BTreeMap<String, TreeFile>, prefix: &String)
     }
 }
 
-// Whether a file is found below a path. Where the buffer lacks room for the path and a `/`, none is.
+// Whether a file is found below a path. The buffer takes the text before those below; where that finds no room, none is found.
 fn finds_below(files: &BTreeMap<String, TreeFile>, path: &str, prefix: &mut String) -> bool
     ensures found { IsTrue result → HasBelow (files_of files.now.entries) path.now }
     ensures missed { result ≡ false → HasBelow (files_of files.now.entries) path.now
