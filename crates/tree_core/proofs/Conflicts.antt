@@ -1,14 +1,15 @@
 -- Which file is in the way of a path, and what putting and taking files keeps.
-use Rattle.std.proofs.Common.{◌≡◌, ◌≤◌, ◌||◌, ◌⊎◌, inl, inr, ℕ, Bool, true, false, cond, List, [], ◌∷◌, Option, Some, None, Result, Ok, Err, OnOk, OnErr, is_err, option_map, IsSome, IfSome, is_some, length, bytes_eq, refl, sym, ap, ◌∙◌, subst, arith}
+use Rattle.std.proofs.Common.{◌≡◌, ◌≤◌, ◌||◌, ◌⊎◌, inl, inr, ℕ, Bool, true, false, cond, List, [], ◌∷◌, Option, Some, None, Result, Ok, Err, OnOk, OnErr, is_err, option_map, IsSome, IfSome, IfNone, is_some, length, bytes_eq, refl, sym, ap, ◌∙◌, subst, arith}
 use Rattle.std.specs.List.{find, list_any}
 use Rattle.std.specs.Bool.{Decides}
+use Rattle.std.specs.Borrow.{Bor}
 use Rattle.std.specs.Ordering.{nat_cmp, eq_by_cmp}
 use Rattle.std.specs.Cmp.Lexicographic.{slice_cmp, nat_list_cmp_total}
 use Rattle.std.specs.FinMap as finite
 use Rattle.std.proofs.lemmas.Map.Text.{is_eq-slice_cmp}
 use Rattle.std.proofs.lemmas.Slice.Eq.{bytes_eq-Decides}
 use Rattle.tree_core.specs.Tree.{Files, TreeFile, IsValidTree, IsFilePath, is_file, is_folder, stands_above}
-use Rattle.tree_core.specs.Memory.{IsStore, with_file, NoneAbove, conflicts, conflict}
+use Rattle.tree_core.specs.Memory.{IsStore, with_file, NoneAbove, HasBelow, conflicts, conflict}
 use Rattle.tree_core.proofs.Above.{above-is, above-trans, above-shorter, of_two_above}
 
 abbrev same_text : List ℕ → List ℕ → Bool
@@ -104,11 +105,47 @@ conflict-below t p none = find-same (conflicts p) (stands_above p) (finite.keys 
     by_test true b e = refl
     by_test false b e = e
 
+-- No file stands above a path with a file below: it would stand above that file.
+above-files : (t : Files) (p q : List ℕ) → IsValidTree t → HasBelow t p → is_file t q ≡ true → stands_above q p ≡ false
+above-files t p q valid below there = by_test (stands_above q p) refl
+  where
+    by_test : (b : Bool) → stands_above q p ≡ b → b ≡ false
+    by_test true above =
+        let none = none-passes (stands_above p) (finite.keys t) (λ w has. lower w has (stands_above p w) refl) in
+        cc
+      where
+        lower : (w : List ℕ) → Has (finite.keys t) w → (b : Bool) → stands_above p w ≡ b → b ≡ false
+        lower w has true e = let through = above-trans q p w above e in let apart = valid.apart q w there (key-has t w has) in cc
+        lower w has false e = refl
+    by_test false above = refl
+
+-- none above a path with a file below, and none at it
+pub none-above_folder : (t : Files) (p : List ℕ) → IsValidTree t → HasBelow t p → NoneAbove t p
+none-above_folder t p valid below = λ q there. above-files t p q valid below there
+
+no_file-at_folder : (t : Files) (p : List ℕ) → IsValidTree t → HasBelow t p → is_file t p ≡ false
+no_file-at_folder t p valid below = by_test (is_file t p) refl
+  where
+    by_test : (b : Bool) → is_file t p ≡ b → b ≡ false
+    by_test true there =
+        let none = none-passes (stands_above p) (finite.keys t) (λ w has. valid.apart p w there (key-has t w has)) in
+        cc
+    by_test false there = refl
+
+pub none-at_folder : (t : Files) (q p : List ℕ) → IsValidTree t → HasBelow t p → is_file t q ≡ true → (q ≡ p) ⊎ (stands_above q p ≡ true) → ⊥
+none-at_folder t q p valid below there (inl same) = let none : is_file t q ≡ false = rw same (no_file-at_folder t p valid below) in cc
+none-at_folder t q p valid below there (inr above) = let none = none-above_folder t p valid below q there in cc
+
+-- what is found above, or below, is in the way
+pub conflict-is : (t : Files) (p : List ℕ) (o : Option (Bor (List ℕ))) → IsValidTree t → find (stands_above p) (finite.keys t) ≡ None → IfSome o (λ k. is_file t k.now ≡ true) → IfSome o (λ k. stands_above k.now p ≡ true) → IfNone o (NoneAbove t p) → option_map (λ k. k.now) o ≡ conflict t p
+conflict-is t p (Some k) valid below there above none = sym (conflict-above t p k.now valid there above)
+conflict-is t p None valid below there above none = sym (conflict-below t p none ∙ below)
+
 pub no-conflict : (t : Files) (p q : List ℕ) → conflict t p ≡ None → is_file t q ≡ true → conflicts p q ≡ false
 no-conflict t p q none there = none-found (conflicts p) (finite.keys t) none q (has-key t q there)
 
 -- what has as many bytes as the longest path of a file stands above none
-pub none-below_longest : (t : Files) (p : List ℕ) (longest : ℕ) → IsStore t longest → longest ≤ length p → list_any (stands_above p) (finite.keys t) ≡ false
+none-below_longest : (t : Files) (p : List ℕ) (longest : ℕ) → IsStore t longest → longest ≤ length p → list_any (stands_above p) (finite.keys t) ≡ false
 none-below_longest t p longest store full = none-passes (stands_above p) (finite.keys t) (λ q has. by_test q (stands_above p q) refl (store.room q (key-has t q has)))
   where
     by_test : (q : List ℕ) (b : Bool) → stands_above p q ≡ b → length q ≤ longest → b ≡ false
@@ -204,8 +241,17 @@ store-after (Ok _) t u p path f canonical longest more store le fits same named 
 store-after (Err _) t u p path f canonical longest more store le fits same named path_ok canonical_ok free ok err = rw err (store-grows t longest more store le)
 
 -- what isn't `/` is a folder where something is below it
-pub folder-is : (t : Files) (p : List ℕ) (b : Bool) → bytes_eq p (47 ∷ []) ≡ false → list_any (stands_above p) (finite.keys t) ≡ b → is_folder t p ≡ b
+folder-is : (t : Files) (p : List ℕ) (b : Bool) → bytes_eq p (47 ∷ []) ≡ false → list_any (stands_above p) (finite.keys t) ≡ b → is_folder t p ≡ b
 folder-is t p b apart below = rw apart below
+
+-- What is found below tells folders, where no file's path is longer than the room.
+pub folder-found : (t : Files) (p : List ℕ) (longest : ℕ) (b : Bool) → IsStore t longest → bytes_eq p (47 ∷ []) ≡ false → (b ≡ true → HasBelow t p) → (b ≡ false → HasBelow t p → longest ≤ length p) → b ≡ is_folder t p
+folder-found t p longest true store apart found missed = sym (folder-is t p true apart (found refl))
+folder-found t p longest false store apart found missed = sym (folder-is t p false apart (by_test (list_any (stands_above p) (finite.keys t)) refl))
+  where
+    by_test : (b : Bool) → list_any (stands_above p) (finite.keys t) ≡ b → list_any (stands_above p) (finite.keys t) ≡ false
+    by_test true e = none-below_longest t p longest store (missed refl e)
+    by_test false e = e
 
 pub when_err : {A E : Type 0} (P : Type 0) (r : Result A E) → is_err r ≡ true → OnErr r P → P
 when_err P (Ok _) e h = cc

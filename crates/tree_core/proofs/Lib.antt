@@ -1,4 +1,5 @@
 pub mod Replies
+pub mod Places
 pub mod Recorded
 pub mod Asking
 pub mod Firsts

@@ -1,4 +1,5 @@
 pub mod Question
+pub mod Places
 pub mod Tree
 pub mod Plan
 pub mod Asks

@@ -1,9 +1,9 @@
 // A tree in memory, which stands for exactly its files.
-ghost use Rattle.std.specs.Prelude.{◌≡◌, ◌≢◌, ◌++◌, ◌∷◌, ◌+◌, ◌<◌, ◌≤◌, [], None, Some, IsOk, OnOk, OnErr, IfOk, IfErr, IfNone, IsTrue, IfSome, ◌||◌, is_some, nat_eq, length, option_map, string_bytes, string_capacity};
+ghost use Rattle.std.specs.Prelude.{◌≡◌, ◌≢◌, ◌++◌, ◌∷◌, ◌+◌, ◌<◌, ◌≤◌, [], false, None, Some, IsOk, OnOk, OnErr, IfOk, IfErr, IfNone, IsTrue, IfSome, ◌||◌, is_some, nat_eq, length, option_map, string_bytes, string_capacity};
 ghost use Rattle.std.specs.FinMap as map;
 ghost use Rattle.std.specs.List.{find, starts_with};
 ghost use Rattle.sugar_path.specs.Path.{IsCleanPath};
-ghost use Rattle.tree_core.specs.Memory.{files_of, conflict, refusal, with_file, NoneAbove, IsReplied};
+ghost use Rattle.tree_core.specs.Memory.{files_of, conflict, refusal, with_file, NoneAbove, HasBelow, IsReplied};
 ghost use Rattle.tree_core.specs.declared.memory.PutError.TheVariants.{NoMemory};
 ghost use Rattle.tree_core.specs.Tree.{IsValidTree, one_more, is_file, is_folder, is_file_path, stands_above};
 ghost use Rattle.tree_core.specs.declared.question.Question.TheVariants.{File, Dir, Exists, Read, Canon};
@@ -109,7 +109,7 @@ impl MemoryTree {
             canonical: Text::of(self.alloc, canonical)?,
         };
         fill(&mut self.prefix, path)?;
-        if let Some(other) = conflicting(&self.files, path, &self.prefix) {
+        if let Some(other) = conflicting(&self.files, path, &mut self.prefix) {
             return Err(PutError::Conflict {
                 other: Text::of(self.alloc, other)?,
             });
@@ -152,11 +152,7 @@ impl MemoryTree {
         if p == "/" {
             return true;
         }
-        if fill(&mut self.prefix, p).is_err() {
-            // the path is no shorter than each file's
-            return false;
-        }
-        first_with_prefix(&self.files, &self.prefix).is_some()
+        finds_below(&self.files, p, &mut self.prefix)
     }
 
     pub(crate) fn has_path(&mut self, p: &str) -> bool
@@ -292,15 +288,37 @@ fn first_with_prefix<'a>(files: &'a BTreeMap<String, TreeFile>, prefix: &String)
     }
 }
 
-// The nearest file above a path.
-fn nearest_above<'a>(files: &BTreeMap<String, TreeFile>, path: &'a str) -> Option<&'a str>
+// Whether a file is found below a path. The buffer takes the text before those below; where that finds no room, none is found.
+fn finds_below(files: &BTreeMap<String, TreeFile>, path: &str, prefix: &mut String) -> bool
+    ensures found { IsTrue result → HasBelow (files_of files.now.entries) path.now }
+    ensures missed { result ≡ false → HasBelow (files_of files.now.entries) path.now
+        → string_capacity prefix.old ≤ length path.now }
+    ensures room { string_capacity prefix.old ≤ string_capacity prefix.new }
+{
+    if fill(prefix, path).is_err() {
+        return false;
+    }
+    first_with_prefix(files, prefix).is_some()
+}
+
+// The nearest file above a path. No file is a folder or stands above one, so the search ends at the first folder above.
+fn nearest_above<'a>(
+    files: &BTreeMap<String, TreeFile>,
+    path: &'a str,
+    prefix: &mut String,
+) -> Option<&'a str>
+    requires { IsValidTree (files_of files.now.entries) }
     ensures file { IfSome result (λ p. IsTrue (is_file (files_of files.now.entries) p.now)) }
     ensures above { IfSome result (λ p. IsTrue (stands_above p.now path.now)) }
     ensures none { IfNone result (NoneAbove (files_of files.now.entries) path.now) }
+    ensures room { string_capacity prefix.old ≤ string_capacity prefix.new }
 {
     let mut folder = path;
     while let Some(at) = folder.rfind('/') {
         folder = &folder[..at];
+        if finds_below(files, folder, prefix) {
+            return None;
+        }
         if files.contains_key(folder) {
             return Some(folder);
         }
@@ -308,18 +326,20 @@ fn nearest_above<'a>(files: &BTreeMap<String, TreeFile>, path: &'a str) -> Optio
     None
 }
 
-// The first file in byte order that stands above or below a path, whose text before those below is given.
+// The first file in byte order that stands above or below a path, whose text before those below is given. A path with files below has none above.
 fn conflicting<'a>(
     files: &'a BTreeMap<String, TreeFile>,
     path: &'a str,
-    prefix: &String,
+    prefix: &mut String,
 ) -> Option<&'a str>
     requires valid { IsValidTree (files_of files.now.entries) }
-    requires prefix { string_bytes prefix.now ≡ path.now ++ 47 ∷ [] }
-    ensures { option_map (λ p. p.now) result ≡ conflict (files_of files.now.entries) path.now }
+    requires prefix { string_bytes prefix.old ≡ path.now ++ 47 ∷ [] }
+    ensures conflict { option_map (λ p. p.now) result
+        ≡ conflict (files_of files.now.entries) path.now }
+    ensures room { string_capacity prefix.old ≤ string_capacity prefix.new }
 {
-    match nearest_above(files, path) {
-        Some(other) => Some(other),
-        None => first_with_prefix(files, prefix),
+    match first_with_prefix(files, prefix) {
+        Some(below) => Some(below),
+        None => nearest_above(files, path, prefix),
     }
 }

@@ -4,4 +4,6 @@
 #[cfg(test)]
 mod example;
 #[cfg(test)]
+mod trails;
+#[cfg(test)]
 mod trees;

@@ -77,6 +77,7 @@ fn a_file_is_refused(rt: HostRuntime) -> Result<(), Fail> {
         ("/w", "/w", Some("/w/a.js")),
         ("/w/lib", "/w/lib", Some("/w/lib/index.js")),
         ("/w/a.js/b/c", "/b", Some("/w/a.js")),
+        ("/w/lib/index.js/b/c/d", "/b", Some("/w/lib/index.js")),
     ] {
         match tree.put(path, b"", canonical) {
             Err(PutError::Unclean) => assert!(rt; other.is_none(), "{path}"),

@@ -5,6 +5,7 @@ use Rattle.tree_core.specs.Memory.{files_of}
 use Rattle.tree_core.specs.Tree.{Files, is_file, stands_above}
 use Rattle.tree_core.proofs.Entries.{get-files_of}
 use Rattle.tree_core.proofs.Above.{above-trans, cut-above, above-cut, none-above}
+use Rattle.tree_core.proofs.Conflicts.{none-at_folder}
 use Rattle.tree_core.proofs.memory.nearest_above.Goals as goal
 
 pub returns-then-contains_key-clause-file : goal.returns-then-contains_key-clause-file
@@ -18,6 +19,18 @@ returns-then-contains_key-clause-above c =
     let cut : c.range-folder.result.now ≡ take c.in-Some.at c.loop-at.folder.now = c.range-folder.ensures.value ∙ ap (λ n. take n c.loop-at.folder.now) whole in
     c.loop-at.invariant.1 c.range-folder.result.now (rw cut (cut-above c.loop-at.folder.now c.in-Some.at slash.0 slash.1))
 
+-- the search ends at a folder: no file is at it or above it
+pub returns-then-finds_below-clause-none : goal.returns-then-finds_below-clause-none
+returns-then-finds_below-clause-none c =
+    let slash = rw c.in-Some.is at (rfind_char 47 c.loop-at.folder.now c.rfind.result c.rfind.ensures.cases (omega arith)) in
+    let whole : c.in-Some.at - 0 ≡ c.in-Some.at = omega arith in
+    let cut : c.range-folder.result.now ≡ take c.in-Some.at c.loop-at.folder.now = c.range-folder.ensures.value ∙ ap (λ n. take n c.loop-at.folder.now) whole in
+    λ q there. not_so (stands_above q c.args.path.now) (λ h. none-at_folder (files_of c.args.files.now.entries) q c.range-folder.result.now c.requires (c.finds_below.ensures.found c.if-finds_below.true) there (rw cut (above-cut q c.loop-at.folder.now c.in-Some.at slash.0 slash.1 slash.2 (c.loop-at.invariant.2 q there h))))
+  where
+    not_so : (b : Bool) → (b ≡ true → ⊥) → b ≡ false
+    not_so true h = absurd (h refl)
+    not_so false h = refl
+
 pub loop-at-preserved : goal.loop-at-preserved
 loop-at-preserved c =
     let slash = rw c.in-Some.is at (rfind_char 47 c.loop-at.folder.now c.rfind.result c.rfind.ensures.cases (omega arith)) in
@@ -28,6 +41,7 @@ loop-at-preserved c =
       c.range-folder.utf8,
       λ q h. c.loop-at.invariant.1 q (above-trans q c.range-folder.result.now c.loop-at.folder.now h above),
       λ q there h. other (files_of c.args.files.now.entries) q c.range-folder.result.now there absent (rw cut (above-cut q c.loop-at.folder.now c.in-Some.at slash.0 slash.1 slash.2 (c.loop-at.invariant.2 q there h))),
+      omega arith,
     )
   where
     other : (t : Files) (q p : List ℕ) → IsSome (map.get t q) → is_file t p ≡ false → (q ≡ p) ⊎ (stands_above q p ≡ true) → stands_above q p ≡ true

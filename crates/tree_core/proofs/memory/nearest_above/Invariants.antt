@@ -1,4 +1,4 @@
-use Rattle.std.proofs.Common.{◌≡◌, ℕ, List, true, IsSome, length}
+use Rattle.std.proofs.Common.{◌≡◌, ◌≤◌, ℕ, List, true, IsSome, length, string_capacity}
 use denote.Text.{Utf8}
 use denote.Shadow.{shadow}
 use Rattle.std.specs.FinMap as map
@@ -11,6 +11,7 @@ abbrev pub invariant-loop-at : goal.invariant-loop-at
 invariant-loop-at l = shadow (Utf8 l.folder)
     × ((q : List ℕ) → stands_above q l.folder ≡ true → stands_above q l.path ≡ true)
     × ((q : List ℕ) → IsSome (map.get (files_of l.files.entries) q) → stands_above q l.path ≡ true → stands_above q l.folder ≡ true)
+    × (string_capacity l.initial.prefix ≤ string_capacity l.prefix)
 
 abbrev pub decreases-loop-at : goal.decreases-loop-at
 decreases-loop-at l = length l.folder

@@ -8,6 +8,7 @@ pub invariant_of-self-2 : goal.invariant_of-self-2
 invariant_of-self-2 c =
     let path : is_file_path c.args.path.now ≡ true = grind arith in
     let canonical : is_file_path c.args.canonical.now ≡ true = grind arith in
-    let fits : length c.args.path.now ≤ string_capacity c.fill.new.prefix = omega (arith, c.in_ok-fill.ensures.room) in
-    store-after c.put_at.result (files_of c.self.inside.files.entries) (files_of c.put_at.new.files.entries) (string_bytes c.in_ok-key.key) c.args.path.now (record { content = c.in_ok-of.field-0; canonical = c.in_ok-of-2.field-0 }) c.args.canonical.now (string_capacity c.self.inside.prefix) (string_capacity c.fill.new.prefix)
-    c.self.invariant c.fill.ensures.grows fits c.in_ok-key.ensures.ok c.in_ok-of-2.ensures path canonical (sym c.in_default.ensures) c.put_at.ensures.ok c.put_at.ensures.err
+    let fits : length c.args.path.now ≤ string_capacity c.conflicting.new.prefix = omega (arith, c.in_ok-fill.ensures.room) in
+    let grows : string_capacity c.self.inside.prefix ≤ string_capacity c.conflicting.new.prefix = omega arith in
+    store-after c.put_at.result (files_of c.self.inside.files.entries) (files_of c.put_at.new.files.entries) (string_bytes c.in_ok-key.key) c.args.path.now (record { content = c.in_ok-of.field-0; canonical = c.in_ok-of-2.field-0 }) c.args.canonical.now (string_capacity c.self.inside.prefix) (string_capacity c.conflicting.new.prefix)
+    c.self.invariant grows fits c.in_ok-key.ensures.ok c.in_ok-of-2.ensures path canonical (sym c.in_default.ensures.conflict) c.put_at.ensures.ok c.put_at.ensures.err
