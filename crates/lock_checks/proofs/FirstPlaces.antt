@@ -1,7 +1,8 @@
 -- Where something stands first in a list.
-use Rattle.std.proofs.Common.{◌≡◌, ◌+◌, ℕ, zero, suc, Bool, true, false, cond, ◌||◌, List, [], ◌∷◌, ◌++◌, length, Option, Some, None, refl, sym, ap, ◌∙◌, arith}
+use Rattle.std.proofs.Common.{◌≡◌, ◌+◌, ℕ, zero, suc, Bool, true, false, cond, ◌||◌, List, [], ◌∷◌, ◌++◌, length, Option, Some, None, refl, sym, ap, ◌∙◌, arith, take, get_or, ◌<◌}
 use Rattle.std.specs.Prelude.{find, min, option_map, option_and_then, slice_get}
 use Rattle.std.specs.Option.{option_or}
+use Rattle.std.proofs.lemmas.List.{length-take, take_more}
 use Rattle.lock_checks.specs.Places.{earlier, first_place}
 
 later_or : (o p : Option ℕ) → option_map suc (option_or o p) ≡ option_or (option_map suc o) (option_map suc p)
@@ -15,11 +16,11 @@ later_at false n = refl
 -- the place in a list that is one longer
 pub first_place-push : {A : Type 0} (test : A → Bool) (xs : List A) (x : A) → first_place test (xs ++ x ∷ []) ≡ option_or (first_place test xs) (cond (test x) (Some (length xs)) None)
 first_place-push test [] x = refl
-first_place-push test (y ∷ ys) x = by_test (test y)
+first_place-push test (y ∷ ys) x = by_test (test y) (first_place-push test ys x)
   where
-    by_test : (b : Bool) → cond b (Some 0) (option_map suc (first_place test (ys ++ x ∷ []))) ≡ option_or (cond b (Some 0) (option_map suc (first_place test ys))) (cond (test x) (Some (suc (length ys))) None)
-    by_test true = refl
-    by_test false = ap (option_map suc) (first_place-push test ys x) ∙ later_or (first_place test ys) (cond (test x) (Some (length ys)) None) ∙ ap (option_or (option_map suc (first_place test ys))) (later_at (test x) (length ys))
+    by_test : (b : Bool) → first_place test (ys ++ x ∷ []) ≡ option_or (first_place test ys) (cond (test x) (Some (length ys)) None) → cond b (Some 0) (option_map suc (first_place test (ys ++ x ∷ []))) ≡ option_or (cond b (Some 0) (option_map suc (first_place test ys))) (cond (test x) (Some (suc (length ys))) None)
+    by_test true later = refl
+    by_test false later = ap (option_map suc) later ∙ later_or (first_place test ys) (cond (test x) (Some (length ys)) None) ∙ ap (option_or (option_map suc (first_place test ys))) (later_at (test x) (length ys))
 
 get_later : {A : Type 0} (x : A) (xs : List A) (o : Option ℕ) → option_and_then (slice_get (x ∷ xs)) (option_map suc o) ≡ option_and_then (slice_get xs) o
 get_later x xs None = refl
@@ -28,11 +29,11 @@ get_later x xs (Some i) = refl
 -- what stands at the first place is the first that passes
 pub find-first_place : {A : Type 0} (test : A → Bool) (xs : List A) → option_and_then (slice_get xs) (first_place test xs) ≡ find test xs
 find-first_place test [] = refl
-find-first_place test (x ∷ xs) = by_test (test x)
+find-first_place test (x ∷ xs) = by_test (test x) (find-first_place test xs)
   where
-    by_test : (b : Bool) → option_and_then (slice_get (x ∷ xs)) (cond b (Some 0) (option_map suc (first_place test xs))) ≡ cond b (Some x) (find test xs)
-    by_test true = refl
-    by_test false = get_later x xs (first_place test xs) ∙ find-first_place test xs
+    by_test : (b : Bool) → option_and_then (slice_get xs) (first_place test xs) ≡ find test xs → option_and_then (slice_get (x ∷ xs)) (cond b (Some 0) (option_map suc (first_place test xs))) ≡ cond b (Some x) (find test xs)
+    by_test true later = refl
+    by_test false later = get_later x xs (first_place test xs) ∙ later
 
 min-suc : (i j : ℕ) → min (suc i) (suc j) ≡ suc (min i j)
 min-suc i j = omega arith
@@ -53,12 +54,12 @@ earlier-behind (Some i) = ap Some (let h : min (suc i) 0 ≡ 0 = omega arith in 
 -- of two tests one passes first
 pub first_place-or : {A : Type 0} (one other : A → Bool) (xs : List A) → first_place (λ x. one x || other x) xs ≡ earlier (first_place one xs) (first_place other xs)
 first_place-or one other [] = refl
-first_place-or one other (x ∷ xs) = by_tests (one x) (other x)
+first_place-or one other (x ∷ xs) = by_tests (one x) (other x) (first_place-or one other xs)
   where
-    by_tests : (b c : Bool) → cond (b || c) (Some 0) (option_map suc (first_place (λ y. one y || other y) xs)) ≡ earlier (cond b (Some 0) (option_map suc (first_place one xs))) (cond c (Some 0) (option_map suc (first_place other xs)))
-    by_tests true c = sym (earlier-first (cond c (Some 0) (option_map suc (first_place other xs))))
-    by_tests false true = sym (earlier-behind (first_place one xs))
-    by_tests false false = ap (option_map suc) (first_place-or one other xs) ∙ sym (earlier_later (first_place one xs) (first_place other xs))
+    by_tests : (b c : Bool) → first_place (λ y. one y || other y) xs ≡ earlier (first_place one xs) (first_place other xs) → cond (b || c) (Some 0) (option_map suc (first_place (λ y. one y || other y) xs)) ≡ earlier (cond b (Some 0) (option_map suc (first_place one xs))) (cond c (Some 0) (option_map suc (first_place other xs)))
+    by_tests true c later = sym (earlier-first (cond c (Some 0) (option_map suc (first_place other xs))))
+    by_tests false true later = sym (earlier-behind (first_place one xs))
+    by_tests false false later = ap (option_map suc) later ∙ sym (earlier_later (first_place one xs) (first_place other xs))
 
 -- a test that nothing passes
 pub first_place-never : {A : Type 0} (test : A → Bool) (xs : List A) → ((x : A) → test x ≡ false) → first_place test xs ≡ None
@@ -112,3 +113,25 @@ kept same key keyed old xs x i places there q =
     by_test : (b : Bool) → same q (key x) ≡ b → old q ≡ option_or (old q) (cond b (Some (length xs)) None)
     by_test true h = rw (keyed.is q (key x) h, there) refl
     by_test false h = or_none (old q)
+
+-- the same in a walk over a list: at an element whose key stands nowhere yet
+pub noted_at : {A Q : Type 0} (same : Q → Q → Bool) (key : A → Q) → IsKeyed same → (old new : Q → Option ℕ) (xs : List A) (i : ℕ) (x : A)
+    → i < length xs → x ≡ get_or xs i x
+    → ((q : Q) → old q ≡ first_place (λ a. same q (key a)) (take i xs))
+    → old (key x) ≡ None
+    → ((q : Q) → new q ≡ cond (same (key x) q) (Some i) (old q))
+    → (q : Q) → new q ≡ first_place (λ a. same q (key a)) (take (i + 1) xs)
+noted_at same key keyed old new xs i x inside at places absent puts q =
+    let count : length (take i xs) ≡ i = omega (arith, length-take i xs) in
+    noted same key keyed old new (take i xs) x places absent (λ r. puts r ∙ ap (λ n. cond (same (key x) r) (Some n) (old r)) (sym count)) q
+    ∙ ap (λ ys. first_place (λ a. same q (key a)) ys) (ap (λ y. take i xs ++ y ∷ []) at ∙ sym (take_more xs i x inside))
+
+-- and at one whose key stands somewhere
+pub kept_at : {A Q : Type 0} (same : Q → Q → Bool) (key : A → Q) → IsKeyed same → (old : Q → Option ℕ) (xs : List A) (i : ℕ) (x : A) (j : ℕ)
+    → i < length xs → x ≡ get_or xs i x
+    → ((q : Q) → old q ≡ first_place (λ a. same q (key a)) (take i xs))
+    → old (key x) ≡ Some j
+    → (q : Q) → old q ≡ first_place (λ a. same q (key a)) (take (i + 1) xs)
+kept_at same key keyed old xs i x j inside at places there q =
+    kept same key keyed old (take i xs) x j places there q
+    ∙ ap (λ ys. first_place (λ a. same q (key a)) ys) (ap (λ y. take i xs ++ y ∷ []) at ∙ sym (take_more xs i x inside))

@@ -22,10 +22,13 @@ second_passes (Ok a) (Ok tt) f h = refl
 second_passes (Ok a) (Err x) f h = cc
 second_passes (Err x) check f h = cc
 
+abbrev held_by : Bool → Requirement → List ℕ → Result (Unit {0}) EdgeFault
+held_by b range version = cond b (Ok tt) (Err (OutOfRange range.text version))
+
 passes_within : (range : Requirement) (version : List ℕ) → within (Some range) version ≡ Ok tt → is_within range version ≡ true
 passes_within range version = by_test (is_within range version)
   where
-    by_test : (b : Bool) → cond b (Ok tt) (Err (OutOfRange range.text version)) ≡ Ok tt → b ≡ true
+    by_test : (b : Bool) → held_by b range version ≡ Ok tt → b ≡ true
     by_test true h = refl
     by_test false h = cc
 

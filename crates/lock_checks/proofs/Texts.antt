@@ -11,11 +11,17 @@ pub bytes_eq-joined : (front rest text : List ℕ) → option_map_or (λ behind.
 unfolding after
 bytes_eq-joined [] rest text = refl
 bytes_eq-joined (w ∷ ws) rest [] = refl
-bytes_eq-joined (w ∷ ws) rest (c ∷ cs) = by_test (c == w)
+bytes_eq-joined (w ∷ ws) rest (c ∷ cs) = by_test (c == w) (bytes_eq-joined ws rest cs)
   where
-    by_test : (b : Bool) → option_map_or (λ behind. bytes_eq behind rest) (cond b (after ws cs) None) false ≡ (b && bytes_eq cs (ws ++ rest))
-    by_test true = bytes_eq-joined ws rest cs
-    by_test false = refl
+    by_test : (b : Bool) → option_map_or (λ behind. bytes_eq behind rest) (after ws cs) false ≡ bytes_eq cs (ws ++ rest) → option_map_or (λ behind. bytes_eq behind rest) (cond b (after ws cs) None) false ≡ (b && bytes_eq cs (ws ++ rest))
+    by_test true later = later
+    by_test false later = refl
+
+pub joined-some : (front rest text behind : List ℕ) → Some behind ≡ after front text → bytes_eq behind rest ≡ bytes_eq text (front ++ rest)
+joined-some front rest text behind is = ap (λ o. option_map_or (λ behind. bytes_eq behind rest) o false) is ∙ bytes_eq-joined front rest text
+
+pub joined-none : (front rest text : List ℕ) → None ≡ after front text → false ≡ bytes_eq text (front ++ rest)
+joined-none front rest text is = ap (λ o. option_map_or (λ behind. bytes_eq behind rest) o false) is ∙ bytes_eq-joined front rest text
 
 abbrev is_mark : ℕ → Bool
 is_mark c = c == 35

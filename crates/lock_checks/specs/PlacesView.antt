@@ -1,5 +1,5 @@
 -- What the index of a lock holds.
-use Rattle.std.specs.Prelude.{◌≡◌, ℕ, Bool, ◌==◌, ◌&&◌, List, Bor, bytes_eq}
+use Rattle.std.specs.Prelude.{◌≡◌, ℕ, Bool, ◌==◌, ◌&&◌, List, bytes_eq}
 use Rattle.std.specs.HashMap.{get_by}
 use Rattle.yarn_lock_parser.specs.Entry.{Entry}
 use Rattle.lock_checks.specs.declared.lock.Lock.TheInside.{Inside}

@@ -1,5 +1,5 @@
 // A lock whose entries are looked up.
-ghost use Rattle.std.specs.Prelude.{◌≡◌, IfOk, string_bytes, ◌++◌, codes};
+ghost use Rattle.std.specs.Prelude.{◌≡◌, ◌==◌, ◌&&◌, IfOk};
 
 use crate::places::{earlier, places_of_releases, places_of_resolutions};
 use crate::reference::{after, plain_reference};
@@ -32,9 +32,8 @@ impl<'l> Model for Lock<'l> {
 
 impl<'l> Lock<'l> {
     ghost use Rattle.std.specs.Option.{option_copied};
-    ghost use Rattle.lock_checks.specs.Naming.{first_naming, names_locator, names};
+    ghost use Rattle.lock_checks.specs.Naming.{first_naming, has_release, names};
     ghost use Rattle.lock_checks.specs.Places.{first_place};
-    ghost use Rattle.lock_checks.specs.PlacesView.{is_released_as};
 
     /// The lock of a file.
     pub fn of(alloc: Global, file: Lockfile<'l>) -> Result<Lock<'l>, AllocError>

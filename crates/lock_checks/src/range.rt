@@ -90,13 +90,13 @@ fn range_in_content(
 // The range that a package declares under a name.
 fn range_under(
     alloc: Global,
-    package: &PackageJson,
+    package_json: &PackageJson,
     name: &str,
 ) -> Result<Option<VersionReq>, AllocError>
-    ensures under { IfOk result (λ found. found ≡ range_under name.now (package_of package.now)) }
+    ensures under { IfOk result (λ found. found ≡ range_under name.now (package_of package_json.now)) }
     ensures range { IfOk result (λ found. IfSome found (λ range. tag_of range.meaning ≡ None)) }
 {
-    let mut requirements = package.resolve_local_package_json_deps(alloc)?;
+    let mut requirements = package_json.resolve_local_package_json_deps(alloc)?;
     let name = Text::of(alloc, name)?;
     match requirements.swap_remove(&name) {
         Some(required) => Ok(range_of(required)),

@@ -54,7 +54,12 @@ fn project_with(alloc: Global, paths: &str) -> Result<Project<'static>, Fail> {
     Ok(project_of(alloc, "/w", Some(ts))?)
 }
 
-fn came_by(alloc: Global, project: &Project<'_>, location: &str, asked: &str) -> Result<String, Fail> {
+fn came_by(
+    alloc: Global,
+    project: &Project<'_>,
+    location: &str,
+    asked: &str,
+) -> Result<String, Fail> {
     let (importer, specifier) = asked.split_once(' ').ok_or("no specifier")?;
     let mut tree = tree_of(alloc, location)?;
     Ok(told_from(alloc, &mut tree, project, importer, specifier)?)

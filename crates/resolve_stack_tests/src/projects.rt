@@ -1,10 +1,10 @@
 // The first cause against settings.
-use crate::requests::{project_of, ts_of};
+use crate::requests::{locked_project_of, ts_of};
 use std::alloc::Global;
 use std::test::Fail;
 
-// A working folder, a base folder, patterns, and the text of the first cause against them, on each line. The working folder comes before
-// the base folder, and that before the patterns, which count in their order.
+// A working folder, a base folder, patterns, and the text of the first cause against them and a lock that is none, on each line. The
+// working folder comes before the base folder, that before the patterns, which count in their order, and the lock comes last.
 fn rows() -> &'static str {
     "w w a = the setting cwd isn't a clean absolute path
 /w/ /w  = the setting cwd isn't a clean absolute path
@@ -13,13 +13,13 @@ fn rows() -> &'static str {
 /w /w */*:c;a = the pattern at 0 holds more than one `*`
 /w /w */* = the pattern at 0 has no target
 /w /w a:b,c;*/*:c = the pattern at 0 holds no `*` and has more than one target
-/w / a:b;*:b,c = none"
+/w / a:b;*:b,c = the lock is no lock file: Header at 0"
 }
 
 // The text of the first cause against settings.
 fn cause_of(alloc: Global, cwd: &str, base_url: &str, paths: &str) -> Result<String, Fail> {
     let ts = ts_of(alloc, base_url, paths)?;
-    match project_of(alloc, cwd, Some(ts)) {
+    match locked_project_of(alloc, cwd, Some(ts), Some("lodash")) {
         Ok(_) => Ok(String::from_str(alloc, "none")?),
         Err(cause) => Ok(format!(in alloc; "{cause}")?),
     }

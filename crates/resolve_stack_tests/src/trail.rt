@@ -26,8 +26,17 @@ fn its_tree(alloc: Global) -> Result<MemoryTree, Fail> {
     Ok(tree)
 }
 
-// What the bare name comes to, or nothing where the tree refused a question.
+// What the bare name comes to without a lock, or nothing where the tree refused a question.
 fn its_outcome<T: Tree>(alloc: Global, tree: &mut T) -> Result<Option<Outcome>, Fail> {
+    outcome_by(alloc, tree, None)
+}
+
+// The same by a lock.
+fn outcome_by<T: Tree>(
+    alloc: Global,
+    tree: &mut T,
+    lock: Option<&str>,
+) -> Result<Option<Outcome>, Fail> {
     let settings = Settings {
         cwd: Text::of(alloc, "/w")?,
         target: TargetEnv::Node,
@@ -35,7 +44,7 @@ fn its_outcome<T: Tree>(alloc: Global, tree: &mut T) -> Result<Option<Outcome>, 
         node_modules: true,
         alias: IndexMap::new(alloc),
         ts: None,
-        lock: None,
+        lock,
     };
     let project = Project::new(alloc, settings)?;
     let importer = FileName::Real(Text::of(alloc, "/w/a.js")?);
@@ -127,6 +136,7 @@ fn word_of(reply: &Reply) -> &str {
         Reply::Flag(true) => "yes",
         Reply::Flag(false) => "no",
         Reply::Bytes(Some(bytes)) if bytes.as_slice() == its_manifest().as_bytes() => "manifest",
+        Reply::Bytes(None) => "nothing",
         Reply::Name(Some(name)) => name.as_str(),
         _ => "another",
     }
@@ -150,10 +160,10 @@ fn lines_of(alloc: Global, trail: &Trail) -> Result<String, AllocError> {
     Ok(lines)
 }
 
-// The trail of the bare name, or nothing where the tree refused a question.
-fn its_lines(alloc: Global) -> Result<Option<String>, Fail> {
+// The trail of the bare name by a lock, or nothing where the tree refused a question.
+fn its_lines(alloc: Global, lock: Option<&str>) -> Result<Option<String>, Fail> {
     let mut tree = its_tree(alloc)?;
-    match its_outcome(alloc, &mut tree)? {
+    match outcome_by(alloc, &mut tree, lock)? {
         Some(outcome) => Ok(Some(lines_of(alloc, &outcome.trail)?)),
         None => Ok(None),
     }
@@ -161,7 +171,30 @@ fn its_lines(alloc: Global) -> Result<Option<String>, Fail> {
 
 #[test]
 fn the_trail_has_its_questions_in_order(rt: HostRuntime) -> Result<(), Fail> {
-    let lines = its_lines(rt.alloc())?.ok_or("an outcome")?;
+    let lines = its_lines(rt.alloc(), None)?.ok_or("an outcome")?;
     assert_eq!(rt; lines.as_str(), its_questions());
+    Ok(())
+}
+
+// A lock that holds the package.
+fn its_lock() -> &'static str {
+    "# a
+# yarn lockfile v1
+
+
+foo@^1.0.0:
+  version \"1.0.0\"
+"
+}
+
+// With a lock the package.json of the asking package is read before any file is looked for.
+#[test]
+fn a_lock_asks_for_the_declared_range_first(rt: HostRuntime) -> Result<(), Fail> {
+    let lines = its_lines(rt.alloc(), Some(its_lock()))?.ok_or("an outcome")?;
+    let manifest = "read /w/.pnp.cjs manifest\n";
+    let (front, search) = its_questions().split_once(manifest).ok_or("a manifest")?;
+    let range = "read /w/package.json nothing\n";
+    let wanted = format!(in rt.alloc(); "{front}{manifest}{range}{search}")?;
+    assert_eq!(rt; lines.as_str(), wanted.as_str());
     Ok(())
 }

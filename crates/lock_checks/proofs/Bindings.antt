@@ -1,0 +1,34 @@
+-- Calls by the checks' plans.
+use Rattle.std.proofs.Common.{◌≡◌, ℕ, Bool, true, false, cond, List, Option, Result, Ok, Err, Bor, IsErrAnd}
+use Rattle.tree_core.specs.declared.tree.ReadError.{ReadError}
+use Rattle.tree_core.specs.Plan.{Plan}
+use Rattle.tree_core.specs.Asks.{Asking, Asks}
+use Rattle.yarn_lock_parser.specs.Entry.{Entry}
+use Rattle.pnp_core.specs.declared.manifest.PackageLocator.{PackageLocator}
+use Rattle.pnp_core.specs.Manifest.{Contents}
+use Rattle.sugar_path.specs.Path.{Path}
+use Rattle.npm_req.specs.Requirement.{Requirement}
+use Rattle.lock_checks.specs.declared.fault.EdgeFault.{EdgeFault}
+use Rattle.lock_checks.specs.Checks.{entry_check}
+use Rattle.lock_checks.specs.Lent.{lent}
+use Rattle.lock_checks.specs.Range.{range_in_place}
+
+-- the plan that a test chooses
+pub asks_where : {A : Type 0} {old new : Asking} {r : Result A ReadError} (test : Bool) (p q : Plan A) → test ≡ true → Asks old new r p → Asks old new r (cond test p q)
+asks_where test p q is h = rw is h
+
+pub asks_else : {A : Type 0} {old new : Asking} {r : Result A ReadError} (test : Bool) (p q : Plan A) → test ≡ false → Asks old new r q → Asks old new r (cond test p q)
+asks_else test p q is h = rw is h
+
+-- the check by the entry that is found
+pub asks_entry : {old new : Asking} {r : Result (Result (Unit {0}) EdgeFault) ReadError} (manifest : Contents) (owner : PackageLocator) (name : List ℕ) (bound : PackageLocator) (known found : Option Entry) → known ≡ found → Asks old new r (entry_check manifest owner name bound known) → Asks old new r (entry_check manifest owner name bound found)
+asks_entry manifest owner name bound known found is h = rw (← is) h
+
+-- the range in the place that is known
+pub asks_place : {old new : Asking} {r : Result (Result (Option Requirement) EdgeFault) ReadError} (name : List ℕ) (known place : Option Path) → known ≡ place → Asks old new r (range_in_place known name) → Asks old new r (range_in_place place name)
+asks_place name known place is h = rw (← is) h
+
+-- an error lends nothing
+pub lent_err : {A E : Type 0} (r : Result (Bor A) E) (e : E) → IsErrAnd r (λ x. x ≡ e) → IsErrAnd (lent r) (λ x. x ≡ e)
+lent_err (Ok a) e h = elim h [ ]
+lent_err (Err x) e h = h

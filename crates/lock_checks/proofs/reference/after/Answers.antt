@@ -1,0 +1,5 @@
+use Rattle.yarn_lock_parser.proofs.Fronts.{after-strip_prefix}
+use Rattle.lock_checks.proofs.reference.after.Goals as goal
+
+pub returns : goal.returns
+returns c = after-strip_prefix c.args.word.now c.args.text.now c.strip_prefix.result c.strip_prefix.ensures.cases
