@@ -1,5 +1,5 @@
 -- Where something stands first in a list.
-use Rattle.std.proofs.Common.{◌≡◌, ◌+◌, ℕ, zero, suc, Bool, true, false, cond, ◌||◌, List, [], ◌∷◌, ◌++◌, length, Option, Some, None, refl, sym, ap, ◌∙◌, arith, take, get_or, ◌<◌}
+use Rattle.std.proofs.Common.{◌≡◌, ◌+◌, ℕ, zero, suc, Bool, true, false, cond, ◌||◌, List, [], ◌∷◌, ◌++◌, length, Option, Some, None, refl, sym, ap, ◌∙◌, arith, take, get_or, ◌<◌, ◌≤◌}
 use Rattle.std.specs.Prelude.{find, min, option_map, option_and_then, slice_get}
 use Rattle.std.specs.Option.{option_or}
 use Rattle.std.proofs.lemmas.List.{length-take, take_more}
@@ -76,7 +76,8 @@ pub record IsKeyed {Q : Type 0} (same : Q → Q → Bool) : Type 0 where
   pub is : (q r : Q) → same q r ≡ true → q ≡ r
   pub self : (q : Q) → same q q ≡ true
 
-swapped : {Q : Type 0} (same : Q → Q → Bool) → IsKeyed same → (q r : Q) → same q r ≡ same r q
+-- such a test is symmetric
+pub swapped : {Q : Type 0} (same : Q → Q → Bool) → IsKeyed same → (q r : Q) → same q r ≡ same r q
 swapped same keyed q r = by_test (same q r) (same r q) refl refl
   where
     by_test : (b c : Bool) → same q r ≡ b → same r q ≡ c → b ≡ c
@@ -135,3 +136,10 @@ pub kept_at : {A Q : Type 0} (same : Q → Q → Bool) (key : A → Q) → IsKey
 kept_at same key keyed old xs i x j inside at places there q =
     kept same key keyed old (take i xs) x j places there q
     ∙ ap (λ ys. first_place (λ a. same q (key a)) ys) (ap (λ y. take i xs ++ y ∷ []) at ∙ sym (take_more xs i x inside))
+
+-- what is taken of a list from the front up to its end
+pub take_whole : {A : Type 0} (xs : List A) (i : ℕ) → length xs ≤ i → take i xs ≡ xs
+take_whole [] zero h = refl
+take_whole [] (suc i) h = refl
+take_whole (x ∷ xs) zero h = absurd (omega arith)
+take_whole (x ∷ xs) (suc i) h = ap (λ ys. x ∷ ys) (take_whole xs i (omega (arith, h)))

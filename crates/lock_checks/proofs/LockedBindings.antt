@@ -1,5 +1,5 @@
 -- A binding that passes the checks is locked.
-use Rattle.std.proofs.Common.{◌≡◌, ℕ, Bool, true, false, cond, List, Option, Some, None, Result, Ok, Err, IsTrue, refl, sym, ap, ◌∙◌}
+use Rattle.std.proofs.Common.{◌≡◌, ℕ, Bool, true, false, cond, List, Option, Some, None, Result, Ok, Err, refl}
 use Rattle.tree_core.specs.Tree.{Files}
 use Rattle.sugar_path.specs.Results.{◌>>=◌}
 use Rattle.npm_req.specs.Requirement.{Requirement}
@@ -12,9 +12,8 @@ use Rattle.lock_checks.specs.declared.fault.EdgeFault.TheVariants.{OutOfRange}
 use Rattle.lock_checks.specs.Checks.{registered}
 use Rattle.lock_checks.specs.Locked.{IsLocked, PassesAsLocked}
 use Rattle.lock_checks.specs.Naming.{first_naming}
-use Rattle.lock_checks.specs.OnTree.{check_on, entry_check_on, location_on, range_check_on, range_in_place_on}
-use Rattle.lock_checks.specs.Range.{folder_of, is_within, within}
-use Rattle.lock_checks.specs.Reference.{is_npm, is_workspace}
+use Rattle.lock_checks.specs.OnTree.{check_on, entry_check_on, range_check_on}
+use Rattle.lock_checks.specs.Range.{is_within, within}
 
 -- a result behind others is reached only where those pass
 second_passes : {A B X : Type 0} {b : B} (first : Result A X) (check : Result (Unit {0}) X) (f : A → B) → (first >>= λ a. check >>= λ passed. Ok (f a)) ≡ Ok b → check ≡ Ok tt

@@ -1,11 +1,11 @@
 -- The plans of the checks come to what the tree has.
-use Rattle.std.proofs.Common.{◌≡◌, ℕ, Bool, true, false, cond, List, [], ◌++◌, Option, Some, None, Result, Ok, Err, IsTrue, refl, sym, ap, ◌∙◌}
+use Rattle.std.proofs.Common.{◌≡◌, ℕ, Bool, true, false, cond, List, [], ◌++◌, Option, Some, None, Result, Ok, Err, refl, ap, ◌∙◌}
 use Rattle.std.proofs.lemmas.List.{append-nil}
 use Rattle.sugar_path.specs.Path.{Path}
 use Rattle.tree_core.specs.declared.question.Question.{Question}
 use Rattle.tree_core.specs.Tree.{Files}
 use Rattle.tree_core.specs.Plan.{Plan, Done, answer, asked, read, ◌>>=◌, ◌>>=?◌, on_ok}
-use Rattle.tree_core.proofs.Asking.{answer-then, asked-then, answer-done, asked-done}
+use Rattle.tree_core.proofs.Asking.{asked-then, answer-done, asked-done}
 use Rattle.tree_core.proofs.RowLaws.{answer-made, asked-made, step, row, row_asks}
 use Rattle.npm_req.specs.Requirement.{Requirement}
 use Rattle.yarn_lock_parser.specs.Entry.{Entry}

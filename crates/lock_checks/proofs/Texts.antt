@@ -1,5 +1,5 @@
 -- Texts that stand one behind the other, and what follows a mark.
-use Rattle.std.proofs.Common.{◌≡◌, ◌<◌, ◌+◌, ◌==◌, ◌&&◌, ℕ, suc, Bool, true, false, cond, not, List, [], ◌∷◌, ◌++◌, length, take, drop, Option, Some, None, Bor, bytes_eq, refl, sym, ap, ◌∙◌, arith, add-one, one-add}
+use Rattle.std.proofs.Common.{◌≡◌, ◌<◌, ◌+◌, ◌==◌, ◌&&◌, ℕ, suc, Bool, true, false, cond, not, List, [], ◌∷◌, ◌++◌, length, drop, Option, Some, None, Bor, bytes_eq, refl, sym, ap, ◌∙◌, arith, add-one, one-add}
 use Rattle.std.specs.Prelude.{option_map, MatchOption}
 use Rattle.std.specs.List.{position_or_len, before_first, after_first}
 use Rattle.std.specs.Option.{option_map_or}

@@ -1,5 +1,5 @@
 -- Which entry of a lock names a package.
-use Rattle.std.specs.Prelude.{ℕ, Bool, ◌==◌, ◌&&◌, ◌||◌, List, ◌∷◌, ◌++◌, Option, codes, bytes_eq, find}
+use Rattle.std.specs.Prelude.{ℕ, Bool, ◌==◌, ◌&&◌, ◌||◌, List, ◌++◌, Option, codes, bytes_eq, find}
 use Rattle.yarn_lock_parser.specs.Entry.{Entry}
 use Rattle.yarn_lock_parser.specs.Lock.{Lock}
 use Rattle.pnp_core.specs.declared.manifest.PackageLocator.{PackageLocator}

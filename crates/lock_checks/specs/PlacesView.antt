@@ -1,13 +1,8 @@
 -- What the index of a lock holds.
-use Rattle.std.specs.Prelude.{◌≡◌, ℕ, Bool, ◌==◌, ◌&&◌, List, bytes_eq}
+use Rattle.std.specs.Prelude.{◌≡◌, ◌&&◌, ℕ, List, bytes_eq}
 use Rattle.std.specs.HashMap.{get_by}
-use Rattle.yarn_lock_parser.specs.Entry.{Entry}
 use Rattle.lock_checks.specs.declared.lock.Lock.TheInside.{Inside}
-use Rattle.lock_checks.specs.Places.{first_place}
-
--- an entry of a lock of version 1 has this name and version
-abbrev pub is_released_as : ℕ → List ℕ → List ℕ → Entry → Bool
-is_released_as lock_version name version entry = (lock_version == 1) && (bytes_eq name entry.name && bytes_eq version entry.version)
+use Rattle.lock_checks.specs.Places.{first_place, is_released_as}
 
 -- By each text, the place of the first entry that is resolved to it; and by each name and version, that of the first entry of a lock of version 1 that has both.
 abbrev pub HoldsPlaces : Inside → Type 0

@@ -1,5 +1,5 @@
 -- The range of versions that a package's own package.json declares under a name.
-use Rattle.std.specs.Prelude.{ℕ, Bool, false, ◌≡◌, if◌then◌else◌, is_some, List, ◌∷◌, Option, Some, None, Result, Ok, Err, bytes_eq, codes, option_and_then}
+use Rattle.std.specs.Prelude.{ℕ, Bool, false, if◌then◌else◌, is_some, List, ◌∷◌, Option, Some, None, Result, Ok, Err, bytes_eq, codes, option_and_then}
 use Rattle.std.specs.Map.{lookup}
 use Rattle.std.specs.Option.{option_map_or}
 use Rattle.std.specs.Str.Lossy.{utf8_lossy}

@@ -1,5 +1,5 @@
 // A lock whose entries are looked up.
-ghost use Rattle.std.specs.Prelude.{◌≡◌, ◌==◌, ◌&&◌, IfOk};
+ghost use Rattle.std.specs.Prelude.{◌≡◌, ◌==◌, ◌&&◌, IfOk, slice_get};
 
 use crate::places::{earlier, places_of_releases, places_of_resolutions};
 use crate::reference::{after, plain_reference};
@@ -40,11 +40,7 @@ impl<'l> Lock<'l> {
         ensures { IfOk result (λ lock. lock ≡ file.entry) }
     {
         let resolutions = places_of_resolutions(alloc, file.entries())?;
-        let releases = if file.version() == 1 {
-            places_of_releases(alloc, file.entries())?
-        } else {
-            HashMap::new(alloc)
-        };
+        let releases = places_of_releases(alloc, file.version(), file.entries())?;
         Ok(Lock {
             file,
             resolutions,
@@ -70,9 +66,15 @@ impl<'l> Lock<'l> {
         let name = locator.name.as_str();
         let reference = plain_reference(locator.reference.as_str());
         match self.place_of(alloc, name, reference)? {
-            Some(place) => Ok(self.file.entries().get(place)),
+            Some(place) => Ok(self.entry_at(place)),
             None => Ok(None),
         }
+    }
+
+    fn entry_at(&self, place: usize) -> Option<&Entry<'l>>
+        ensures { option_copied result ≡ slice_get self.now.entries place }
+    {
+        self.file.entries().get(place)
     }
 
     // The place of the first entry that names a package by its name and plain reference.

@@ -1,7 +1,7 @@
 // Where the entries of a lock stand, by what they are looked up by.
 ghost use Rattle.std.specs.Prelude.{◌≡◌, ◌&&◌, ℕ, List, IfOk, OnOk, OnErr, bytes_eq};
 ghost use Rattle.std.specs.HashMap.{get_by};
-ghost use Rattle.lock_checks.specs.Places.{earlier, first_place};
+ghost use Rattle.lock_checks.specs.Places.{earlier, first_place, is_released_as};
 
 use std::alloc::{AllocError, Global};
 use std::collections::HashMap;
@@ -18,15 +18,32 @@ pub(crate) fn places_of_resolutions<'l>(
 {
     let mut places = HashMap::new(alloc);
     for (place, entry) in entries.iter().enumerate() {
-        if !places.contains_key(entry.resolved()) {
-            places.insert(entry.resolved(), place)?;
+        let text = entry.resolved();
+        if !places.contains_key(text) {
+            places.insert(text, place)?;
         }
     }
     Ok(places)
 }
 
-// By name and version, the place of the first entry that has both.
+// By name and version, the place of the first entry of a lock that is released so. Only locks of version 1 have releases.
 pub(crate) fn places_of_releases<'l>(
+    alloc: Global,
+    lock_version: u8,
+    entries: &[Entry<'l>],
+) -> Result<HashMap<(&'l str, &'l str), usize>, AllocError>
+    ensures { IfOk result (λ places. (name version : List ℕ) →
+        get_by (λ k. bytes_eq name k.0.now && bytes_eq version k.1.now) places
+        ≡ first_place (is_released_as lock_version name version) entries.now) }
+{
+    if lock_version == 1 {
+        return places_by_version(alloc, entries);
+    }
+    Ok(HashMap::new(alloc))
+}
+
+// By name and version, the place of the first entry that has both.
+fn places_by_version<'l>(
     alloc: Global,
     entries: &[Entry<'l>],
 ) -> Result<HashMap<(&'l str, &'l str), usize>, AllocError>

@@ -1,7 +1,7 @@
 use Rattle.std.proofs.Common.{sym, refl, ◌∙◌}
 use Rattle.tree_core.specs.Resolving.{resolving}
 use Rattle.tree_core.proofs.Asking.{asks_done, asks_starved_in}
-use Rattle.lock_checks.proofs.Bindings.{asks_else, asks_entry, asks_where}
+use Rattle.lock_checks.proofs.Bindings.{asks_else, asks_foreign, asks_locked, asks_npm, asks_where}
 use Rattle.lock_checks.proofs.binding.lock_check.Goals as goal
 
 pub returns-then-is_workspace : goal.returns-then-is_workspace
@@ -17,16 +17,18 @@ returns-in_err-entry g c =
 pub returns-in_default : goal.returns-in_default
 returns-in_default g c =
     let other = sym (rw c.as_str-reference.ensures at c.is_workspace.ensures) ∙ c.if-is_workspace.false in
-    asks_else _ _ _ other (asks_entry _ _ _ _ _ _ (rw c.in_default.is at c.in_ok-entry.ensures) (asks_done refl))
+    asks_locked c.args.lock.now c.args.manifest.now c.args.owner.now c.args.name.now c.args.bound.now _ other (rw c.in_default.is at c.in_ok-entry.ensures) (asks_done refl)
 
 pub returns-then-not-is_npm : goal.returns-then-not-is_npm
 returns-then-not-is_npm g c =
     let other = sym (rw c.as_str-reference.ensures at c.is_workspace.ensures) ∙ c.if-is_workspace.false in
     let foreign = sym (rw c.as_str-reference.ensures at c.is_npm.ensures) ∙ c.if-not-is_npm.true in
-    asks_else _ _ _ other (asks_entry _ _ _ _ _ _ (rw c.in-Some.is at c.in_ok-entry.ensures) (asks_else _ _ _ foreign (asks_done refl)))
+    asks_locked c.args.lock.now c.args.manifest.now c.args.owner.now c.args.name.now c.args.bound.now _ other (rw c.in-Some.is at c.in_ok-entry.ensures)
+    (asks_foreign c.args.manifest.now c.args.owner.now c.args.name.now c.args.bound.now c.in-Some.entry.now foreign (asks_done refl))
 
 pub returns : goal.returns
 returns g c =
     let other = sym (rw c.as_str-reference.ensures at c.is_workspace.ensures) ∙ c.if-is_workspace.false in
     let npm = sym (rw c.as_str-reference.ensures at c.is_npm.ensures) ∙ c.if-not-is_npm.false in
-    asks_else _ _ _ other (asks_entry _ _ _ _ _ _ (rw c.in-Some.is at c.in_ok-entry.ensures) (asks_where _ _ _ npm c.range_check.ensures))
+    asks_locked c.args.lock.now c.args.manifest.now c.args.owner.now c.args.name.now c.args.bound.now _ other (rw c.in-Some.is at c.in_ok-entry.ensures)
+    (asks_npm c.args.manifest.now c.args.owner.now c.args.name.now c.args.bound.now c.in-Some.entry.now npm c.range_check.ensures)

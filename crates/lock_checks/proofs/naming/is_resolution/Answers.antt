@@ -1,4 +1,4 @@
-use Rattle.std.proofs.Common.{◌≡◌, ◌++◌, codes, bytes_eq, sym, ap, ◌∙◌, append_assoc}
+use Rattle.std.proofs.Common.{◌++◌, codes, bytes_eq, sym, ap, ◌∙◌, append_assoc}
 use Rattle.lock_checks.proofs.Texts.{joined-some, joined-none}
 use Rattle.lock_checks.proofs.naming.is_resolution.Goals as goal
 

@@ -1,12 +1,9 @@
+use Rattle.std.proofs.Common.{◌&&◌, ap, bytes_eq, ◌∙◌}
+use Rattle.std.specs.Map.{lookup}
+use Rattle.lock_checks.proofs.EntryPlaces.{no_releases}
 use Rattle.lock_checks.proofs.places.places_of_releases.Goals as goal
-use Rattle.lock_checks.proofs.places.places_of_releases.Goals.{then-not-contains_key+in_ok-insert, else-not-contains_key}
-
-pub loop-place-preserved : goal.loop-place-preserved
-loop-place-preserved c =
-    elim c.if-not-contains_key.branch [
-      | then-not-contains_key+in_ok-insert w ↦ let h = w.in_ok-insert.ensures.updates in let k = c.contains_key.ensures in let t = w.if-not-contains_key.true in let p = w.places-is in ?
-      | else-not-contains_key w ↦ let t = w.if-not-contains_key.false in ?
-    ]
 
 pub returns : goal.returns
-returns c = ?
+returns c = λ name version.
+    ap (λ es. lookup (λ k. bytes_eq name k.0.now && bytes_eq version k.1.now) es) c.new.ensures.empty
+    ∙ no_releases c.args.lock_version name version c.args.entries.now c.if-lock_version-eq1.false

@@ -1,4 +1,4 @@
-use Rattle.std.proofs.Common.{Some, refl, ap}
+use Rattle.std.proofs.Common.{refl, ap, ◌∙◌}
 use Rattle.std.specs.Prelude.{option_and_then}
 use Rattle.tree_core.proofs.Asking.{asks_done}
 use Rattle.pnp_core.specs.PhysicalPlace.{physical_place}
@@ -11,4 +11,4 @@ returns-in_default-clause-asks g c = asks_place c.args.name.now _ _ (ap (option_
 pub returns-in-None-clause-asks : goal.returns-in-None-clause-asks
 returns-in-None-clause-asks g c =
     let place = rw c.in-None.is at c.in_ok-folder.ensures in
-    asks_place c.args.name.now _ _ (rw (← c.in-Some.ensures) place) (asks_done refl)
+    asks_place c.args.name.now _ _ (place ∙ ap (option_and_then physical_place) c.in-Some.ensures) (asks_done refl)

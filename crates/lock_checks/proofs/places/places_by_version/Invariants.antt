@@ -1,7 +1,7 @@
 use Rattle.std.proofs.Common.{◌≡◌, ◌&&◌, ℕ, List, take, bytes_eq}
 use Rattle.std.specs.HashMap.{get_by}
 use Rattle.lock_checks.specs.Places.{first_place}
-use Rattle.lock_checks.proofs.places.places_of_releases.Given as goal
+use Rattle.lock_checks.proofs.places.places_by_version.Given as goal
 
 -- the places among the entries so far
 abbrev pub invariant-loop-place : goal.invariant-loop-place
