@@ -127,9 +127,7 @@ fn value_of_refusal(alloc: Global, refusal: &JoinRefusal) -> Result<Value, Alloc
         JoinRefusal::NotInRegistry { name, reference } => {
             value_of_package(alloc, name, reference)
         }
-        JoinRefusal::NotLocked { name, reference } => {
-            value_of_unlocked(alloc, name, reference)
-        }
+        JoinRefusal::NotLocked { name, reference } => { value_of_unlocked(alloc, name, reference) }
         JoinRefusal::MalformedPackage { path } => value_of_malformed(alloc, path),
         JoinRefusal::OutOfRange { range, version } => {
             value_of_out_of_range(alloc, range, version)

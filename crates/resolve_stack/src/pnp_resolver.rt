@@ -23,10 +23,7 @@ pub struct PnpResolver<'p, 'l> {
 
 impl<'p, 'l> PnpResolver<'p, 'l> {
     /// The join of this project. It takes no memory.
-    pub fn of(
-        _alloc: Global,
-        project: &'p Project<'l>,
-    ) -> Result<PnpResolver<'p, 'l>, AllocError>
+    pub fn of(_alloc: Global, project: &'p Project<'l>) -> Result<PnpResolver<'p, 'l>, AllocError>
         ensures { IsOkAnd result (λ r. joined_project r ≡ project.now) }
     {
         Ok(PnpResolver { project })
