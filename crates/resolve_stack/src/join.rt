@@ -19,7 +19,7 @@ use crate::{JoinRefusal, Project};
 use pnp_core::{Manifest, PackageLocator, closest_manifest, find_locator};
 use std::alloc::Global;
 use sugar_path::{CleanPath, Text};
-use swc_loader::{Before, Placed, Resolution, Via, is_bare};
+use swc_loader::{Before, Placed, Readings, Resolution, Via, is_bare};
 use tree_core::{Asker, ResolveError};
 
 // What a request comes to: the join rows, one after the other.
@@ -97,20 +97,21 @@ fn join_owned<R: Asker>(
     ensures { Resolves (R.asking tree.old) (R.asking tree.new) result
         (order (owned_rows project.now (request_of request.now) base.now manifest.now owner.now)) }
 {
-    let before = project
-        .node()
-        .before_search(alloc, tree, importer, request.specifier)?;
+    let mut readings = Readings::new(alloc);
+    let node = project.node();
+    let before = node.before_search_with(alloc, tree, &mut readings, importer, request.specifier)?;
     let target = match before {
         Before::Decided(resolution) => return Ok(resolution),
         Before::Target(target) => target,
     };
     if !is_bare(target.as_str()) {
-        let found = project.node().search(alloc, tree, base, target.as_str());
+        let found = node.search_with(alloc, tree, &mut readings, base, target.as_str());
         return raised(found);
     }
     join_bare(
         alloc,
         tree,
+        &mut readings,
         project,
         manifest,
         owner,
@@ -123,6 +124,7 @@ fn join_owned<R: Asker>(
 fn join_bare<R: Asker>(
     alloc: Global,
     tree: &mut R,
+    readings: &mut Readings,
     project: &Project<'_>,
     manifest: &Manifest,
     owner: &PackageLocator,
@@ -135,7 +137,7 @@ fn join_bare<R: Asker>(
     let (name, subpath) = identifier_of(alloc, target)?;
     let locator = bound_of(alloc, manifest, owner, importer, target, &name)?;
     join_in_package(
-        alloc, tree, project, manifest, owner, &name, locator, &subpath,
+        alloc, tree, readings, project, manifest, owner, &name, locator, &subpath,
     )
 }
 
@@ -143,6 +145,7 @@ fn join_bare<R: Asker>(
 fn join_in_package<R: Asker>(
     alloc: Global,
     tree: &mut R,
+    readings: &mut Readings,
     project: &Project<'_>,
     manifest: &Manifest,
     owner: &PackageLocator,
@@ -155,13 +158,14 @@ fn join_in_package<R: Asker>(
 {
     let location = checked_row(alloc, tree, project, manifest, owner, name, &locator)?;
     let folder = folder_of(alloc, location)?;
-    join_in_folder(alloc, tree, project, locator, &folder, subpath)
+    join_in_folder(alloc, tree, readings, project, locator, &folder, subpath)
 }
 
 // The rows behind the location of the package.
 fn join_in_folder<R: Asker>(
     alloc: Global,
     tree: &mut R,
+    readings: &mut Readings,
     project: &Project<'_>,
     locator: PackageLocator,
     folder: &CleanPath,
@@ -170,7 +174,7 @@ fn join_in_folder<R: Asker>(
     ensures { Resolves (R.asking tree.old) (R.asking tree.new) result
         (order (folder_rows project.now locator folder.now subpath.now)) }
 {
-    let (file, rewritten) = match found_at(alloc, tree, project, folder, subpath)? {
+    let (file, rewritten) = match found_at(alloc, tree, readings, project, folder, subpath)? {
         Placed::File { path, rewritten } => (path, rewritten),
         Placed::Ignored(name) => return Ok(Resolution::custom(name)),
     };

@@ -19,7 +19,7 @@ use pnp_core::{
 };
 use std::alloc::{AllocError, Global};
 use sugar_path::{CleanPath, Text};
-use swc_loader::{FileName, NodeRefusal, Placed, is_bare};
+use swc_loader::{FileName, NodeRefusal, Placed, Readings, is_bare};
 use tree_core::{Asker, ResolveError};
 
 // The path that a bare specifier is asked from, as it was written.
@@ -212,6 +212,7 @@ pub(crate) fn folder_of(
 pub(crate) fn found_at<R: Asker>(
     alloc: Global,
     tree: &mut R,
+    readings: &mut Readings,
     project: &Project<'_>,
     folder: &CleanPath,
     subpath: &Option<Text>,
@@ -223,7 +224,8 @@ pub(crate) fn found_at<R: Asker>(
         Some(subpath) => Some(subpath.as_str()),
         None => None,
     };
-    let found = project.node().resolve_at(alloc, tree, folder, subpath);
+    let node = project.node();
+    let found = node.resolve_at_with(alloc, tree, readings, folder, subpath);
     raised(found)
 }
 

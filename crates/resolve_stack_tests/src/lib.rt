@@ -12,4 +12,6 @@ mod projects;
 #[cfg(test)]
 mod requests;
 #[cfg(test)]
+mod shared_readings;
+#[cfg(test)]
 mod trail;

@@ -12,7 +12,7 @@ use sugar_path::{List, Text};
 use tree_core::MemoryTree;
 
 // A manifest whose top-level package binds `foo`.
-fn manifest() -> &'static str {
+pub(crate) fn manifest() -> &'static str {
     r#"const RAW_RUNTIME_STATE =
 '{"dependencyTreeRoots":[],"enableTopLevelFallback":false,"ignorePatternData":null,"fallbackExclusionList":[],"fallbackPool":[],"packageRegistryData":[[null,[[null,{"packageLocation":"./","packageDependencies":[["foo","npm:1.0.0"]]}]]],["foo",[["npm:1.0.0",{"packageLocation":"./lib/foo/","packageDependencies":[]}]]]]}';
 "#

@@ -1,3 +1,4 @@
+pub mod KeptReadings
 pub mod Naming
 pub mod Firsts
 pub mod Shapes

@@ -2,6 +2,7 @@ pub mod Endings
 pub mod Conventions
 pub mod ConventionsView
 pub mod Candidates
+pub mod Readings
 pub mod Entry
 pub mod Search
 pub mod SearchOnTree

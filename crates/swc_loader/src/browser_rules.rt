@@ -8,7 +8,7 @@ ghost use Rattle.swc_loader.specs.BrowserRules.{is_source, is_false, ruled, plac
 use crate::entry::package_in;
 use crate::search::{joined, place_without_entry};
 use crate::specifier::begins_here;
-use crate::{Conventions, NodeModulesResolver, Placed, TargetEnv};
+use crate::{Conventions, NodeModulesResolver, Placed, Readings, TargetEnv};
 use serde_json::{Map, Value};
 use std::alloc::{AllocError, Global};
 use sugar_path::{CleanPath, List, Text};
@@ -46,6 +46,7 @@ pub enum ModuleRule {
 pub(crate) fn ruled_file<R: Asker>(
     alloc: Global,
     tree: &mut R,
+    readings: &mut Readings,
     resolver: &NodeModulesResolver,
     file: CleanPath,
 ) -> Result<Placed, ReadError>
@@ -54,7 +55,7 @@ pub(crate) fn ruled_file<R: Asker>(
 {
     let copy = file.try_clone(alloc)?;
     let about = Source::File(copy);
-    match rule_for(alloc, tree, resolver, &file, &about)? {
+    match rule_for(alloc, tree, readings, resolver, &file, &about)? {
         ModuleRule::NoRule => Ok(Placed::File {
             path: file,
             rewritten: false,
@@ -71,6 +72,7 @@ pub(crate) fn ruled_file<R: Asker>(
 pub(crate) fn rule_for<R: Asker>(
     alloc: Global,
     tree: &mut R,
+    readings: &mut Readings,
     resolver: &NodeModulesResolver,
     path: &CleanPath,
     about: &Source,
@@ -81,7 +83,7 @@ pub(crate) fn rule_for<R: Asker>(
     match resolver.target() {
         TargetEnv::Node => Ok(ModuleRule::NoRule),
         TargetEnv::Browser => {
-            let rules = rules_over(alloc, tree, resolver.conventions(), path)?;
+            let rules = rules_over(alloc, tree, readings, resolver.conventions(), path)?;
             Ok(ruled(alloc, rules.as_slice(), about)?)
         }
     }
@@ -122,6 +124,7 @@ fn is_source(rule: &Source, about: &Source) -> bool
 fn rules_over<R: Asker>(
     alloc: Global,
     tree: &mut R,
+    readings: &mut Readings,
     conventions: &Conventions,
     path: &CleanPath,
 ) -> Result<List<Rule>, ReadError>
@@ -129,7 +132,7 @@ fn rules_over<R: Asker>(
         (plan.rules_over conventions.now path.now) }
 {
     match root(alloc, tree, path)? {
-        Some(folder) => rules_at(alloc, tree, conventions, &folder),
+        Some(folder) => rules_at(alloc, tree, readings, conventions, &folder),
         None => Ok(List::new(alloc)),
     }
 }
@@ -158,6 +161,7 @@ fn root<R: Asker>(
 pub(crate) fn rules_at<R: Asker>(
     alloc: Global,
     tree: &mut R,
+    readings: &mut Readings,
     conventions: &Conventions,
     root: &CleanPath,
 ) -> Result<List<Rule>, ReadError>
@@ -166,10 +170,10 @@ pub(crate) fn rules_at<R: Asker>(
 {
     let package_json = root.child(alloc, "package.json")?;
     let content = tree.read(&package_json)?;
-    let Some(package) = package_in(alloc, conventions, &content)? else {
+    let Some(package) = package_in(alloc, readings, conventions, content)? else {
         return Ok(List::new(alloc));
     };
-    match browser_map(&package) {
+    match browser_map(package) {
         Some(entries) => each_rule(alloc, tree, conventions, root, entries),
         None => Ok(List::new(alloc)),
     }

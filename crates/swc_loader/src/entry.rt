@@ -7,8 +7,8 @@ ghost use Rattle.serde_json.specs.Find.{get};
 ghost use Rattle.swc_loader.specs.Entry.{entry, package_in, if_readable, is_readable, is_text_or_nothing, is_browser_field, text_at, first_text, entry_text};
 ghost use Rattle.swc_loader.specs.Entry as of;
 
-use crate::{Conventions, TargetEnv};
-use json_reading::{FromJsonError, holds_float, read_json};
+use crate::{Conventions, Readings, TargetEnv};
+use json_reading::holds_float;
 use serde_json::{Map, Value};
 use std::alloc::{AllocError, Global};
 use sugar_path::{Bytes, Text};
@@ -27,44 +27,47 @@ pub enum PackageEntry {
 /// The entry that the content of a package.json names; a content that is missing, as of a file that can't be read, is malformed.
 pub fn entry_of(
     alloc: Global,
+    readings: &mut Readings,
     conventions: &Conventions,
     target: TargetEnv,
-    content: &Option<Bytes>,
+    content: Option<Bytes>,
 ) -> Result<PackageEntry, AllocError>
-    ensures { IfOk result (λ e. e ≡ entry conventions.now target content.now) }
+    ensures { IfOk result (λ e. e ≡ entry conventions.now target content) }
 {
-    let Some(package_json) = package_in(alloc, conventions, content)? else {
+    let Some(package_json) = package_in(alloc, readings, conventions, content)? else {
         return Ok(PackageEntry::Malformed);
     };
-    match entry_text(conventions, target, &package_json) {
+    match entry_text(conventions, target, package_json) {
         Some(text) => Ok(PackageEntry::At(Text::of(alloc, text)?)),
         None => Ok(PackageEntry::Missing),
     }
 }
 
 // The package.json that a content is, where the order can read it.
-pub(crate) fn package_in(
+pub(crate) fn package_in<'r>(
     alloc: Global,
+    readings: &'r mut Readings,
     conventions: &Conventions,
-    content: &Option<Bytes>,
-) -> Result<Option<Value>, AllocError>
-    ensures { IfOk result (λ v. option_map view v ≡ package_in conventions.now content.now) }
+    content: Option<Bytes>,
+) -> Result<Option<&'r Value>, AllocError>
+    ensures { IfOk result (λ v.
+        option_map (λ v. view v.now) v ≡ package_in conventions.now content) }
 {
     let Some(bytes) = content else {
         return Ok(None);
     };
-    match read_json(alloc, bytes.as_slice()) {
-        Ok(package_json) => Ok(if_readable(conventions, package_json)),
-        Err(FromJsonError::OtherKind) => Ok(None),
-        Err(FromJsonError::NoMemory) => Err(AllocError),
+    match readings.value_of(alloc, bytes)? {
+        Some(package_json) => Ok(if_readable(conventions, package_json)),
+        None => Ok(None),
     }
 }
 
 // A JSON value, where it is a package.json that the order can read.
-fn if_readable(conventions: &Conventions, package_json: Value) -> Option<Value>
-    ensures { option_map view result ≡ if_readable conventions.now (view package_json) }
+fn if_readable<'r>(conventions: &Conventions, package_json: &'r Value) -> Option<&'r Value>
+    ensures { option_map (λ v. view v.now) result
+        ≡ if_readable conventions.now (view package_json.now) }
 {
-    if is_readable(conventions, &package_json) {
+    if is_readable(conventions, package_json) {
         Some(package_json)
     } else {
         None

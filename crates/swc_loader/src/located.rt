@@ -6,7 +6,7 @@ ghost use Rattle.swc_loader.specs.Located.{behind, searched, whole, inside, reso
 
 use crate::browser_rules::ruled_file;
 use crate::search::{folder, place};
-use crate::{NodeModulesResolver, NodeRefusal, Searched};
+use crate::{NodeModulesResolver, NodeRefusal, Readings, Searched};
 use std::alloc::{AllocError, Global};
 use sugar_path::{CleanPath, Text};
 use tree_core::{Asker, ResolveError};
@@ -24,6 +24,7 @@ pub enum Placed {
 pub(crate) fn search_at<R: Asker>(
     alloc: Global,
     tree: &mut R,
+    readings: &mut Readings,
     resolver: &NodeModulesResolver,
     location: &CleanPath,
     subpath: Option<&str>,
@@ -32,10 +33,10 @@ pub(crate) fn search_at<R: Asker>(
         (resolve_at resolver.now location.now (option_copied subpath.entry)) }
 {
     match subpath {
-        None => search_whole(alloc, tree, resolver, location),
+        None => search_whole(alloc, tree, readings, resolver, location),
         Some(subpath) => {
             let text = text_behind(alloc, location, subpath)?;
-            search_behind(alloc, tree, resolver, location, text.as_str())
+            search_behind(alloc, tree, readings, resolver, location, text.as_str())
         }
     }
 }
@@ -44,6 +45,7 @@ pub(crate) fn search_at<R: Asker>(
 fn search_whole<R: Asker>(
     alloc: Global,
     tree: &mut R,
+    readings: &mut Readings,
     resolver: &NodeModulesResolver,
     location: &CleanPath,
 ) -> Result<Placed, ResolveError<NodeRefusal>>
@@ -53,17 +55,19 @@ fn search_whole<R: Asker>(
     let found = folder(
         alloc,
         tree,
+        readings,
         resolver.conventions(),
         resolver.target(),
         location,
     )?;
-    placed_file(alloc, tree, resolver, location.as_str(), found)
+    placed_file(alloc, tree, readings, resolver, location.as_str(), found)
 }
 
 // The search by the text behind a location, which may mean the location itself.
 fn search_behind<R: Asker>(
     alloc: Global,
     tree: &mut R,
+    readings: &mut Readings,
     resolver: &NodeModulesResolver,
     location: &CleanPath,
     text: &str,
@@ -73,23 +77,25 @@ fn search_behind<R: Asker>(
 {
     let at = CleanPath::read(alloc, &CleanPath::root(alloc), text)?;
     if at == *location {
-        return search_whole(alloc, tree, resolver, location);
+        return search_whole(alloc, tree, readings, resolver, location);
     }
     let found = place(
         alloc,
         tree,
+        readings,
         resolver.conventions(),
         resolver.target(),
         text,
         &at,
     )?;
-    placed_file(alloc, tree, resolver, text, found)
+    placed_file(alloc, tree, readings, resolver, text, found)
 }
 
 // What a search by a text comes to: a file by the rules for it, or a refusal.
 pub(crate) fn placed_file<R: Asker>(
     alloc: Global,
     tree: &mut R,
+    readings: &mut Readings,
     resolver: &NodeModulesResolver,
     text: &str,
     found: Searched,
@@ -98,7 +104,7 @@ pub(crate) fn placed_file<R: Asker>(
         (searched resolver.now text.now found) }
 {
     match found {
-        Searched::File(file) => Ok(ruled_file(alloc, tree, resolver, file)?),
+        Searched::File(file) => Ok(ruled_file(alloc, tree, readings, resolver, file)?),
         Searched::Nothing => {
             let text = Text::of(alloc, text)?;
             Err(ResolveError::Refused(NodeRefusal::NotFound { text }))

@@ -5,8 +5,8 @@ use crate::browser_rules::{rule_for, rules_at};
 use crate::located::search_at;
 use crate::spelling::spelled_name;
 use crate::{
-    Conventions, FileName, Found, ModuleRule, NodeRefusal, Placed, Resolution, Rule, Source,
-    TargetEnv, Via,
+    Conventions, FileName, Found, ModuleRule, NodeRefusal, Placed, Readings, Resolution, Rule,
+    Source, TargetEnv, Via,
 };
 use indexmap::IndexMap;
 use std::alloc::{AllocError, Global};
@@ -119,7 +119,23 @@ impl NodeModulesResolver {
         ensures { Resolves (R.asking tree.old) (R.asking tree.new) result
             (resolve_at self.now location.now (option_copied subpath.entry)) }
     {
-        search_at(alloc, tree, self, location, subpath)
+        let mut readings = Readings::new(alloc);
+        self.resolve_at_with(alloc, tree, &mut readings, location, subpath)
+    }
+
+    /// The same, with readings that the rows of a request share.
+    pub fn resolve_at_with<R: Asker>(
+        &self,
+        alloc: Global,
+        tree: &mut R,
+        readings: &mut Readings,
+        location: &CleanPath,
+        subpath: Option<&str>,
+    ) -> Result<Placed, ResolveError<NodeRefusal>>
+        ensures { Resolves (R.asking tree.old) (R.asking tree.new) result
+            (resolve_at self.now location.now (option_copied subpath.entry)) }
+    {
+        search_at(alloc, tree, readings, self, location, subpath)
     }
 
     /// What the `browser` rules for an importer say of a specifier. For the target Node there are none.
@@ -133,8 +149,24 @@ impl NodeModulesResolver {
         ensures { Asks (R.asking tree.old) (R.asking tree.new) result
             (module_rule self.now importer.now specifier.now) }
     {
+        let mut readings = Readings::new(alloc);
+        self.module_rule_with(alloc, tree, &mut readings, importer, specifier)
+    }
+
+    // The same, with readings that the rows of a request share.
+    pub(crate) fn module_rule_with<R: Asker>(
+        &self,
+        alloc: Global,
+        tree: &mut R,
+        readings: &mut Readings,
+        importer: &CleanPath,
+        specifier: &str,
+    ) -> Result<ModuleRule, ReadError>
+        ensures { Asks (R.asking tree.old) (R.asking tree.new) result
+            (module_rule self.now importer.now specifier.now) }
+    {
         let about = Source::Specifier(Text::of(alloc, specifier)?);
-        rule_for(alloc, tree, self, importer, &about)
+        rule_for(alloc, tree, readings, self, importer, &about)
     }
 
     /// The rules of the `browser` map in a folder's package.json, in the byte order of their keys. For the target Node there
@@ -149,7 +181,10 @@ impl NodeModulesResolver {
             (rules_for self.now root.now) }
     {
         match self.target() {
-            TargetEnv::Browser => rules_at(alloc, tree, self.conventions(), root),
+            TargetEnv::Browser => {
+                let mut readings = Readings::new(alloc);
+                rules_at(alloc, tree, &mut readings, self.conventions(), root)
+            }
             TargetEnv::Node => Ok(List::new(alloc)),
         }
     }

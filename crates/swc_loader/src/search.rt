@@ -10,7 +10,7 @@ ghost use Rattle.swc_loader.specs.Search.{folder as folder_plan};
 use crate::candidates::{candidate_file, first_with_ending};
 use crate::entry::entry_of;
 use crate::shape::shape_of;
-use crate::{Conventions, PackageEntry, TargetEnv};
+use crate::{Conventions, PackageEntry, Readings, TargetEnv};
 use std::alloc::{AllocError, Global};
 use sugar_path::CleanPath;
 use tree_core::{Asker, ReadError};
@@ -28,6 +28,7 @@ pub enum Searched {
 pub fn place<R: Asker>(
     alloc: Global,
     tree: &mut R,
+    readings: &mut Readings,
     conventions: &Conventions,
     target: TargetEnv,
     text: &str,
@@ -38,7 +39,7 @@ pub fn place<R: Asker>(
 {
     match file_of(alloc, tree, conventions, text, at)? {
         Some(file) => Ok(Searched::File(file)),
-        None => folder(alloc, tree, conventions, target, at),
+        None => folder(alloc, tree, readings, conventions, target, at),
     }
 }
 
@@ -88,6 +89,7 @@ fn file_of<R: Asker>(
 pub fn folder<R: Asker>(
     alloc: Global,
     tree: &mut R,
+    readings: &mut Readings,
     conventions: &Conventions,
     target: TargetEnv,
     folder: &CleanPath,
@@ -97,7 +99,15 @@ pub fn folder<R: Asker>(
 {
     let package_json = folder.child(alloc, "package.json")?;
     if tree.is_file(&package_json)? {
-        return packaged_folder(alloc, tree, conventions, target, folder, package_json);
+        return packaged_folder(
+            alloc,
+            tree,
+            readings,
+            conventions,
+            target,
+            folder,
+            package_json,
+        );
     }
     first_index(alloc, tree, conventions, folder)
 }
@@ -106,6 +116,7 @@ pub fn folder<R: Asker>(
 fn packaged_folder<R: Asker>(
     alloc: Global,
     tree: &mut R,
+    readings: &mut Readings,
     conventions: &Conventions,
     target: TargetEnv,
     folder: &CleanPath,
@@ -116,7 +127,7 @@ fn packaged_folder<R: Asker>(
         (packaged conventions.now target folder.now) }
 {
     let content = tree.read(&package_json)?;
-    match entry_of(alloc, conventions, target, &content)? {
+    match entry_of(alloc, readings, conventions, target, content)? {
         PackageEntry::Malformed => Ok(Searched::Malformed(package_json)),
         PackageEntry::Missing => first_index(alloc, tree, conventions, folder),
         PackageEntry::At(text) => at_entry(alloc, tree, conventions, folder, text.as_str()),

@@ -5,7 +5,7 @@ ghost use Rattle.tree_core.specs.Asks.{Asks};
 ghost use Rattle.swc_loader.specs.Walk.{in_modules as in_modules_plan, walk as walk_plan};
 
 use crate::search::{joined, place};
-use crate::{Conventions, Searched, TargetEnv};
+use crate::{Conventions, Readings, Searched, TargetEnv};
 use std::alloc::Global;
 use sugar_path::CleanPath;
 use tree_core::{Asker, ReadError};
@@ -14,6 +14,7 @@ use tree_core::{Asker, ReadError};
 pub(crate) fn walk<R: Asker>(
     alloc: Global,
     tree: &mut R,
+    readings: &mut Readings,
     conventions: &Conventions,
     env: TargetEnv,
     target: &str,
@@ -24,7 +25,7 @@ pub(crate) fn walk<R: Asker>(
 {
     let mut folder = from.try_clone(alloc)?;
     'up: loop {
-        let found = in_modules(alloc, tree, conventions, env, target, &folder)?;
+        let found = in_modules(alloc, tree, readings, conventions, env, target, &folder)?;
         if let Searched::File(file) = found {
             return Ok(Some(file));
         }
@@ -38,6 +39,7 @@ pub(crate) fn walk<R: Asker>(
 fn in_modules<R: Asker>(
     alloc: Global,
     tree: &mut R,
+    readings: &mut Readings,
     conventions: &Conventions,
     env: TargetEnv,
     target: &str,
@@ -52,5 +54,5 @@ fn in_modules<R: Asker>(
     }
     let text = joined(alloc, &modules, target)?;
     let at = CleanPath::read(alloc, &CleanPath::root(alloc), text.as_str())?;
-    place(alloc, tree, conventions, env, text.as_str(), &at)
+    place(alloc, tree, readings, conventions, env, text.as_str(), &at)
 }

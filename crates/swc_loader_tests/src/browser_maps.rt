@@ -11,7 +11,7 @@ use tree_core::{MemoryTree, Recorder, ResolveError};
 
 // With which settings a request is asked.
 #[derive(Clone, Copy)]
-enum Asked {
+pub(crate) enum Asked {
     Plain,
     LinksPreserved,
     ForNode,
@@ -20,16 +20,16 @@ enum Asked {
 // A request over empty files, apart by blanks, and package.jsons: what it comes to, the file that was found, or no text,
 // and its questions in order.
 #[derive(Drop)]
-struct Mapped {
-    settings: Asked,
-    alias: &'static [(&'static str, &'static str)],
-    files: &'static str,
-    packages: &'static [(&'static str, &'static str)],
-    base: &'static str,
-    specifier: &'static str,
-    came: &'static str,
-    found: &'static str,
-    asked: &'static str,
+pub(crate) struct Mapped {
+    pub(crate) settings: Asked,
+    pub(crate) alias: &'static [(&'static str, &'static str)],
+    pub(crate) files: &'static str,
+    pub(crate) packages: &'static [(&'static str, &'static str)],
+    pub(crate) base: &'static str,
+    pub(crate) specifier: &'static str,
+    pub(crate) came: &'static str,
+    pub(crate) found: &'static str,
+    pub(crate) asked: &'static str,
 }
 
 // Which package.json counts, and what keys and texts mean.
@@ -664,7 +664,11 @@ const RULES: [Mapped; 24] = [
     },
 ];
 
-fn tree(alloc: Global, files: &str, packages: &[(&str, &str)]) -> Result<MemoryTree, Fail> {
+pub(crate) fn tree(
+    alloc: Global,
+    files: &str,
+    packages: &[(&str, &str)],
+) -> Result<MemoryTree, Fail> {
     let mut tree = tree_of(alloc, packages)?;
     for path in files.split_whitespace() {
         tree.put(path, b"", path)?;
@@ -672,7 +676,7 @@ fn tree(alloc: Global, files: &str, packages: &[(&str, &str)]) -> Result<MemoryT
     Ok(tree)
 }
 
-fn resolver(
+pub(crate) fn resolver(
     alloc: Global,
     settings: Asked,
     aliases: &[(&str, &str)],
@@ -696,7 +700,7 @@ fn file_of(came: &Result<Resolution, ResolveError<NodeRefusal>>) -> &str {
 }
 
 // What a request comes to, the file that was found, and the questions in order, as one text.
-fn told(alloc: Global, map: &Mapped) -> Result<String, Fail> {
+pub(crate) fn told(alloc: Global, map: &Mapped) -> Result<String, Fail> {
     let mut resolver = resolver(alloc, map.settings, map.alias)?;
     let mut tree = tree(alloc, map.files, map.packages)?;
     let mut recorder = Recorder::new(alloc, &mut tree);
@@ -711,7 +715,7 @@ fn told(alloc: Global, map: &Mapped) -> Result<String, Fail> {
 }
 
 // What the table has of it.
-fn wanted(alloc: Global, map: &Mapped) -> Result<String, Fail> {
+pub(crate) fn wanted(alloc: Global, map: &Mapped) -> Result<String, Fail> {
     let mut wanted = String::from_str(alloc, map.found)?;
     wanted.push_str(map.came)?;
     wanted.push_str(map.asked)?;

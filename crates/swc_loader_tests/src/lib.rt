@@ -9,3 +9,5 @@ mod example;
 mod node_orders;
 #[cfg(test)]
 mod searches;
+#[cfg(test)]
+mod shared_readings;

@@ -3,7 +3,9 @@
 use std::alloc::Global;
 use std::test::Fail;
 use sugar_path::{Bytes, CleanPath};
-use swc_loader::{Conventions, PackageEntry, Searched, TargetEnv, entry_of, folder, place};
+use swc_loader::{
+    Conventions, PackageEntry, Readings, Searched, TargetEnv, entry_of, folder, place,
+};
 use tree_core::{MemoryTree, Question, Recorder, Trail};
 
 // The names of the files that a text's place asks for before its folder, each behind a blank.
@@ -15,6 +17,7 @@ fn candidates_asked(alloc: Global, text: &str) -> Result<String, Fail> {
     let _nothing = place(
         alloc,
         &mut recorder,
+        &mut Readings::new(alloc),
         &conventions,
         TargetEnv::Node,
         text,
@@ -227,6 +230,7 @@ fn a_folder_is_searched_by_its_entry(rt: HostRuntime) -> Result<(), Fail> {
         let found = folder(
             rt.alloc(),
             &mut recorder,
+            &mut Readings::new(rt.alloc()),
             &conventions,
             TargetEnv::Node,
             &path,
@@ -280,6 +284,7 @@ fn a_place_is_a_file_before_it_is_a_folder(rt: HostRuntime) -> Result<(), Fail> 
         let found = place(
             rt.alloc(),
             &mut recorder,
+            &mut Readings::new(rt.alloc()),
             &conventions,
             TargetEnv::Node,
             text,
@@ -297,7 +302,14 @@ fn a_place_is_a_file_before_it_is_a_folder(rt: HostRuntime) -> Result<(), Fail> 
 // The entry that bytes name, in words.
 fn entry_told(alloc: Global, target: TargetEnv, bytes: &[u8]) -> Result<String, Fail> {
     let content = Some(Bytes::of(alloc, bytes)?);
-    match entry_of(alloc, &Conventions::of_order(), target, &content)? {
+    let mut readings = Readings::new(alloc);
+    match entry_of(
+        alloc,
+        &mut readings,
+        &Conventions::of_order(),
+        target,
+        content,
+    )? {
         PackageEntry::Malformed => Ok(String::from_str(alloc, "malformed")?),
         PackageEntry::Missing => Ok(String::from_str(alloc, "missing")?),
         PackageEntry::At(text) => Ok(format!(in alloc; "at {}", text.as_str())?),
@@ -386,7 +398,13 @@ fn what_cannot_be_read_is_malformed(rt: HostRuntime) -> Result<(), Fail> {
             assert_eq!(rt; entry.as_str(), "malformed");
         }
     }
-    let entry = entry_of(rt.alloc(), &Conventions::of_order(), TargetEnv::Node, &None)?;
+    let entry = entry_of(
+        rt.alloc(),
+        &mut Readings::new(rt.alloc()),
+        &Conventions::of_order(),
+        TargetEnv::Node,
+        None,
+    )?;
     assert_eq!(rt; entry, PackageEntry::Malformed);
     Ok(())
 }

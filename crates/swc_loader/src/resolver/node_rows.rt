@@ -12,8 +12,8 @@ use crate::search::{joined, place, place_without_entry};
 use crate::specifier::is_relative;
 use crate::walk::walk;
 use crate::{
-    Before, FileName, ModuleRule, NodeModulesResolver, NodeRefusal, Placed, Resolution, Searched,
-    TargetEnv,
+    Before, FileName, ModuleRule, NodeModulesResolver, NodeRefusal, Placed, Readings, Resolution,
+    Searched, TargetEnv,
 };
 use std::alloc::{AllocError, Global};
 use sugar_path::{CleanPath, Text};
@@ -39,9 +39,16 @@ impl NodeModulesResolver {
             return Err(ResolveError::Refused(NodeRefusal::BaseNotAFile));
         };
         let at = CleanPath::read(alloc, self.cwd(), importer.as_str())?;
-        match self.before_search(alloc, tree, &at, specifier)? {
+        let mut readings = Readings::new(alloc);
+        match self.before_search_with(alloc, tree, &mut readings, &at, specifier)? {
             Before::Decided(resolution) => Ok(resolution),
-            Before::Target(target) => self.search(alloc, tree, importer.as_str(), target.as_str()),
+            Before::Target(target) => self.search_with(
+                alloc,
+                tree,
+                &mut readings,
+                importer.as_str(),
+                target.as_str(),
+            ),
         }
     }
 
@@ -81,7 +88,23 @@ impl NodeModulesResolver {
         ensures { Asks (R.asking tree.old) (R.asking tree.new) result
             (rows.before_search self.now importer.now specifier.now) }
     {
-        match self.ruled_specifier(alloc, tree, importer, specifier)? {
+        let mut readings = Readings::new(alloc);
+        self.before_search_with(alloc, tree, &mut readings, importer, specifier)
+    }
+
+    /// The same, with readings that the rows of a request share.
+    pub fn before_search_with<R: Asker>(
+        &self,
+        alloc: Global,
+        tree: &mut R,
+        readings: &mut Readings,
+        importer: &CleanPath,
+        specifier: &str,
+    ) -> Result<Before, ReadError>
+        ensures { Asks (R.asking tree.old) (R.asking tree.new) result
+            (rows.before_search self.now importer.now specifier.now) }
+    {
+        match self.ruled_specifier(alloc, tree, readings, importer, specifier)? {
             Some(resolution) => Ok(Before::Decided(resolution)),
             None => Ok(self.core_module_or_target(alloc, specifier)?),
         }
@@ -92,13 +115,14 @@ impl NodeModulesResolver {
         &self,
         alloc: Global,
         tree: &mut R,
+        readings: &mut Readings,
         importer: &CleanPath,
         specifier: &str,
     ) -> Result<Option<Resolution>, ReadError>
         ensures { Asks (R.asking tree.old) (R.asking tree.new) result
             (rows.ruled_specifier self.now importer.now specifier.now) }
     {
-        match self.module_rule(alloc, tree, importer, specifier)? {
+        match self.module_rule_with(alloc, tree, readings, importer, specifier)? {
             ModuleRule::NoRule => Ok(None),
             ModuleRule::Ignored => Ok(Some(Resolution::custom(Text::of(alloc, specifier)?))),
             ModuleRule::File(file) => {
@@ -137,17 +161,33 @@ impl NodeModulesResolver {
         ensures { Resolves (R.asking tree.old) (R.asking tree.new) result
             (rows.search self.now base.now target.now) }
     {
+        let mut readings = Readings::new(alloc);
+        self.search_with(alloc, tree, &mut readings, base, target)
+    }
+
+    /// The same, with readings that the rows of a request share.
+    pub fn search_with<R: Asker>(
+        &self,
+        alloc: Global,
+        tree: &mut R,
+        readings: &mut Readings,
+        base: &str,
+        target: &str,
+    ) -> Result<Resolution, ResolveError<NodeRefusal>>
+        ensures { Resolves (R.asking tree.old) (R.asking tree.new) result
+            (rows.search self.now base.now target.now) }
+    {
         if target.starts_with('/') {
-            return self.search_root(alloc, tree, target);
+            return self.search_root(alloc, tree, readings, target);
         }
         if is_relative(target) {
-            return self.search_behind(alloc, tree, base, target);
+            return self.search_behind(alloc, tree, readings, base, target);
         }
         if !self.node_modules {
             let text = Text::of(alloc, target)?;
             return Err(ResolveError::Refused(NodeRefusal::NotFound { text }));
         }
-        self.search_modules(alloc, tree, base, target)
+        self.search_modules(alloc, tree, readings, base, target)
     }
 
     // An absolute target.
@@ -155,14 +195,23 @@ impl NodeModulesResolver {
         &self,
         alloc: Global,
         tree: &mut R,
+        readings: &mut Readings,
         target: &str,
     ) -> Result<Resolution, ResolveError<NodeRefusal>>
         ensures { Resolves (R.asking tree.old) (R.asking tree.new) result
             (rows.at_root self.now target.now) }
     {
         let at = CleanPath::read(alloc, &CleanPath::root(alloc), target)?;
-        let found = place(alloc, tree, &self.conventions, self.target, target, &at)?;
-        self.told(alloc, tree, target, false, found)
+        let found = place(
+            alloc,
+            tree,
+            readings,
+            &self.conventions,
+            self.target,
+            target,
+            &at,
+        )?;
+        self.told(alloc, tree, readings, target, false, found)
     }
 
     // A target behind the folder of the base.
@@ -170,6 +219,7 @@ impl NodeModulesResolver {
         &self,
         alloc: Global,
         tree: &mut R,
+        readings: &mut Readings,
         base: &str,
         target: &str,
     ) -> Result<Resolution, ResolveError<NodeRefusal>>
@@ -182,12 +232,14 @@ impl NodeModulesResolver {
         let found = place(
             alloc,
             tree,
+            readings,
             &self.conventions,
             self.target,
             text.as_str(),
             &at,
         )?;
-        self.told(alloc, tree, target, !base.starts_with('/'), found)
+        let relative = !base.starts_with('/');
+        self.told(alloc, tree, readings, target, relative, found)
     }
 
     // A target in the `node_modules` of the folder of the base, or of one above.
@@ -195,6 +247,7 @@ impl NodeModulesResolver {
         &self,
         alloc: Global,
         tree: &mut R,
+        readings: &mut Readings,
         base: &str,
         target: &str,
     ) -> Result<Resolution, ResolveError<NodeRefusal>>
@@ -202,11 +255,20 @@ impl NodeModulesResolver {
             (rows.walked self.now base.now target.now) }
     {
         let folder = self.base_folder(alloc, tree, base)?;
-        let found = match walk(alloc, tree, &self.conventions, self.target, target, &folder)? {
+        let walked = walk(
+            alloc,
+            tree,
+            readings,
+            &self.conventions,
+            self.target,
+            target,
+            &folder,
+        )?;
+        let found = match walked {
             Some(file) => Searched::File(file),
             None => Searched::Nothing,
         };
-        self.told(alloc, tree, target, true, found)
+        self.told(alloc, tree, readings, target, true, found)
     }
 
     // The folder that a base stands in, or its own path where that is no file.
@@ -231,6 +293,7 @@ impl NodeModulesResolver {
         &self,
         alloc: Global,
         tree: &mut R,
+        readings: &mut Readings,
         target: &str,
         relative: bool,
         found: Searched,
@@ -238,7 +301,7 @@ impl NodeModulesResolver {
         ensures { Resolves (R.asking tree.old) (R.asking tree.new) result
             (rows.told self.now target.now relative found) }
     {
-        match placed_file(alloc, tree, self, target, found)? {
+        match placed_file(alloc, tree, readings, self, target, found)? {
             Placed::File { path, rewritten } => {
                 let relative = if rewritten {
                     path.is_below(self.cwd())

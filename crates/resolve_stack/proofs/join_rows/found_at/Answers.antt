@@ -11,4 +11,4 @@ returns g c =
       | in-Some w ↦ rw (w.subpath-is, w.in-Some.is) (ap Some w.as_str.ensures)
       | in-None w ↦ rw (w.subpath-is, w.in-None.is)
     ] in
-    rw c.raised.ensures (asks_raised_result of_node _ (rw (c.node.ensures, same) at c.resolve_at-found.ensures))
+    rw c.raised.ensures (asks_raised_result of_node _ (rw (c.node-node.ensures, same) at c.resolve_at_with-found.ensures))

@@ -1,4 +1,4 @@
-use Rattle.std.proofs.Common.{◌≡◌, ◌∙◌, Bool, refl, sym, ap, lit<}
+use Rattle.std.proofs.Common.{◌≡◌, refl, lit<}
 use Rattle.sugar_path.specs.Path.{clean, is_absolute}
 use Rattle.tree_core.specs.Resolving.{resolving}
 use Rattle.tree_core.specs.Rows.{never_refuses}
@@ -45,4 +45,4 @@ pub returns : goal.returns
 returns g c =
     let at : c.in_ok-at.at ≡ clean c.args.self.now.cwd c.in-Real.importer = rw (c.cwd.ensures, c.as_str.ensures) at c.in_ok-at.ensures in
     asks_node _ _ _ (asks_as _ c.in_ok-file.ensures c.in_default.is
-    (rw c.in-Real.is (asks_as (by_target c.args.self.now c.in-Real.importer) (rw at at c.in_ok-resolution.ensures) c.in-Target.is (rw (c.as_str-in-Target.ensures, c.as_str-in-Target-2.ensures) at c.search.ensures))))
+    (rw c.in-Real.is (asks_as (by_target c.args.self.now c.in-Real.importer) (rw at at c.in_ok-resolution.ensures) c.in-Target.is (rw (c.as_str-in-Target.ensures, c.as_str-in-Target-2.ensures) at c.search_with.ensures))))

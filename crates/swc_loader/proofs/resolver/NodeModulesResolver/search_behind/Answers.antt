@@ -33,7 +33,7 @@ unfolding behind_base
 returns g c =
     let conventions = ap (λ (s : NodeSettings). s.conventions) c.self.view_is in
     let target = ap (λ (s : NodeSettings). s.target) c.self.view_is in
-    let absolute : c.starts_with.result ≡ is_absolute c.args.base.now = c.starts_with.ensures.byte (lit< tt) (lit< tt) (λ w o h. h) in
+    let absolute : c.starts_with-relative.result ≡ is_absolute c.args.base.now = c.starts_with-relative.ensures.byte (lit< tt) (lit< tt) (λ w o h. h) in
     asks_then _ c.in_ok-folder.ensures
     (asks_then _ (asks_place conventions target (c.as_str-2.ensures.value ∙ c.in_ok-text.ensures) (c.as_str.ensures.value ∙ c.in_ok-text.ensures) c.root.ensures c.in_ok-at.ensures c.in_ok-found.ensures)
     (rw absolute at c.told.ensures))

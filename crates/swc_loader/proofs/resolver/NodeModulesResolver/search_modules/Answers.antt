@@ -13,13 +13,13 @@ pub returns-in_err-folder : goal.returns-in_err-folder
 unfolding walked
 returns-in_err-folder g c = asks_fails_in resolving _ _ c.from_residual.ensures.1 c.in_err-folder.ensures
 
-pub returns-in_err-file : goal.returns-in_err-file
+pub returns-in_err-walked : goal.returns-in_err-walked
 unfolding walked
-returns-in_err-file g c =
+returns-in_err-walked g c =
     let conventions = ap (λ (s : NodeSettings). s.conventions) c.self.view_is in
     let target = ap (λ (s : NodeSettings). s.target) c.self.view_is in
     asks_then _ c.in_ok-folder.ensures
-    (asks_fails_in resolving (λ found. told c.args.self.now c.args.target.now true (found_or_nothing found)) _ c.from_residual-in_err-file.ensures.1 (asks_walk c.args.target.now (c.in_ok-folder.folder ∷ up c.in_ok-folder.folder) conventions target c.in_err-file.ensures))
+    (asks_fails_in resolving (λ found. told c.args.self.now c.args.target.now true (found_or_nothing found)) _ c.from_residual-in_err-walked.ensures.1 (asks_walk c.args.target.now (c.in_ok-folder.folder ∷ up c.in_ok-folder.folder) conventions target c.in_err-walked.ensures))
 
 pub returns : goal.returns
 unfolding walked
@@ -27,7 +27,7 @@ returns g c =
     let conventions = ap (λ (s : NodeSettings). s.conventions) c.self.view_is in
     let target = ap (λ (s : NodeSettings). s.target) c.self.view_is in
     asks_then _ c.in_ok-folder.ensures
-    (elim c.match-branch-3.branch [
-      | in-Some w ↦ asks_as (λ found. told c.args.self.now c.args.target.now true (found_or_nothing found)) (asks_walk c.args.target.now (c.in_ok-folder.folder ∷ up c.in_ok-folder.folder) conventions target c.in_ok-file.ensures) w.in-Some.is (rw w.found-is at c.told.ensures)
-      | in-None w ↦ asks_as (λ found. told c.args.self.now c.args.target.now true (found_or_nothing found)) (asks_walk c.args.target.now (c.in_ok-folder.folder ∷ up c.in_ok-folder.folder) conventions target c.in_ok-file.ensures) w.in-None.is (rw w.found-is at c.told.ensures)
+    (elim c.match-walked.branch [
+      | in-Some w ↦ asks_as (λ found. told c.args.self.now c.args.target.now true (found_or_nothing found)) (asks_walk c.args.target.now (c.in_ok-folder.folder ∷ up c.in_ok-folder.folder) conventions target c.in_ok-walked.ensures) w.in-Some.is (rw w.found-is at c.told.ensures)
+      | in-None w ↦ asks_as (λ found. told c.args.self.now c.args.target.now true (found_or_nothing found)) (asks_walk c.args.target.now (c.in_ok-folder.folder ∷ up c.in_ok-folder.folder) conventions target c.in_ok-walked.ensures) w.in-None.is (rw w.found-is at c.told.ensures)
     ])

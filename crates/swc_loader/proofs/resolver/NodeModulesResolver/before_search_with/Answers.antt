@@ -1,7 +1,7 @@
 use Rattle.std.proofs.Common.{refl}
 use Rattle.tree_core.proofs.Asking.{asks_as, asks_done, asks_fails, asks_starved}
 use Rattle.swc_loader.specs.NodeRows.{before_search}
-use Rattle.swc_loader.proofs.resolver.NodeModulesResolver.before_search.Goals as goal
+use Rattle.swc_loader.proofs.resolver.NodeModulesResolver.before_search_with.Goals as goal
 
 pub returns-in_err-resolution : goal.returns-in_err-resolution
 unfolding before_search

@@ -5,7 +5,7 @@ use Rattle.tree_core.proofs.Asking.{asks_done, asks_starved_in}
 use Rattle.swc_loader.specs.declared.refusal.NodeRefusal.TheVariants.{NotFound}
 use Rattle.swc_loader.specs.Settings.{NodeSettings}
 use Rattle.swc_loader.proofs.NodeOrders.{asks_walked}
-use Rattle.swc_loader.proofs.resolver.NodeModulesResolver.search.Goals as goal
+use Rattle.swc_loader.proofs.resolver.NodeModulesResolver.search_with.Goals as goal
 
 pub returns-in_err-text : goal.returns-in_err-text
 returns-in_err-text g c = asks_starved_in resolving _ c.from_residual.ensures.1

@@ -1,0 +1,82 @@
+// What package.jsons were parsed to.
+ghost use Rattle.std.specs.Prelude.{◌≡◌, IfOk, option_map};
+ghost use Rattle.serde_json.specs.View.{view};
+ghost use Rattle.json_reading.specs.Bytes.{json_of};
+ghost use Rattle.swc_loader.specs.Readings.{AreReadings, IsReadAt};
+
+use indexmap::IndexMap;
+use json_reading::{FromJsonError, read_json};
+use serde_json::Value;
+use std::alloc::{AllocError, Global};
+use std::marker::Model;
+use sugar_path::Bytes;
+
+/// What the contents of package.jsons were parsed to, so that a content that several rows of a request read is parsed once. They
+/// change no answer: contracts see nothing of what is kept.
+#[derive(Drop)]
+pub struct Readings {
+    kept: IndexMap<Bytes, Option<Value>>,
+}
+
+impl Model for Readings {
+    ghost use Rattle.swc_loader.specs.Readings.{AreReadings};
+
+    ghost Value = { Unit {0} };
+
+    ghost view = { λ _. tt };
+
+    ghost invariant = { λ r. AreReadings r.kept.entries };
+}
+
+impl Readings {
+    /// Readings that keep nothing yet.
+    pub fn new(alloc: Global) -> Readings {
+        Readings {
+            kept: IndexMap::new(alloc),
+        }
+    }
+
+    // The value that a content is, where it is JSON. Only a new content is parsed. Where memory is wanting, it isn't kept.
+    pub(crate) fn value_of(
+        &mut self,
+        alloc: Global,
+        content: Bytes,
+    ) -> Result<Option<&Value>, AllocError>
+        ensures { IfOk result (λ found. option_map (λ v. view v.now) found ≡ json_of content) }
+    {
+        let place = place_of(alloc, &mut self.kept, content)?;
+        match self.kept.get_index(place) {
+            Some((_, Some(value))) => Ok(Some(value)),
+            _ => Ok(None),
+        }
+    }
+}
+
+// The place of what a content is parsed to. A new content is parsed, and kept at the end.
+fn place_of(
+    alloc: Global,
+    kept: &mut IndexMap<Bytes, Option<Value>>,
+    content: Bytes,
+) -> Result<usize, AllocError>
+    requires { AreReadings kept.old.entries }
+    ensures kept { AreReadings kept.new.entries }
+    ensures place { IfOk result (λ place. IsReadAt kept.new.entries place content) }
+{
+    if let Some(place) = kept.get_index_of(&content) {
+        return Ok(place);
+    }
+    let value = parsed(alloc, content.as_slice())?;
+    let (place, _) = kept.insert_full(content, value)?;
+    Ok(place)
+}
+
+// The value that bytes are, where they are JSON.
+fn parsed(alloc: Global, bytes: &[u8]) -> Result<Option<Value>, AllocError>
+    ensures { IfOk result (λ value. option_map view value ≡ json_of bytes.now) }
+{
+    match read_json(alloc, bytes) {
+        Ok(value) => Ok(Some(value)),
+        Err(FromJsonError::OtherKind) => Ok(None),
+        Err(FromJsonError::NoMemory) => Err(AllocError),
+    }
+}
