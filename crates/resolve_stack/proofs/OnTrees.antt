@@ -151,7 +151,7 @@ asked-rows t project request =
     refusing_asks t _ _ (answer-found_at t project folder identifier.1) (asked-found_at t project folder identifier.1) (λ placed.
     step_asks t _ _ (answer-unless_ignored t placed) (asked-unless_ignored t placed) (λ found.
     decided_asks t _ _ (λ file.
-    asked-refuses_by _ t (answered_through project _ file found.1) ∙ asked-through t project _ file found.1)))))))))))))
+    asked-refuses_by _ t (answered_through project _ file found.1) ∙ asked-through t project _ file found.1))))))))))))
 
 -- the order comes to what the tree has
 pub answer-join : (t : Files) (project : ProjectSettings) (request : Request) → answer t (join project request) ≡ join_on t project request
