@@ -100,7 +100,7 @@ fn put(alloc: Global, tree: &mut MemoryTree, file: &GivenFile) -> Result<(), Doc
 
 // The project of a document's settings.
 fn project_in<'l>(alloc: Global, settings: Settings<'l>) -> Result<Project<'l>, DocumentError>
-    ensures { Meets result (project_in (given settings)) }
+    ensures { Meets result (project_in (given settings.entry)) }
 {
     Ok(Project::new(alloc, settings)?)
 }

@@ -94,9 +94,9 @@ impl<'l> Model for Project<'l> {
 impl<'l> Project<'l> {
     /// A project of these settings, or the first cause against them.
     pub fn new(alloc: Global, settings: Settings<'l>) -> Result<Project<'l>, ProjectError>
-        ensures ok { IfOk result (λ p. project_of (given settings) ≡ Ok p) }
-        ensures clean { OnOk result (IsCleanPath settings.cwd) }
-        ensures fault { IfErr result (λ e. IsCauseOf e (project_of (given settings))) }
+        ensures ok { IfOk result (λ p. project_of (given settings.entry) ≡ Ok p) }
+        ensures clean { OnOk result (IsCleanPath settings.entry.cwd) }
+        ensures fault { IfErr result (λ e. IsCauseOf e (project_of (given settings.entry))) }
     {
         let Settings {
             cwd,

@@ -9,7 +9,7 @@ use sugar_path::Text;
 use tree_core::MemoryTree;
 
 // A project for browsers in `/w`.
-fn project(alloc: Global) -> Result<Project, ProjectError> {
+fn project(alloc: Global) -> Result<Project<'static>, ProjectError> {
     Project::new(
         alloc,
         Settings {
@@ -19,6 +19,7 @@ fn project(alloc: Global) -> Result<Project, ProjectError> {
             node_modules: true,
             alias: IndexMap::new(alloc),
             ts: None,
+            lock: None,
         },
     )
 }

@@ -146,18 +146,18 @@ fn word_of(reply: &Reply) -> &str {
 fn lines_of(alloc: Global, trail: &Trail) -> Result<String, AllocError> {
     let mut lines = String::new(alloc);
     for (question, reply) in trail.iter() {
-        for word in [
-            kind_of(question),
-            " ",
-            question.path(),
-            " ",
-            word_of(reply),
-            "\n",
-        ] {
-            lines.push_str(word)?;
-        }
+        put_line(&mut lines, question, reply)?;
     }
     Ok(lines)
+}
+
+fn put_line(lines: &mut String, question: &Question, reply: &Reply) -> Result<(), AllocError> {
+    lines.push_str(kind_of(question))?;
+    lines.push_str(" ")?;
+    lines.push_str(question.path())?;
+    lines.push_str(" ")?;
+    lines.push_str(word_of(reply))?;
+    lines.push_str("\n")
 }
 
 // The trail of the bare name by a lock, or nothing where the tree refused a question.
