@@ -1,5 +1,5 @@
 // The join rows, each by itself.
-ghost use Rattle.std.specs.Prelude.{◌≡◌, IfOk, Err};
+ghost use Rattle.std.specs.Prelude.{◌≡◌, ℕ, List, IfOk, Err};
 ghost use Rattle.std.specs.Option.{option_copied};
 ghost use Rattle.tree_core.specs.Asks.{seen};
 ghost use Rattle.tree_core.specs.Resolving.{Resolves, IsDecided, resolving};
@@ -163,7 +163,7 @@ fn refused_binding(
     bound: &PackageLocator,
     fault: EdgeFault,
 ) -> ResolveError<JoinRefusal>
-    ensures { IsDecided {A = Contents} (Err result) (Err (rows.of_fault bound.now fault)) }
+    ensures { IsDecided {A = List ℕ} (Err result) (Err (rows.of_fault bound.now fault)) }
 {
     match of_fault(alloc, bound, fault) {
         Ok(refusal) => ResolveError::Refused(refusal),
