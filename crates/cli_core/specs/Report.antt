@@ -77,6 +77,13 @@ dependency_value kind name issuer message path request = object
     (member (codes "path") (string path)
     (member (codes "request") (string request) no_members))))))
 
+-- a bound package that has no row or no entry, by its kind
+abbrev pub package_value : List ℕ → List ℕ → List ℕ → Data
+package_value kind name reference = object
+    (member (codes "kind") (string kind)
+    (member (codes "name") (string name)
+    (member (codes "reference") (string reference) no_members)))
+
 -- a refusal that tells no more than its kind
 abbrev pub kind_value : List ℕ → Data
 kind_value kind = object (member (codes "kind") (string kind) no_members)
@@ -94,14 +101,8 @@ refusal_value (UndeclaredDependency told) =
     dependency_value (codes "UndeclaredDependency") told.dependency_name told.issuer_locator told.message told.issuer_path told.request
 refusal_value (MissingPeerDependency told) =
     dependency_value (codes "MissingPeerDependency") told.dependency_name told.issuer_locator told.message told.issuer_path told.request
-refusal_value (NotInRegistry name reference) = object
-    (member (codes "kind") (string (codes "NotInRegistry"))
-    (member (codes "name") (string name)
-    (member (codes "reference") (string reference) no_members)))
-refusal_value (NotLocked name reference) = object
-    (member (codes "kind") (string (codes "NotLocked"))
-    (member (codes "name") (string name)
-    (member (codes "reference") (string reference) no_members)))
+refusal_value (NotInRegistry name reference) = package_value (codes "NotInRegistry") name reference
+refusal_value (NotLocked name reference) = package_value (codes "NotLocked") name reference
 refusal_value (OutOfRange range version) = object
     (member (codes "kind") (string (codes "OutOfRange"))
     (member (codes "range") (string range)

@@ -3,7 +3,7 @@ ghost use Rattle.std.specs.Prelude.{◌≡◌, ◌++◌, IfOk, codes, map, strin
 ghost use Rattle.json.specs.Print.{quoted};
 ghost use Rattle.serde_json.specs.Data.{array};
 ghost use Rattle.serde_json.specs.View.{items_of, view};
-ghost use Rattle.cli_core.specs.Report.{answer_value, cause_line, cause_name, cause_text, found_value, issuer_value, name_value, project_cause, refusal_value, refused_value, text_or_null, verdict_line, verdict_value, via_value};
+ghost use Rattle.cli_core.specs.Report.{answer_value, cause_line, cause_name, cause_text, found_value, issuer_value, name_value, package_value, project_cause, refusal_value, refused_value, text_or_null, verdict_line, verdict_value, via_value};
 ghost use Rattle.resolve_stack.specs.declared.verdict.JoinRefusal.TheVariants as refusal;
 
 use crate::cause::Cause;
@@ -125,9 +125,11 @@ fn value_of_refusal(alloc: Global, refusal: &JoinRefusal) -> Result<Value, Alloc
         JoinRefusal::UndeclaredDependency(told) => value_of_undeclared(alloc, told),
         JoinRefusal::MissingPeerDependency(told) => value_of_missing_peer(alloc, told),
         JoinRefusal::NotInRegistry { name, reference } => {
-            value_of_package(alloc, name, reference)
+            value_of_package(alloc, "NotInRegistry", name, reference)
         }
-        JoinRefusal::NotLocked { name, reference } => { value_of_unlocked(alloc, name, reference) }
+        JoinRefusal::NotLocked { name, reference } => {
+            value_of_package(alloc, "NotLocked", name, reference)
+        }
         JoinRefusal::MalformedPackage { path } => value_of_malformed(alloc, path),
         JoinRefusal::OutOfRange { range, version } => {
             value_of_out_of_range(alloc, range, version)
@@ -191,26 +193,17 @@ fn value_of_missing_peer(alloc: Global, told: &MissingPeerDependency) -> Result<
     })
 }
 
-fn value_of_package(alloc: Global, name: &Text, reference: &Text) -> Result<Value, AllocError>
+// A bound package that has no row or no entry.
+fn value_of_package(
+    alloc: Global,
+    kind: &str,
+    name: &Text,
+    reference: &Text,
+) -> Result<Value, AllocError>
     ensures { IfOk result (λ value.
-        view value ≡ refusal_value (refusal.NotInRegistry name.now reference.now)) }
+        view value ≡ package_value kind.now name.now reference.now) }
 {
-    json!(in alloc; {
-        "kind": "NotInRegistry",
-        "name": name.as_str(),
-        "reference": reference.as_str()
-    })
-}
-
-fn value_of_unlocked(alloc: Global, name: &Text, reference: &Text) -> Result<Value, AllocError>
-    ensures { IfOk result (λ value.
-        view value ≡ refusal_value (refusal.NotLocked name.now reference.now)) }
-{
-    json!(in alloc; {
-        "kind": "NotLocked",
-        "name": name.as_str(),
-        "reference": reference.as_str()
-    })
+    json!(in alloc; {"kind": kind, "name": name.as_str(), "reference": reference.as_str()})
 }
 
 fn value_of_out_of_range(alloc: Global, range: &Text, version: &Text) -> Result<Value, AllocError>
