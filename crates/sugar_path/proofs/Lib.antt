@@ -17,4 +17,5 @@ pub mod LentWays
 pub mod Lanes
 pub mod PlaceParts
 pub mod SharedTexts
+pub mod StdPaths
 pub mod Upwards

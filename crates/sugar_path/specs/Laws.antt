@@ -1,5 +1,6 @@
 -- What holds between the path operations, whatever the paths.
-use Rattle.std.specs.Prelude.{◌≡◌, ◌↔◌, ◌⊎◌, true, List, [], ◌∷◌, ◌++◌, ℕ, Some, None}
+use Rattle.std.specs.Prelude.{◌≡◌, ◌↔◌, ◌⊎◌, true, List, [], ◌∷◌, ◌++◌, map, ℕ, Some, None}
+use Rattle.std.specs.Path.{path_join, path_components}
 use Rattle.sugar_path.specs.Path.{Path, IsPath, text_of, clean, is_absolute, join}
 use Rattle.sugar_path.specs.Route.{Route, Rooted, Relative, route_up, route_down, route_of, normal, from_folder}
 use Rattle.sugar_path.specs.Relative.{relative_from}
@@ -46,3 +47,18 @@ RootHasNoParent = (t : List ℕ) → (parent_of t ≡ None) ↔ ((components_of 
 -- read from a clean folder, the place of a text is the clean path that it names
 abbrev pub PlaceIsClean : Type 0
 PlaceIsClean = (cwd : Path) (t : List ℕ) → IsPath cwd → from_folder (text_of cwd) t ≡ text_of (clean cwd t)
+
+-- a path behind a folder, as std's paths have it
+abbrev pub JoinIsStds : Type 0
+JoinIsStds = (b t : List ℕ) → join b t ≡ path_join b t
+
+-- the text that std has for a component
+abbrev pub std_text : Piece → List ℕ
+std_text Root = 47 ∷ []
+std_text Here = 46 ∷ []
+std_text Above = 46 ∷ 46 ∷ []
+std_text (Name n) = n
+
+-- the components of a path, as std's paths have them
+abbrev pub ComponentsAreStds : Type 0
+ComponentsAreStds = (t : List ℕ) → map std_text (components_of t) ≡ path_components t

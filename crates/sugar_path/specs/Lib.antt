@@ -1,5 +1,6 @@
 pub mod Component
 pub mod ComponentTypes
+pub mod Content
 pub mod Front
 pub mod Laws
 pub mod Lent

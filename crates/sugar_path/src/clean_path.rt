@@ -1,21 +1,21 @@
 // A clean absolute path, seen as the list of its names, the last one first.
-ghost use Rattle.std.specs.Prelude.{◌≡◌, [], ◌∷◌, ◌++◌, IfOk, IsTrue, MatchOption, OnOk, OnErr, cond, not};
+ghost use Rattle.std.specs.Prelude.{◌≡◌, [], ◌∷◌, ◌++◌, IfOk, IsTrue, MatchOption, OnOk, OnErr, cond, not, string_bytes};
 ghost use Rattle.sugar_path.specs.Path.{IsName, IsPath, IsCleanPath, has_no_slash, steps, text_of, parent, is_root, is_absolute, by_part, by_parts, parts, path_in, path_eq, clean, below};
 ghost use Rattle.std.specs.Cmp.{partial_equiv_from_equiv};
 ghost use Rattle.std.specs.Hash as fed;
 ghost use Rattle.std.specs.Hash.{same_Alike};
 ghost use Rattle.sugar_path.specs.PathEq.{path_eq-Decides, path_eq-equivalence};
 
+use crate::content::Content;
 use crate::plain::Text;
 use std::alloc::{AllocError, Global};
 use std::fmt;
 use std::hash::{Hash, Hasher};
 use std::marker::Model;
 
-#[derive(Drop)]
 pub struct CleanPath {
     // each name behind a `/`, and nothing for `/` itself
-    steps: String,
+    steps: Content,
 }
 
 impl Model for CleanPath {
@@ -23,12 +23,18 @@ impl Model for CleanPath {
 
     ghost Value = { Path };
 
-    ghost use Rattle.std.specs.Prelude.{string_bytes};
     ghost use Rattle.sugar_path.specs.Path.{names_in, IsSteps};
 
-    ghost view = { λ p. names_in (string_bytes p.steps) };
+    ghost view = { λ p. names_in p.steps };
 
-    ghost invariant = { λ p. IsSteps (string_bytes p.steps) };
+    ghost invariant = { λ p. IsSteps p.steps };
+}
+
+impl Drop for CleanPath {
+    fn drop(self) {
+        let CleanPath { steps } = self;
+        drop(steps);
+    }
 }
 
 impl CleanPath {
@@ -37,7 +43,7 @@ impl CleanPath {
         ensures { result ≡ [] }
     {
         CleanPath {
-            steps: String::new(alloc),
+            steps: Content::owned(String::new(alloc)),
         }
     }
 
@@ -47,8 +53,9 @@ impl CleanPath {
         ensures { IfOk result (λ p. p ≡ path_in text.now) }
     {
         let steps = if text == "/" { "" } else { text };
+        let steps = String::from_str(alloc, steps)?;
         Ok(CleanPath {
-            steps: String::from_str(alloc, steps)?,
+            steps: Content::owned(steps),
         })
     }
 
@@ -57,9 +64,9 @@ impl CleanPath {
         requires { IsCleanPath text }
         ensures { result ≡ path_in text }
     {
-        let mut steps = String::from(text);
+        let mut steps = text.into_content();
         if steps.as_str() == "/" {
-            steps.clear();
+            steps.cut_at(0);
         }
         CleanPath { steps }
     }
@@ -106,11 +113,8 @@ impl CleanPath {
         ensures clean { IsCleanPath result.now }
         ensures names { IsPath self.now }
     {
-        if self.steps.is_empty() {
-            "/"
-        } else {
-            self.steps.as_str()
-        }
+        let steps = self.steps.as_str();
+        if steps.is_empty() { "/" } else { steps }
     }
 
     /// The path as its text.
@@ -119,10 +123,18 @@ impl CleanPath {
         ensures clean { IfOk result IsCleanPath }
     {
         let CleanPath { mut steps } = self;
-        if steps.is_empty() {
-            steps.push_str("/")?;
+        if steps.as_str().is_empty() {
+            steps.push_name("")?;
         }
-        Ok(Text::from(steps))
+        Ok(Text::holding(steps))
+    }
+
+    /// The path's text as a string.
+    pub fn into_string(self, alloc: Global) -> Result<String, AllocError>
+        ensures { IfOk result (λ s. string_bytes s ≡ text_of self) }
+    {
+        let text = self.into_text()?;
+        text.into_string(alloc)
     }
 
     /// The path's text as a value of its own.
@@ -138,7 +150,7 @@ impl CleanPath {
     pub fn is_root(&self) -> bool
         ensures { result ≡ is_root self.now }
     {
-        self.steps.is_empty()
+        self.steps.as_str().is_empty()
     }
 
     /// The last name of the path. `/` has none.
@@ -180,9 +192,8 @@ impl CleanPath {
         requires { IsName name.now }
         ensures { IfOk result (λ p. p ≡ name.now ∷ self.now) }
     {
-        let mut steps = String::from_str(alloc, self.steps.as_str())?;
-        steps.push_str("/")?;
-        steps.push_str(name)?;
+        let mut steps = self.steps.try_clone(alloc)?;
+        steps.push_name(name)?;
         Ok(CleanPath { steps })
     }
 
@@ -192,9 +203,7 @@ impl CleanPath {
         ensures ok { OnOk result (self.new ≡ name.now ∷ self.old) }
         ensures err { OnErr result (self.new ≡ self.old) }
     {
-        self.steps.reserve(name.len() + 1)?;
-        self.steps.push_str("/")?;
-        self.steps.push_str(name)?;
+        self.steps.push_name(name)?;
         Ok(())
     }
 
@@ -203,10 +212,10 @@ impl CleanPath {
         ensures went { result ≡ not (is_root self.old) }
         ensures up { self.new ≡ parent self.old }
     {
-        match self.steps.rfind('/') {
+        match self.steps.as_str().rfind('/') {
             None => false,
             Some(at) => {
-                self.steps.truncate(at);
+                self.steps.cut_at(at);
                 true
             }
         }
@@ -216,7 +225,7 @@ impl CleanPath {
         ensures { IfOk result (λ p. p ≡ self.now) }
     {
         Ok(CleanPath {
-            steps: String::from_str(alloc, self.steps.as_str())?,
+            steps: self.steps.try_clone(alloc)?,
         })
     }
 }

@@ -1,5 +1,5 @@
 // Laws of the path operations, each proved for all paths. The calls have them by their contracts.
-ghost use Rattle.sugar_path.specs.Laws.{NormalTwice, RelativeLeadsThere, RelativeEmptyAtOnePlace, ComponentsLeadThere, ParentLeavesLast, RootHasNoParent, PlaceIsClean};
+ghost use Rattle.sugar_path.specs.Laws.{NormalTwice, RelativeLeadsThere, RelativeEmptyAtOnePlace, ComponentsLeadThere, ParentLeavesLast, RootHasNoParent, PlaceIsClean, JoinIsStds, ComponentsAreStds};
 
 /// A normal form is its own normal form. So `normalize` lends what it answered, where that is UTF-8.
 pub fn normal_twice()
@@ -35,4 +35,14 @@ pub fn root_has_no_parent()
 /// give one text.
 pub fn place_is_clean()
     ensures { PlaceIsClean }
+{}
+
+/// One path behind another is what std's paths give.
+pub fn join_is_stds()
+    ensures { JoinIsStds }
+{}
+
+/// The components of a path are those of std's paths.
+pub fn components_are_stds()
+    ensures { ComponentsAreStds }
 {}

@@ -5,6 +5,7 @@ mod clean;
 mod clean_path;
 mod clean_relative;
 mod component;
+mod content;
 mod faults;
 mod joined;
 pub mod laws;

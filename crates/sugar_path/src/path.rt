@@ -34,7 +34,6 @@ impl<'a> Path<'a> {
 }
 
 /// The bytes of a path, owned.
-#[derive(Drop)]
 pub struct PathBuf {
     bytes: Vec<u8>,
 }
@@ -45,6 +44,13 @@ impl Model for PathBuf {
     ghost Value = { List ℕ };
 
     ghost view = { λ p. p.bytes.items };
+}
+
+impl Drop for PathBuf {
+    fn drop(self) {
+        let PathBuf { bytes } = self;
+        drop(bytes);
+    }
 }
 
 impl PathBuf {
@@ -61,6 +67,14 @@ impl PathBuf {
     {
         Path::of_bytes(self.bytes.as_slice())
     }
+
+    // What it holds.
+    fn into_bytes(self) -> Vec<u8>
+        ensures { result.items ≡ self }
+    {
+        let PathBuf { bytes } = self;
+        bytes
+    }
 }
 
 impl From<Vec<u8>> for PathBuf {
@@ -75,8 +89,7 @@ impl From<PathBuf> for Vec<u8> {
     ghost from_gives = { λ path vec. vec.items ≡ path };
 
     fn from(path: PathBuf) -> Vec<u8> {
-        let PathBuf { bytes } = path;
-        bytes
+        path.into_bytes()
     }
 }
 

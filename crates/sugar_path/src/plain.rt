@@ -2,42 +2,93 @@
 
 ghost use Rattle.std.specs.Prelude.{◌≡◌, ◌++◌, ◌∷◌, [], IfOk, IfErr, OnOk, OnErr, string_bytes};
 
+use crate::content::Content;
 use std::alloc::{AllocError, Global};
 use std::marker::Model;
+use std::rc::RcSlice;
 
-/// An owned text, seen as its bytes.
-#[derive(Drop)]
+/// A text, seen as its bytes: its own, or one whose copies share its content.
 pub struct Text {
-    text: String,
+    content: Content,
 }
 
 impl Model for Text {
-    ghost use Rattle.std.specs.Prelude.{List, ℕ, string_bytes};
+    ghost use Rattle.std.specs.Prelude.{List, ℕ};
 
     ghost Value = { List ℕ };
 
-    ghost view = { λ t. string_bytes t.text };
+    ghost view = { λ t. t.content };
+}
+
+impl Drop for Text {
+    fn drop(self) {
+        let Text { content } = self;
+        drop(content);
+    }
 }
 
 impl Text {
+    /// A text of its own.
     pub fn of(alloc: Global, text: &str) -> Result<Text, AllocError>
         ensures { IfOk result (λ t. t ≡ text.now) }
     {
-        Ok(Text {
-            text: String::from_str(alloc, text)?,
-        })
+        let text = String::from_str(alloc, text)?;
+        Ok(Text::from(text))
+    }
+
+    /// A text whose copies share its content.
+    pub fn shared(alloc: Global, text: &str) -> Result<Text, AllocError>
+        ensures { IfOk result (λ t. t ≡ text.now) }
+    {
+        let text = String::from_str(alloc, text)?;
+        let content = Content::shared(alloc, text)?;
+        Ok(Text { content })
     }
 
     pub fn as_str(&self) -> &str
         ensures { result.now ≡ self.now }
     {
-        self.text.as_str()
+        self.content.as_str()
     }
 
+    /// An equal text. The copy of a shared one shares its content.
     pub fn try_clone(&self, alloc: Global) -> Result<Text, AllocError>
         ensures { IfOk result (λ t. t ≡ self.now) }
     {
-        Text::of(alloc, self.as_str())
+        let content = self.content.try_clone(alloc)?;
+        Ok(Text { content })
+    }
+
+    /// An equal text whose copies share its content. The content itself isn't copied.
+    pub fn into_shared(self) -> Result<Text, AllocError>
+        ensures { IfOk result (λ t. t ≡ self) }
+    {
+        let Text { content } = self;
+        let content = content.into_shared()?;
+        Ok(Text { content })
+    }
+
+    /// The text as a string, which is a copy where copies share the content.
+    pub fn into_string(self, alloc: Global) -> Result<String, AllocError>
+        ensures { IfOk result (λ s. string_bytes s ≡ self) }
+    {
+        let Text { content } = self;
+        content.into_string(alloc)
+    }
+
+    // A text that holds this.
+    pub(crate) fn holding(content: Content) -> Text
+        ensures { result ≡ content }
+    {
+        Text { content }
+    }
+
+    // What it holds.
+    pub(crate) fn into_content(self) -> Content
+        ensures { result ≡ self }
+    {
+        let Text { content } = self;
+        content
     }
 }
 
@@ -45,31 +96,31 @@ impl From<String> for Text {
     ghost from_gives = { λ string text. text ≡ string_bytes string };
 
     fn from(text: String) -> Text {
-        Text { text }
+        Text {
+            content: Content::owned(text),
+        }
     }
 }
 
-impl From<Text> for String {
-    ghost from_gives = { λ text string. string_bytes string ≡ text };
-
-    fn from(text: Text) -> String {
-        let Text { text } = text;
-        text
-    }
-}
-
-/// Owned bytes, seen as their list.
-#[derive(Drop)]
+/// Bytes, seen as their list. Copies share the content.
 pub struct Bytes {
-    bytes: Vec<u8>,
+    bytes: RcSlice<u8, Global>,
 }
 
 impl Model for Bytes {
     ghost use Rattle.std.specs.Prelude.{List, ℕ};
+    ghost use Rattle.std.specs.Rc.{rc_slice_items};
 
     ghost Value = { List ℕ };
 
-    ghost view = { λ b. b.bytes.items };
+    ghost view = { λ b. rc_slice_items b.bytes };
+}
+
+impl Drop for Bytes {
+    fn drop(self) {
+        let Bytes { bytes } = self;
+        drop(bytes);
+    }
 }
 
 impl Bytes {
@@ -77,7 +128,16 @@ impl Bytes {
         ensures { IfOk result (λ b. b ≡ bytes.now) }
     {
         Ok(Bytes {
-            bytes: Vec::from_slice(alloc, bytes)?,
+            bytes: RcSlice::from_slice(alloc, bytes)?,
+        })
+    }
+
+    /// The bytes of a vector, which aren't copied.
+    pub fn from_vec(bytes: Vec<u8>) -> Result<Bytes, AllocError>
+        ensures { IfOk result (λ b. b ≡ bytes.items) }
+    {
+        Ok(Bytes {
+            bytes: RcSlice::from_vec(bytes)?,
         })
     }
 
@@ -87,32 +147,17 @@ impl Bytes {
         self.bytes.as_slice()
     }
 
-    pub fn try_clone(&self, alloc: Global) -> Result<Bytes, AllocError>
+    /// Equal bytes, which share the content.
+    pub fn try_clone(&self, _alloc: Global) -> Result<Bytes, AllocError>
         ensures { IfOk result (λ b. b ≡ self.now) }
     {
-        Bytes::of(alloc, self.as_slice())
-    }
-}
-
-impl From<Vec<u8>> for Bytes {
-    ghost from_gives = { λ vec bytes. bytes ≡ vec.items };
-
-    fn from(bytes: Vec<u8>) -> Bytes {
-        Bytes { bytes }
-    }
-}
-
-impl From<Bytes> for Vec<u8> {
-    ghost from_gives = { λ bytes vec. vec.items ≡ bytes };
-
-    fn from(bytes: Bytes) -> Vec<u8> {
-        let Bytes { bytes } = bytes;
-        bytes
+        Ok(Bytes {
+            bytes: self.bytes.clone()?,
+        })
     }
 }
 
 /// An owned list, seen as its members in order.
-#[derive(Drop)]
 pub struct List<T> {
     members: Vec<T>,
 }
@@ -123,6 +168,13 @@ impl<T> Model for List<T> {
     ghost Value = { prelude.List T };
 
     ghost view = { λ l. l.members.items };
+}
+
+impl<T: Drop> Drop for List<T> {
+    fn drop(self) {
+        let List { members } = self;
+        drop(members);
+    }
 }
 
 impl<T> List<T> {
@@ -152,6 +204,14 @@ impl<T> List<T> {
     {
         self.members.as_slice()
     }
+
+    // What it holds.
+    fn into_members(self) -> Vec<T>
+        ensures { result.items ≡ self }
+    {
+        let List { members } = self;
+        members
+    }
 }
 
 impl<T> From<Vec<T>> for List<T> {
@@ -166,7 +226,6 @@ impl<T> From<List<T>> for Vec<T> {
     ghost from_gives = { λ list vec. vec.items ≡ list };
 
     fn from(list: List<T>) -> Vec<T> {
-        let List { members } = list;
-        members
+        list.into_members()
     }
 }

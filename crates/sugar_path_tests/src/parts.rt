@@ -230,6 +230,29 @@ fn plain_values_keep_what_they_hold(rt: HostRuntime) -> Result<(), Fail> {
 }
 
 #[test]
+fn shared_texts_are_equal_texts(rt: HostRuntime) -> Result<(), Fail> {
+    let text = Text::shared(rt.alloc(), "/a/b")?;
+    let copy = text.try_clone(rt.alloc())?;
+    let own = Text::of(rt.alloc(), "/a/b")?.into_shared()?;
+    assert!(rt; copy == text && own == text);
+    assert_eq!(rt; own.into_string(rt.alloc())?.as_str(), "/a/b");
+    assert!(rt; is_clean(copy.as_str()));
+    let mut path = CleanPath::from_clean(copy);
+    assert!(rt; path.go_up());
+    path.go_down("c")?;
+    assert_eq!(rt; path.into_string(rt.alloc())?.as_str(), "/a/c");
+    assert_eq!(rt; text.as_str(), "/a/b");
+    Ok(())
+}
+
+#[test]
+fn bytes_are_those_of_a_vector(rt: HostRuntime) -> Result<(), Fail> {
+    let bytes = Bytes::from_vec(Vec::from_slice(rt.alloc(), b"ab")?)?;
+    assert_eq!(rt; bytes.as_slice(), b"ab".as_slice());
+    Ok(())
+}
+
+#[test]
 fn lists_grow(rt: HostRuntime) -> Result<(), Fail> {
     let mut list = List::new(rt.alloc());
     assert!(rt; list.push(7).is_ok());

@@ -1,6 +1,5 @@
 -- What stands above a path, and the test of a file's path.
-use Rattle.std.proofs.Common.{◌≡◌, ◌≢◌, ◌<◌, ◌+◌, ℕ, Bool, true, false, IsTrue, List, [], ◌∷◌, ◌++◌, take, drop, length, get_or, bytes_eq, refl, sym, ap, ◌∙◌, arith, append_assoc, ◌⊎◌, inl, inr, length-append, length-take}
-use Rattle.std.proofs.Math.Seq.{get_or-append_seam}
+use Rattle.std.proofs.Common.{◌≡◌, ◌<◌, ◌+◌, ℕ, Bool, true, false, IsTrue, List, [], ◌∷◌, ◌++◌, take, drop, length, get_or, bytes_eq, refl, sym, ap, ◌∙◌, arith, append_assoc, ◌⊎◌, inl, inr, length-append}
 use Rattle.std.proofs.lemmas.Bool.Decides.{Decides-eqb}
 use Rattle.std.proofs.lemmas.Slice.Eq.{bytes_eq-Decides, starts_is}
 use Rattle.std.proofs.lemmas.List.{take-append-drop, drop_more}
@@ -59,30 +58,3 @@ of_two_above (c ∷ a) (d ∷ b) x y e =
 -- a path cut at its last slash: the part before it stands above, and all that stands above the path is that part or above it
 pub cut-above : (p : List ℕ) (k : ℕ) → k < length p → get_or p k 0 ≡ 47 → stands_above (take k p) p ≡ true
 cut-above p k lt is = is-above (take k p) p (drop (k + 1) p) (sym (take-append-drop k p) ∙ ap (λ s. take k p ++ s) (drop_more p k 0 lt ∙ ap (λ c. c ∷ drop (k + 1) p) is))
-
-pub above-cut : (q p : List ℕ) (k : ℕ) → k < length p → get_or p k 0 ≡ 47 → ((i : ℕ) → k < i → i < length p → get_or p i 0 ≢ 47) → stands_above q p ≡ true → (q ≡ take k p) ⊎ (stands_above q (take k p) ≡ true)
-above-cut q p k lt is last h =
-    let first = above-is q p h in
-    let second = above-is (take k p) p (cut-above p k lt is) in
-    by_case (of_two_above q (take k p) first.0 second.0 (sym first.1 ∙ second.1))
-  where
-    by_case : (q ≡ take k p) ⊎ ((stands_above q (take k p) ≡ true) ⊎ (stands_above (take k p) q ≡ true)) → (q ≡ take k p) ⊎ (stands_above q (take k p) ≡ true)
-    by_case (inl w) = inl w
-    by_case (inr (inl w)) = inr w
-    by_case (inr (inr w)) =
-        let is' = above-is q p h in
-        let longer = above-shorter (take k p) q w in
-        let inside : length q < length p = above-shorter q p h in
-        let at : get_or p (length q) 0 ≡ 47 = rw is'.1 (get_or-append_seam q 47 is'.0 0) in
-        absurd (last (length q) (omega (arith, length-take k p)) inside at)
-
--- with no slash nothing stands above
-pub none-above : (q p : List ℕ) → ((i : ℕ) → i < length p → get_or p i 0 ≢ 47) → stands_above q p ≡ false
-none-above q p none = by_test (stands_above q p) refl
-  where
-    by_test : (b : Bool) → stands_above q p ≡ b → stands_above q p ≡ false
-    by_test true e =
-        let is = above-is q p e in
-        let at : get_or p (length q) 0 ≡ 47 = rw is.1 (get_or-append_seam q 47 is.0 0) in
-        absurd (none (length q) (above-shorter q p e) at)
-    by_test false e = e

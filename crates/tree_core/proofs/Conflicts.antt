@@ -12,14 +12,14 @@ use Rattle.tree_core.specs.Tree.{Files, TreeFile, IsValidTree, IsFilePath, is_fi
 use Rattle.tree_core.specs.Memory.{IsStore, with_file, NoneAbove, HasBelow, conflicts, conflict}
 use Rattle.tree_core.proofs.Above.{above-is, above-trans, above-shorter, of_two_above}
 
-abbrev same_text : List ℕ → List ℕ → Bool
+abbrev pub same_text : List ℕ → List ℕ → Bool
 same_text = eq_by_cmp (slice_cmp nat_cmp)
 
-same_text-Decides : (a b : List ℕ) → Decides (same_text a b) (a ≡ b)
+pub same_text-Decides : (a b : List ℕ) → Decides (same_text a b) (a ≡ b)
 same_text-Decides a b = (λ h. (bytes_eq-Decides a b).0 (sym (is_eq-slice_cmp a b) ∙ h), λ e. is_eq-slice_cmp a b ∙ (bytes_eq-Decides a b).1 e)
 
 -- the list has the text
-abbrev Has : List (List ℕ) → List ℕ → Type 0
+abbrev pub Has : List (List ℕ) → List ℕ → Type 0
 Has ks q = list_any (same_text q) ks ≡ true
 
 pub has-key : (t : Files) (q : List ℕ) → is_file t q ≡ true → Has (finite.keys t) q
@@ -36,14 +36,14 @@ or_left : (a b : Bool) → a ≡ true → (a || b) ≡ true
 or_left true b h = refl
 or_left false b h = cc
 
-or_cases : (a b : Bool) → (a || b) ≡ true → (a ≡ true) ⊎ (b ≡ true)
+pub or_cases : (a b : Bool) → (a || b) ≡ true → (a ≡ true) ⊎ (b ≡ true)
 or_cases true b h = inl refl
 or_cases false b h = inr h
 
-has-head : (k : List ℕ) (ks : List (List ℕ)) → Has (k ∷ ks) k
+pub has-head : (k : List ℕ) (ks : List (List ℕ)) → Has (k ∷ ks) k
 has-head k ks = or_left (same_text k k) (list_any (same_text k) ks) ((same_text-Decides k k).1 refl)
 
-has-tail : (k q : List ℕ) (ks : List (List ℕ)) → Has ks q → Has (k ∷ ks) q
+pub has-tail : (k q : List ℕ) (ks : List (List ℕ)) → Has ks q → Has (k ∷ ks) q
 has-tail k q ks h = or_right (same_text q k) (list_any (same_text q) ks) h
 
 -- the only one that passes is the first that does
@@ -119,22 +119,9 @@ above-files t p q valid below there = by_test (stands_above q p) refl
         lower w has false e = refl
     by_test false above = refl
 
--- none above a path with a file below, and none at it
+-- none above a path with a file below
 pub none-above_folder : (t : Files) (p : List ℕ) → IsValidTree t → HasBelow t p → NoneAbove t p
 none-above_folder t p valid below = λ q there. above-files t p q valid below there
-
-no_file-at_folder : (t : Files) (p : List ℕ) → IsValidTree t → HasBelow t p → is_file t p ≡ false
-no_file-at_folder t p valid below = by_test (is_file t p) refl
-  where
-    by_test : (b : Bool) → is_file t p ≡ b → b ≡ false
-    by_test true there =
-        let none = none-passes (stands_above p) (finite.keys t) (λ w has. valid.apart p w there (key-has t w has)) in
-        cc
-    by_test false there = refl
-
-pub none-at_folder : (t : Files) (q p : List ℕ) → IsValidTree t → HasBelow t p → is_file t q ≡ true → (q ≡ p) ⊎ (stands_above q p ≡ true) → ⊥
-none-at_folder t q p valid below there (inl same) = let none : is_file t q ≡ false = rw same (no_file-at_folder t p valid below) in cc
-none-at_folder t q p valid below there (inr above) = let none = none-above_folder t p valid below q there in cc
 
 -- what is found above, or below, is in the way
 pub conflict-is : (t : Files) (p : List ℕ) (o : Option (Bor (List ℕ))) → IsValidTree t → find (stands_above p) (finite.keys t) ≡ None → IfSome o (λ k. is_file t k.now ≡ true) → IfSome o (λ k. stands_above k.now p ≡ true) → IfNone o (NoneAbove t p) → option_map (λ k. k.now) o ≡ conflict t p

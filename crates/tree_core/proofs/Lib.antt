@@ -1,4 +1,5 @@
 pub mod Replies
+pub mod QuestionKinds
 pub mod Places
 pub mod Recorded
 pub mod Asking
@@ -8,6 +9,7 @@ pub mod Prefixes
 pub mod Keys
 pub mod Above
 pub mod Conflicts
+pub mod Before
 pub mod MemoryReplies
 pub mod RowOrders
 pub mod RowLaws

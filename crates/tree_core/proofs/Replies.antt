@@ -1,6 +1,6 @@
 -- What one more step of a trail says of a question.
 use Rattle.sugar_path.proofs.Bools.{and_left, and_right}
-use Rattle.std.proofs.Common.{◌≡◌, Bool, true, false, cond, ◌⊎◌, inl, inr, refl, sym, ap, ◌∙◌, List, [], ◌∷◌, ◌++◌, Result, Ok, Err, OnOk, OnErr, Some, None, is_ok, subst}
+use Rattle.std.proofs.Common.{◌≡◌, ◌<◌, ℕ, zero, suc, length, get_or, arith, Bool, true, false, cond, ◌⊎◌, inl, inr, refl, sym, ap, ◌∙◌, List, [], ◌∷◌, ◌++◌, Result, Ok, Err, OnOk, OnErr, Some, None, is_ok, subst}
 use Rattle.std.proofs.lemmas.Slice.Eq.{bytes_eq-Decides}
 use Rattle.tree_core.specs.declared.question.Question.{Question}
 use Rattle.tree_core.specs.declared.question.Question.TheVariants.{File, Dir, Exists, Read, Canon}
@@ -81,6 +81,11 @@ fits-reply_in (s ∷ steps) q r all is =
       | inl w ↦ let same : s.0 ≡ q = question_eq-is s.0 q w.0 in let value : s.1 ≡ r = cc in rw (← same, ← value) (and_left _ _ all)
       | inr w ↦ fits-reply_in steps q r (and_right (fits s.0 s.1) _ all) w.1
     ]
+
+pub fits-at : (steps : List (Question × Reply)) (i : ℕ) (d : Question × Reply) → all_fit steps ≡ true → i < length steps → fits (get_or steps i d).0 (get_or steps i d).1 ≡ true
+fits-at [] i d all lt = absurd (omega (arith, lt))
+fits-at (s ∷ steps) zero d all lt = and_left (fits s.0 s.1) _ all
+fits-at (s ∷ steps) (suc i) d all lt = fits-at steps i d (and_right (fits s.0 s.1) _ all) (omega (arith, lt))
 
 pub all_fit-push : (steps : List (Question × Reply)) (q : Question) (r : Reply) → all_fit steps ≡ true → fits q r ≡ true → all_fit (steps ++ (q, r) ∷ []) ≡ true
 all_fit-push [] q r all fit = rw fit

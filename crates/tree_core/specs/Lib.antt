@@ -1,4 +1,5 @@
 pub mod Question
+pub mod QuestionKind
 pub mod Places
 pub mod Tree
 pub mod Plan
@@ -7,7 +8,7 @@ pub mod Resolving
 pub mod First
 pub mod Rows
 pub mod Results
-pub mod Recorder
 pub mod RecorderView
 pub mod Builtins
 pub mod Memory
+pub mod Before

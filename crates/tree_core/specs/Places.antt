@@ -4,22 +4,15 @@ use Rattle.std.specs.List.{fold, position, position_from}
 use Rattle.std.specs.Hash as fed
 use Rattle.std.specs.Hash.FoldHasher as folding
 use Rattle.tree_core.specs.declared.question.Question.{Question}
-use Rattle.tree_core.specs.declared.question.Question.TheVariants.{File, Dir, Exists, Read, Canon}
 use Rattle.tree_core.specs.declared.question.Reply.{Reply}
 use Rattle.tree_core.specs.Question.{path_asked, question_eq, all_fit}
-
-abbrev pub kind_number : Question → ℕ
-kind_number (File _) = 0
-kind_number (Dir _) = 1
-kind_number (Exists _) = 2
-kind_number (Read _) = 3
-kind_number (Canon _) = 4
+use Rattle.tree_core.specs.QuestionKind.{kind_of, number_of}
 
 -- a hash of a question's kind and path
 unfoldable pub hash_of : Question → ℕ
 hash_of q =
     folding.finish
-    (fold folding.write folding.initial (fed.u8 (kind_number q) ++ fed.str (path_asked q)))
+    (fold folding.write folding.initial (fed.u8 (number_of (kind_of q)) ++ fed.str (path_asked q)))
 
 -- the first place of a question with a hash
 abbrev pub place_with : List (Question × Reply) → ℕ → Option ℕ

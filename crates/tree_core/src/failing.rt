@@ -13,7 +13,6 @@ use std::marker::Model;
 use sugar_path::{Bytes, List, Text};
 
 /// A tree in memory that refuses the questions with some numbers, and counts its refusals.
-#[derive(Drop)]
 pub struct FailingTree {
     tree: MemoryTree,
     calls: List<u64>,
@@ -28,6 +27,18 @@ impl Model for FailingTree {
     ghost coded = { failing_code };
 
     ghost view = { λ m. record { memory = m.tree; calls = m.calls; faults = m.faults } };
+}
+
+impl Drop for FailingTree {
+    fn drop(self) {
+        let FailingTree {
+            tree,
+            calls,
+            faults: _,
+        } = self;
+        drop(tree);
+        drop(calls);
+    }
 }
 
 impl FailingTree {

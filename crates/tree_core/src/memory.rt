@@ -1,8 +1,12 @@
 // A tree in memory, which stands for exactly its files.
-ghost use Rattle.std.specs.Prelude.{◌≡◌, ◌≢◌, ◌++◌, ◌∷◌, ◌+◌, ◌<◌, ◌≤◌, [], false, None, Some, IsOk, OnOk, OnErr, IfOk, IfErr, IfNone, IsTrue, IfSome, ◌||◌, is_some, nat_eq, length, option_map, string_bytes, string_capacity};
+ghost use Rattle.std.specs.Prelude.{◌≡◌, ◌≢◌, ◌++◌, ◌∷◌, ◌+◌, ◌<◌, ◌≤◌, [], false, None, Some, IsOk, OnOk, OnErr, IfOk, IfErr, IfNone, IsTrue, IfSome, if◌then◌else◌, ◌||◌, is_some, nat_eq, length, option_map, string_bytes, string_capacity};
 ghost use Rattle.std.specs.FinMap as map;
 ghost use Rattle.std.specs.List.{find, starts_with};
+ghost use Rattle.std.specs.Ordering.{nat_cmp};
+ghost use Rattle.std.specs.Cmp.Lexicographic.{slice_cmp};
 ghost use Rattle.sugar_path.specs.Path.{IsCleanPath};
+ghost use Rattle.std.specs.declared.cmp.Ordering.TheVariants.{Less};
+ghost use Rattle.tree_core.specs.Before.{HasNoLater};
 ghost use Rattle.tree_core.specs.Memory.{files_of, conflict, refusal, with_file, NoneAbove, HasBelow, IsReplied};
 ghost use Rattle.tree_core.specs.declared.memory.PutError.TheVariants.{NoMemory};
 ghost use Rattle.tree_core.specs.Tree.{IsValidTree, one_more, is_file, is_folder, is_file_path, stands_above};
@@ -14,11 +18,10 @@ use std::alloc::{AllocError, AllocFailed, Global};
 use std::collections::BTreeMap;
 use std::marker::Model;
 use std::ops::Bound;
-use sugar_path::{Bytes, List, Text, is_clean};
+use sugar_path::{Bytes, List, Text, common_prefix_len, is_clean};
 use thiserror::Error;
 
 /// Files by their paths. Its questions are answered without memory, but for the copies of bytes and names.
-#[derive(Drop)]
 pub struct MemoryTree {
     alloc: Global,
     files: BTreeMap<String, TreeFile>,
@@ -38,6 +41,19 @@ impl Model for MemoryTree {
     ghost view = { λ m. record { files = files_of m.files.entries; questions = m.questions } };
 
     ghost invariant = { λ m. IsStore (files_of m.files.entries) (string_capacity m.prefix) };
+}
+
+impl Drop for MemoryTree {
+    fn drop(self) {
+        let MemoryTree {
+            alloc: _,
+            files,
+            prefix,
+            questions: _,
+        } = self;
+        drop(files);
+        drop(prefix);
+    }
 }
 
 /// Why a file is refused.
@@ -100,16 +116,53 @@ impl MemoryTree {
             e ≢ NoMemory → refusal self.old.files path.now canonical.now ≡ Some e) }
         ensures err { OnErr result (self.new ≡ self.old) }
     {
+        let file = TreeFile {
+            content: Bytes::of(self.alloc, bytes)?,
+            canonical: Text::shared(self.alloc, canonical)?,
+        };
+        self.put_file(path, file)
+    }
+
+    /// The same of bytes and a name that are shared with the caller: where their copies share, nothing of them is copied.
+    pub fn put_shared(
+        &mut self,
+        path: &Text,
+        content: &Bytes,
+        canonical: &Text,
+    ) -> Result<(), PutError>
+        ensures ok { OnOk result (self.new ≡ record self.old {
+          files = with_file self.old.files path.now
+              (record { content = content.now; canonical = canonical.now });
+        }) }
+        ensures fits { OnOk result (refusal self.old.files path.now canonical.now ≡ None) }
+        ensures refused { IfErr result (λ e.
+            e ≢ NoMemory → refusal self.old.files path.now canonical.now ≡ Some e) }
+        ensures err { OnErr result (self.new ≡ self.old) }
+    {
+        let file = TreeFile {
+            content: content.try_clone(self.alloc)?,
+            canonical: canonical.try_clone(self.alloc)?,
+        };
+        self.put_file(path.as_str(), file)
+    }
+
+    // Puts a file at a path.
+    fn put_file(&mut self, path: &str, file: TreeFile) -> Result<(), PutError>
+        ensures ok { OnOk result (self.new ≡ record self.old {
+          files = with_file self.old.files path.now file;
+        }) }
+        ensures fits { OnOk result (refusal self.old.files path.now file.canonical ≡ None) }
+        ensures refused { IfErr result (λ e.
+            e ≢ NoMemory → refusal self.old.files path.now file.canonical ≡ Some e) }
+        ensures err { OnErr result (self.new ≡ self.old) }
+    {
+        let canonical = file.canonical.as_str();
         if !is_file_path(path) || !is_file_path(canonical) {
             return Err(PutError::Unclean);
         }
         let key = String::from_str(self.alloc, path)?;
-        let file = TreeFile {
-            content: Bytes::of(self.alloc, bytes)?,
-            canonical: Text::of(self.alloc, canonical)?,
-        };
         fill(&mut self.prefix, path)?;
-        if let Some(other) = conflicting(&self.files, path, &mut self.prefix) {
+        if let Some(other) = conflicting(&self.files, path, &self.prefix) {
             return Err(PutError::Conflict {
                 other: Text::of(self.alloc, other)?,
             });
@@ -301,27 +354,50 @@ fn finds_below(files: &BTreeMap<String, TreeFile>, path: &str, prefix: &mut Stri
     first_with_prefix(files, prefix).is_some()
 }
 
-// The nearest file above a path. No file is a folder or stands above one, so the search ends at the first folder above.
+// The last path of a file, in byte order, in front of a text.
+fn last_before<'a>(files: &'a BTreeMap<String, TreeFile>, text: &String) -> Option<&'a str>
+    ensures file { IfSome result (λ p. IsTrue (is_file (files_of files.now.entries) p.now)) }
+    ensures before { IfSome result (λ p. slice_cmp nat_cmp p.now (string_bytes text.now) ≡ Less) }
+    ensures last { HasNoLater (files_of files.now.entries) (string_bytes text.now)
+        (option_map (λ p. p.now) result) }
+{
+    match files
+        .range((Bound::Unbounded, Bound::Excluded(text)))
+        .next_back()
+    {
+        None => None,
+        Some((path, _)) => Some(path.as_str()),
+    }
+}
+
+// The file above a path, whose text before those below is given. In byte order, what stands between that file and the path
+// begins with the file's path too; so the file's path is what the path shares with the last one in front of it.
 fn nearest_above<'a>(
     files: &BTreeMap<String, TreeFile>,
     path: &'a str,
-    prefix: &mut String,
+    prefix: &String,
 ) -> Option<&'a str>
-    requires { IsValidTree (files_of files.now.entries) }
+    requires valid { IsValidTree (files_of files.now.entries) }
+    requires prefix { string_bytes prefix.now ≡ path.now ++ 47 ∷ [] }
     ensures file { IfSome result (λ p. IsTrue (is_file (files_of files.now.entries) p.now)) }
     ensures above { IfSome result (λ p. IsTrue (stands_above p.now path.now)) }
     ensures none { IfNone result (NoneAbove (files_of files.now.entries) path.now) }
-    ensures room { string_capacity prefix.old ≤ string_capacity prefix.new }
 {
-    let mut folder = path;
-    while let Some(at) = folder.rfind('/') {
-        folder = &folder[..at];
-        if finds_below(files, folder, prefix) {
-            return None;
-        }
-        if files.contains_key(folder) {
-            return Some(folder);
-        }
+    let before = last_before(files, prefix)?;
+    let shared = common_prefix_len(path.as_bytes(), before.as_bytes());
+    match path.as_bytes().get(shared) {
+        Some(byte) if *byte == b'/' => file_at(files, &path[..shared]),
+        _ => None,
+    }
+}
+
+// A path, where it is that of a file.
+fn file_at<'a>(files: &BTreeMap<String, TreeFile>, path: &'a str) -> Option<&'a str>
+    ensures { option_map (λ p. p.now) result ≡ (if is_file (files_of files.now.entries) path.now
+        then Some path.now else None) }
+{
+    if files.contains_key(path) {
+        return Some(path);
     }
     None
 }
@@ -330,13 +406,11 @@ fn nearest_above<'a>(
 fn conflicting<'a>(
     files: &'a BTreeMap<String, TreeFile>,
     path: &'a str,
-    prefix: &mut String,
+    prefix: &String,
 ) -> Option<&'a str>
     requires valid { IsValidTree (files_of files.now.entries) }
-    requires prefix { string_bytes prefix.old ≡ path.now ++ 47 ∷ [] }
-    ensures conflict { option_map (λ p. p.now) result
-        ≡ conflict (files_of files.now.entries) path.now }
-    ensures room { string_capacity prefix.old ≤ string_capacity prefix.new }
+    requires prefix { string_bytes prefix.now ≡ path.now ++ 47 ∷ [] }
+    ensures { option_map (λ p. p.now) result ≡ conflict (files_of files.now.entries) path.now }
 {
     match first_with_prefix(files, prefix) {
         Some(below) => Some(below),

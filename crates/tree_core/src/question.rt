@@ -1,6 +1,7 @@
 // A question that a tree is asked, and its reply.
 ghost use Rattle.std.specs.Prelude.{◌≡◌, IfOk};
 ghost use Rattle.tree_core.specs.Question.{path_asked};
+ghost use Rattle.tree_core.specs.QuestionKind.{kind_of, question_on};
 
 use std::alloc::{AllocError, Global};
 use sugar_path::{Bytes, Text};
@@ -18,6 +19,31 @@ pub enum Question {
     Read(Text),
     /// The canonical name of the file.
     Canon(Text),
+}
+
+/// What a question asks of its path.
+#[derive(Clone, Copy)]
+pub(crate) enum QuestionKind {
+    File,
+    Dir,
+    Exists,
+    Read,
+    Canon,
+}
+
+impl QuestionKind {
+    // The question of this kind on a path.
+    pub(crate) fn on(self, path: Text) -> Question
+        ensures { result ≡ question_on self path }
+    {
+        match self {
+            QuestionKind::File => Question::File(path),
+            QuestionKind::Dir => Question::Dir(path),
+            QuestionKind::Exists => Question::Exists(path),
+            QuestionKind::Read => Question::Read(path),
+            QuestionKind::Canon => Question::Canon(path),
+        }
+    }
 }
 
 /// What a tree replies: a flag to the first three questions, bytes to `Read` and a name to `Canon`.
@@ -39,6 +65,19 @@ impl Question {
             Question::Exists(p) => p.as_str(),
             Question::Read(p) => p.as_str(),
             Question::Canon(p) => p.as_str(),
+        }
+    }
+
+    // What it asks.
+    pub(crate) fn kind(&self) -> QuestionKind
+        ensures { result ≡ kind_of self.now }
+    {
+        match self {
+            Question::File(_) => QuestionKind::File,
+            Question::Dir(_) => QuestionKind::Dir,
+            Question::Exists(_) => QuestionKind::Exists,
+            Question::Read(_) => QuestionKind::Read,
+            Question::Canon(_) => QuestionKind::Canon,
         }
     }
 

@@ -2,12 +2,13 @@
 ghost use Rattle.std.specs.Prelude.{◌≡◌, IsTrue, IfOk, OnOk, OnErr, IfErr, Some, None, IsSome, [], ◌∷◌, ◌++◌};
 ghost use Rattle.sugar_path.specs.Path.{IsCleanPath};
 ghost use Rattle.tree_core.specs.Question.{reply_in, fits};
-ghost use Rattle.tree_core.specs.Recorder.{flag_question};
+ghost use Rattle.tree_core.specs.QuestionKind.{question_on, IsOfFlag};
 ghost use Rattle.tree_core.specs.declared.tree.ReadError.TheVariants.{NoMemory};
 ghost use Rattle.tree_core.specs.Tree.{Files, Agrees, IsPut};
 ghost use Rattle.tree_core.specs.declared.question.Question.TheVariants.{File, Dir, Exists, Read, Canon};
 ghost use Rattle.tree_core.specs.declared.question.Reply.TheVariants.{Flag, Bytes as BytesReply, Name};
 
+use crate::question::QuestionKind;
 use crate::{Question, ReadError, Reply, Trail, Tree};
 use std::alloc::{AllocError, Global};
 use sugar_path::{Bytes, Text};
@@ -46,7 +47,7 @@ impl<'t, T: Tree> Recorder<'t, T> {
         ensures untouched { IsSome (reply_in (trail_of self.old) (File p.now))
             → tree_of self.new ≡ tree_of self.old }
     {
-        self.flag(FlagQuestion::File, p)
+        self.flag(QuestionKind::File, p)
     }
 
     /// Whether there is a folder.
@@ -58,7 +59,7 @@ impl<'t, T: Tree> Recorder<'t, T> {
         ensures untouched { IsSome (reply_in (trail_of self.old) (Dir p.now))
             → tree_of self.new ≡ tree_of self.old }
     {
-        self.flag(FlagQuestion::Dir, p)
+        self.flag(QuestionKind::Dir, p)
     }
 
     /// Whether there is a file or a folder.
@@ -70,7 +71,7 @@ impl<'t, T: Tree> Recorder<'t, T> {
         ensures untouched { IsSome (reply_in (trail_of self.old) (Exists p.now))
             → tree_of self.new ≡ tree_of self.old }
     {
-        self.flag(FlagQuestion::Exists, p)
+        self.flag(QuestionKind::Exists, p)
     }
 
     /// The bytes of a file.
@@ -82,13 +83,13 @@ impl<'t, T: Tree> Recorder<'t, T> {
         ensures untouched { IsSome (reply_in (trail_of self.old) (Read p.now))
             → tree_of self.new ≡ tree_of self.old }
     {
-        let question = Question::Read(Text::of(self.alloc, p)?);
-        if let Some(reply) = self.trail.reply_to(&question) {
+        if let Some(reply) = self.trail.reply_on(QuestionKind::Read, p) {
             return match reply {
                 Reply::Bytes(bytes) => Ok(copy_of_bytes(self.alloc, bytes)?),
                 _ => unreachable!(),
             };
         }
+        let question = Question::Read(Text::shared(self.alloc, p)?);
         let bytes = self.tree.read(self.alloc, p)?;
         let copy = copy_of_bytes(self.alloc, &bytes)?;
         note(&mut self.trail, question, Reply::Bytes(copy))?;
@@ -104,13 +105,13 @@ impl<'t, T: Tree> Recorder<'t, T> {
         ensures untouched { IsSome (reply_in (trail_of self.old) (Canon p.now))
             → tree_of self.new ≡ tree_of self.old }
     {
-        let question = Question::Canon(Text::of(self.alloc, p)?);
-        if let Some(reply) = self.trail.reply_to(&question) {
+        if let Some(reply) = self.trail.reply_on(QuestionKind::Canon, p) {
             return match reply {
                 Reply::Name(name) => Ok(copy_of_name(self.alloc, name)?),
                 _ => unreachable!(),
             };
         }
+        let question = Question::Canon(Text::shared(self.alloc, p)?);
         let name = self.tree.canonical(self.alloc, p)?;
         let copy = copy_of_name(self.alloc, &name)?;
         note(&mut self.trail, question, Reply::Name(copy))?;
@@ -118,21 +119,22 @@ impl<'t, T: Tree> Recorder<'t, T> {
     }
 
     // The reply to a question with a flag: the one recorded, or the tree's, which is then recorded.
-    fn flag(&mut self, kind: FlagQuestion, p: &str) -> Result<bool, ReadError>
-        requires { IsCleanPath p.now }
-        ensures recorded { IsRecorded Flag (flag_question kind p.now)
+    fn flag(&mut self, kind: QuestionKind, p: &str) -> Result<bool, ReadError>
+        requires path { IsCleanPath p.now }
+        requires flag { IsOfFlag kind }
+        ensures recorded { IsRecorded Flag (question_on kind p.now)
             (asking_of self.old) (asking_of self.new) result }
         // Where the trail has the reply, the lent tree is left as it is.
-        ensures untouched { IsSome (reply_in (trail_of self.old) (flag_question kind p.now))
+        ensures untouched { IsSome (reply_in (trail_of self.old) (question_on kind p.now))
             → tree_of self.new ≡ tree_of self.old }
     {
-        let question = question_on(kind, Text::of(self.alloc, p)?);
-        if let Some(reply) = self.trail.reply_to(&question) {
+        if let Some(reply) = self.trail.reply_on(kind, p) {
             return match reply {
                 Reply::Flag(b) => Ok(*b),
                 _ => unreachable!(),
             };
         }
+        let question = kind.on(Text::shared(self.alloc, p)?);
         let b = ask_flag(self.tree, kind, p)?;
         note(&mut self.trail, question, Reply::Flag(b))?;
         Ok(b)
@@ -169,33 +171,17 @@ impl<'t, T: Tree> Recorder<'t, T> {
     }
 }
 
-// The questions whose reply is a flag.
-#[derive(Clone, Copy)]
-enum FlagQuestion {
-    File,
-    Dir,
-    Exists,
-}
-
-fn question_on(kind: FlagQuestion, path: Text) -> Question
-    ensures { result ≡ flag_question kind path }
+// Puts a question with a flag to a tree.
+fn ask_flag<T: Tree>(tree: &mut T, kind: QuestionKind, p: &str) -> Result<bool, ReadError>
+    requires path { IsCleanPath p.now }
+    requires flag { IsOfFlag kind }
+    ensures { IsPut Flag (question_on kind p.now) (T.state tree.old) (T.state tree.new) result }
 {
     match kind {
-        FlagQuestion::File => Question::File(path),
-        FlagQuestion::Dir => Question::Dir(path),
-        FlagQuestion::Exists => Question::Exists(path),
-    }
-}
-
-// Puts one of these questions to a tree.
-fn ask_flag<T: Tree>(tree: &mut T, kind: FlagQuestion, p: &str) -> Result<bool, ReadError>
-    requires { IsCleanPath p.now }
-    ensures { IsPut Flag (flag_question kind p.now) (T.state tree.old) (T.state tree.new) result }
-{
-    match kind {
-        FlagQuestion::File => tree.is_file(p),
-        FlagQuestion::Dir => tree.is_dir(p),
-        FlagQuestion::Exists => tree.exists(p),
+        QuestionKind::File => tree.is_file(p),
+        QuestionKind::Dir => tree.is_dir(p),
+        QuestionKind::Exists => tree.exists(p),
+        QuestionKind::Read | QuestionKind::Canon => unreachable!(),
     }
 }
 

@@ -189,6 +189,36 @@ fn questions_and_replies_are_copied(rt: HostRuntime) -> Result<(), Fail> {
     Ok(())
 }
 
+const SIZE: usize = 1_000_000;
+
+// A tree with one file of many bytes, which it shares with its caller.
+fn large(alloc: Global) -> Result<MemoryTree, PutError> {
+    let path = Text::shared(alloc, "/w/a.bin")?;
+    let content = Bytes::from_vec(vec![in alloc; 7; SIZE]?)?;
+    let mut tree = MemoryTree::new(alloc);
+    tree.put_shared(&path, &content, &path)?;
+    Ok(tree)
+}
+
+#[test]
+fn a_shared_file_is_read_and_its_trail_copied(rt: HostRuntime) -> Result<(), Fail> {
+    let path = "/w/a.bin";
+    assert!(rt; is_clean(path));
+    let mut tree = large(rt.alloc())?;
+    let mut recorder = Recorder::new(rt.alloc(), &mut tree);
+    for _ in 0..1_000 {
+        let bytes = recorder.read(path)?.ok_or("no file")?;
+        assert_eq!(rt; bytes.as_slice().len(), SIZE);
+    }
+    let trail = recorder.into_trail().try_clone(rt.alloc())?;
+    assert_eq!(rt; trail.len(), 1);
+    match trail.get(0) {
+        Some((_, Reply::Bytes(Some(bytes)))) => assert_eq!(rt; bytes.as_slice().len(), SIZE),
+        _ => assert!(rt; false, "another reply"),
+    }
+    Ok(())
+}
+
 #[test]
 fn names_of_modules(rt: HostRuntime) {
     assert_eq!(rt; NODE_BUILTINS.len(), 66);

@@ -1,58 +1,59 @@
-use Rattle.std.proofs.Common.{◌≡◌, ◌-◌, ◌⊎◌, inl, inr, ℕ, List, Bool, true, false, is_some, IsSome, take, refl, sym, ap, ◌∙◌, arith}
-use Rattle.std.specs.FinMap as map
-use Rattle.std.proofs.lemmas.Str.Pattern.{rfind_char}
-use Rattle.tree_core.specs.Memory.{files_of}
-use Rattle.tree_core.specs.Tree.{Files, is_file, stands_above}
-use Rattle.tree_core.proofs.Entries.{get-files_of}
-use Rattle.tree_core.proofs.Above.{above-trans, cut-above, above-cut, none-above}
-use Rattle.tree_core.proofs.Conflicts.{none-at_folder}
+use Rattle.std.proofs.Common.{◌≡◌, ◌-◌, ◌<◌, ℕ, List, Bool, true, false, refl, cond, Option, Some, None, IfSome, IfNone, option_map, nat_eq, length, take, get_or, sym, ap, ◌∙◌, subst, arith}
+use denote.Ref.{Bor}
+use Rattle.std.specs.Cmp.Lexicographic.{slice_cmp}
+use Rattle.std.specs.List.{common_prefix_len}
+use Rattle.std.specs.Ordering.{nat_cmp}
+use Rattle.tree_core.specs.Memory.{files_of, NoneAbove}
+use Rattle.tree_core.specs.Tree.{is_file, stands_above}
+use Rattle.tree_core.proofs.Above.{cut-above}
+use Rattle.tree_core.proofs.Before.{above-at, above-less, not_above}
 use Rattle.tree_core.proofs.memory.nearest_above.Goals as goal
+use Rattle.tree_core.proofs.memory.nearest_above.Goals.{in_default-via-in-Some+else-byte-eq47, in_default-via-in_default}
 
-pub returns-then-contains_key-clause-file : goal.returns-then-contains_key-clause-file
-returns-then-contains_key-clause-file c =
-    ap is_some (get-files_of c.args.files.now.entries c.range-folder.result.now) ∙ sym c.contains_key.ensures ∙ c.if-contains_key.true
+pub returns-in_err-before-clause-none : goal.returns-in_err-before-clause-none
+returns-in_err-before-clause-none c = rw c.from_residual.ensures (λ q there. not_above (stands_above q c.args.path.now) (λ above. c.in_err-before.ensures.last q there (ap (slice_cmp nat_cmp q) c.requires.prefix ∙ above-less q c.args.path.now above)))
 
-pub returns-then-contains_key-clause-above : goal.returns-then-contains_key-clause-above
-returns-then-contains_key-clause-above c =
-    let slash = rw c.in-Some.is at (rfind_char 47 c.loop-at.folder.now c.rfind.result c.rfind.ensures.cases (omega arith)) in
-    let whole : c.in-Some.at - 0 ≡ c.in-Some.at = omega arith in
-    let cut : c.range-folder.result.now ≡ take c.in-Some.at c.loop-at.folder.now = c.range-folder.ensures.value ∙ ap (λ n. take n c.loop-at.folder.now) whole in
-    c.loop-at.invariant.1 c.range-folder.result.now (rw cut (cut-above c.loop-at.folder.now c.in-Some.at slash.0 slash.1))
+cut-is : (p : List ℕ) (n : ℕ) (f : List ℕ) → f ≡ take (n - 0) p → f ≡ take n p
+cut-is p n f is = let whole : n - 0 ≡ n = omega arith in is ∙ ap (λ k. take k p) whole
 
--- the search ends at a folder: no file is at it or above it
-pub returns-then-finds_below-clause-none : goal.returns-then-finds_below-clause-none
-returns-then-finds_below-clause-none c =
-    let slash = rw c.in-Some.is at (rfind_char 47 c.loop-at.folder.now c.rfind.result c.rfind.ensures.cases (omega arith)) in
-    let whole : c.in-Some.at - 0 ≡ c.in-Some.at = omega arith in
-    let cut : c.range-folder.result.now ≡ take c.in-Some.at c.loop-at.folder.now = c.range-folder.ensures.value ∙ ap (λ n. take n c.loop-at.folder.now) whole in
-    λ q there. not_so (stands_above q c.args.path.now) (λ h. none-at_folder (files_of c.args.files.now.entries) q c.range-folder.result.now c.requires (c.finds_below.ensures.found c.if-finds_below.true) there (rw cut (above-cut q c.loop-at.folder.now c.in-Some.at slash.0 slash.1 slash.2 (c.loop-at.invariant.2 q there h))))
-  where
-    not_so : (b : Bool) → (b ≡ true → ⊥) → b ≡ false
-    not_so true h = absurd (h refl)
-    not_so false h = refl
+when_there : (r : Option (Bor (List ℕ))) (b : Bool) (folder : List ℕ) (P : List ℕ → Type 0) → option_map (λ p. p.now) r ≡ cond b (Some folder) None → P folder → IfSome r (λ p. P p.now)
+when_there None b folder P told h = tt
+when_there (Some p) true folder P told h = let same : folder ≡ p.now = cc in subst P same h
+when_there (Some p) false folder P told h = cc
 
-pub loop-at-preserved : goal.loop-at-preserved
-loop-at-preserved c =
-    let slash = rw c.in-Some.is at (rfind_char 47 c.loop-at.folder.now c.rfind.result c.rfind.ensures.cases (omega arith)) in
-    let whole : c.in-Some.at - 0 ≡ c.in-Some.at = omega arith in
-    let cut : c.range-folder.result.now ≡ take c.in-Some.at c.loop-at.folder.now = c.range-folder.ensures.value ∙ ap (λ n. take n c.loop-at.folder.now) whole in
-    let above : stands_above c.range-folder.result.now c.loop-at.folder.now ≡ true = rw cut (cut-above c.loop-at.folder.now c.in-Some.at slash.0 slash.1) in
-    let absent : is_file (files_of c.args.files.now.entries) c.range-folder.result.now ≡ false = ap is_some (get-files_of c.args.files.now.entries c.range-folder.result.now) ∙ sym c.contains_key.ensures ∙ c.if-contains_key.false in (
-      c.range-folder.utf8,
-      λ q h. c.loop-at.invariant.1 q (above-trans q c.range-folder.result.now c.loop-at.folder.now h above),
-      λ q there h. other (files_of c.args.files.now.entries) q c.range-folder.result.now there absent (rw cut (above-cut q c.loop-at.folder.now c.in-Some.at slash.0 slash.1 slash.2 (c.loop-at.invariant.2 q there h))),
-      omega arith,
-    )
-  where
-    other : (t : Files) (q p : List ℕ) → IsSome (map.get t q) → is_file t p ≡ false → (q ≡ p) ⊎ (stands_above q p ≡ true) → stands_above q p ≡ true
-    other t q p there absent (inl same) = let gone : is_file t q ≡ false = rw same absent in cc
-    other t q p there absent (inr above) = above
+when_none : (r : Option (Bor (List ℕ))) (b : Bool) (folder : List ℕ) (P : Type 0) → option_map (λ p. p.now) r ≡ cond b (Some folder) None → (b ≡ false → P) → IfNone r P
+when_none None true folder P told h = cc
+when_none None false folder P told h = h refl
+when_none (Some p) b folder P told h = tt
 
-pub returns-clause-none : goal.returns-clause-none
-returns-clause-none c =
-    let none = rw c.in_default.is at (rfind_char 47 c.loop-at.folder.now c.rfind.result c.rfind.ensures.cases (omega arith)) in
-    λ q there. by_test (stands_above q c.args.path.now) (stands_above q c.loop-at.folder.now) (λ h. c.loop-at.invariant.2 q there h) (none-above q c.loop-at.folder.now none)
-  where
-    by_test : (b d : Bool) → (b ≡ true → d ≡ true) → d ≡ false → b ≡ false
-    by_test true d h e = sym (h refl) ∙ e
-    by_test false d h e = refl
+slash : (c : goal.After-file_at) → (c.common_prefix_len-shared.result < length c.args.path.now) × (get_or c.args.path.now c.common_prefix_len-shared.result 0 ≡ 47)
+slash c =
+    let P : List ℕ → Type 0 = λ s. (c.common_prefix_len-shared.result < length s) × (get_or s c.common_prefix_len-shared.result 0 ≡ 47) in
+    subst P c.as_bytes-3.ensures.value (c.in-Some.ensures.lookup.3.0, sym (c.in-Some.ensures.lookup.3.1 0) ∙ c.if-byte-eq47.true)
+
+pub returns-in-Some-clause-above : goal.returns-in-Some-clause-above
+returns-in-Some-clause-above c =
+    let folder = cut-is c.args.path.now c.common_prefix_len-shared.result c.range.result.now c.range.ensures.value in
+    let P : List ℕ → Type 0 = λ p. stands_above p c.args.path.now ≡ true in
+    when_there c.file_at.result (is_file (files_of c.args.files.now.entries) c.range.result.now) c.range.result.now P c.file_at.ensures
+    (subst P (sym folder) (cut-above c.args.path.now c.common_prefix_len-shared.result (slash c).0 (slash c).1))
+
+pub returns-in-Some-clause-none : goal.returns-in-Some-clause-none
+returns-in-Some-clause-none c =
+    let files = files_of c.args.files.now.entries in
+    let folder = cut-is c.args.path.now c.common_prefix_len-shared.result c.range.result.now c.range.ensures.value in
+    let shared = c.common_prefix_len-shared.ensures ∙ ap (λ p. common_prefix_len nat_eq p c.as_bytes-2.result.now) c.as_bytes.ensures.value ∙ ap (common_prefix_len nat_eq c.args.path.now) c.as_bytes-2.ensures.value in
+    when_none c.file_at.result (is_file files c.range.result.now) c.range.result.now (NoneAbove files c.args.path.now) c.file_at.ensures (λ absent q there. not_above (stands_above q c.args.path.now) (λ above.
+    let at = above-at files c.args.path.now c.in_ok-before.before.now _ c.common_prefix_len-shared.result c.requires.valid c.in_ok-before.ensures.file c.in_ok-before.ensures.before c.in_ok-before.ensures.last c.requires.prefix shared q there above in
+    let gone : is_file files q ≡ false = ap (is_file files) (sym (folder ∙ at.2)) ∙ absent in
+    cc))
+
+pub returns-in_default-clause-none : goal.returns-in_default-clause-none
+returns-in_default-clause-none c = λ q there. not_above (stands_above q c.args.path.now) (λ above.
+    let shared = c.common_prefix_len-shared.ensures ∙ ap (λ p. common_prefix_len nat_eq p c.as_bytes-2.result.now) c.as_bytes.ensures.value ∙ ap (common_prefix_len nat_eq c.args.path.now) c.as_bytes-2.ensures.value in
+    let at = above-at (files_of c.args.files.now.entries) c.args.path.now c.in_ok-before.before.now _ c.common_prefix_len-shared.result c.requires.valid c.in_ok-before.ensures.file c.in_ok-before.ensures.before c.in_ok-before.ensures.last c.requires.prefix shared q there above in
+    let inside : c.common_prefix_len-shared.result < length c.as_bytes-3.result.now = omega (arith, at.0, ap length c.as_bytes-3.ensures.value) in
+    elim c.in_default.branch [
+      | in_default-via-in-Some+else-byte-eq47 w ↦ w.if-byte-eq47.false (w.in-Some.ensures.lookup.3.1 0 ∙ ap (λ (s : List ℕ). get_or s c.common_prefix_len-shared.result 0) c.as_bytes-3.ensures.value ∙ at.1)
+      | in_default-via-in_default w ↦ (let e = w.in_default.ensures.lookup.2 inside in cc)
+    ])

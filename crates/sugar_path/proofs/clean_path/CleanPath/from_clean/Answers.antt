@@ -1,4 +1,4 @@
-use Rattle.std.proofs.Common.{◌≡◌, inl, inr, [], ◌∷◌, string_bytes, ◌∙◌, sym, ap}
+use Rattle.std.proofs.Common.{◌≡◌, inl, inr, [], ◌∷◌, ◌∙◌, refl, sym, lit<}
 use Rattle.std.proofs.lemmas.Bool.Decides.{not_from_Decides}
 use Rattle.std.proofs.lemmas.Slice.Eq.{bytes_eq-Decides}
 use Rattle.sugar_path.specs.Path.{IsSteps, names_in, path_in}
@@ -6,19 +6,24 @@ use Rattle.sugar_path.proofs.Parts.{steps-clean}
 use Rattle.sugar_path.proofs.clean_path.CleanPath.from_clean.Goals as goal
 use Rattle.sugar_path.proofs.clean_path.CleanPath.from_clean.Goals.{Joined-eq, then-eq, else-eq}
 
-whole : (c : Joined-eq) → IsSteps (string_bytes c.if-eq.steps) × (names_in (string_bytes c.if-eq.steps) ≡ path_in c.args.text)
+pub cut_at-requires : goal.cut_at-requires
+cut_at-requires c =
+    let root = (bytes_eq-Decides c.into_content-steps.result (47 ∷ [])).0 (sym (rw c.as_str.ensures at c.eq.ensures) ∙ c.if-eq.true) in
+    rw root record { within = lit< tt; slash = refl }
+
+whole : (c : Joined-eq) → IsSteps c.if-eq.steps × (names_in c.if-eq.steps ≡ path_in c.args.text)
 whole c =
-    let text = c.as_str.ensures.value ∙ c.from-steps.ensures in
+    let text = c.as_str.ensures ∙ c.into_content-steps.ensures in
     let same = rw text at c.eq.ensures in
-    steps-clean c.args.text (string_bytes c.if-eq.steps) c.requires
+    steps-clean c.args.text c.if-eq.steps c.requires
     (elim c.if-eq.branch [
       | then-eq w ↦ inl (
         (bytes_eq-Decides c.args.text (47 ∷ [])).0 (sym same ∙ w.if-eq.true),
-        ap string_bytes w.steps-is ∙ w.clear.ensures.bytes,
+        w.steps-is ∙ w.cut_at.ensures,
       )
       | else-eq w ↦ inr (
         not_from_Decides _ (bytes_eq-Decides c.args.text (47 ∷ [])) (sym same ∙ w.if-eq.false),
-        ap string_bytes w.steps-is ∙ c.from-steps.ensures,
+        w.steps-is ∙ c.into_content-steps.ensures,
       )
     ])
 

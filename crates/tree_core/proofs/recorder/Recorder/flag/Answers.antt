@@ -1,6 +1,6 @@
 use Rattle.std.proofs.Common.{◌≡◌, sym, ap, ◌∙◌}
 use Rattle.tree_core.specs.Tree.{Files, reply}
-use Rattle.tree_core.specs.Recorder.{flag_question}
+use Rattle.tree_core.specs.QuestionKind.{question_on}
 use Rattle.tree_core.specs.declared.question.Reply.TheVariants.{Flag}
 use Rattle.tree_core.proofs.Replies.{pushed}
 use Rattle.tree_core.proofs.recorder.Recorder.flag.Goals as goal
@@ -10,7 +10,7 @@ invariant_of-self-2 g c = record {
   agrees = λ t stands.
       let same : (g.T.Tree.state c.ask_flag.new.tree).stands_for t ≡ (g.T.Tree.state c.args.self.now.tree.now).stands_for t = ap (λ (f : Files → _). f t) c.ask_flag.ensures.stands in
       let before = sym same ∙ stands in
-      let question = c.question_on-question.ensures ∙ ap (λ p. flag_question c.args.kind p) c.in_ok-of.ensures in
+      let question = c.on-question.ensures ∙ ap (λ p. question_on c.args.kind p) c.in_ok-shared.ensures in
       let value = sym (c.in_ok-b.ensures.replied t before) ∙ ap (λ q. reply t q) (sym question) in
-      pushed c.note.result t c.args.self.now.trail c.note.new.trail c.question_on-question.result (Flag c.in_ok-b.b) c.note.ensures.ok c.note.ensures.refused (c.args.self.now.agrees t before) value;
+      pushed c.note.result t c.args.self.now.trail c.note.new.trail c.on-question.result (Flag c.in_ok-b.b) c.note.ensures.ok c.note.ensures.refused (c.args.self.now.agrees t before) value;
 }

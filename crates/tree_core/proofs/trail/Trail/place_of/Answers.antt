@@ -1,19 +1,7 @@
-use Rattle.std.proofs.Common.{◌≡◌, ℕ, nat_eq, Some, None, sym, ap, ◌∙◌}
-use Rattle.std.specs.HashMap.{get}
+use Rattle.std.proofs.Common.{ap, ◌∙◌}
 use Rattle.tree_core.specs.Question.{place_in}
-use Rattle.tree_core.specs.Places.{hash_of, place_with, place_from}
-use Rattle.tree_core.proofs.Places.{place-none, place-some}
+use Rattle.tree_core.proofs.QuestionKinds.{same_question}
 use Rattle.tree_core.proofs.trail.Trail.place_of.Goals as goal
 
-pub returns-in-None : goal.returns-in-None
-returns-in-None c =
-    let none : place_with c.self.inside.steps.items (hash_of c.args.question.now) ≡ None = sym (c.self.invariant.first (hash_of c.args.question.now)) ∙ ap (λ (h : ℕ). get nat_eq c.self.inside.places h) (sym c.hash_of.ensures) ∙ sym c.in-None.ensures.value in
-    sym (place-none c.self.inside.steps.items c.args.question.now none) ∙ ap (λ steps. place_in steps c.args.question.now) c.self.view_is
-
-pub returns-in-Some : goal.returns-in-Some
-returns-in-Some c =
-    let some : place_with c.self.inside.steps.items (hash_of c.args.question.now) ≡ Some c.in-Some.first.now = sym (c.self.invariant.first (hash_of c.args.question.now)) ∙ ap (λ (h : ℕ). get nat_eq c.self.inside.places h) (sym c.hash_of.ensures) ∙ sym c.in-Some.ensures.value in
-    c.place_from.ensures
-    ∙ ap (λ steps. place_from steps c.in-Some.first.now c.args.question.now) c.as_slice.ensures.value
-    ∙ sym (place-some c.self.inside.steps.items c.args.question.now c.in-Some.first.now some)
-    ∙ ap (λ steps. place_in steps c.args.question.now) c.self.view_is
+pub returns : goal.returns
+returns c = c.place_on.ensures ∙ ap (place_in c.args.self.now) (same_question c.args.question.now c.kind.result c.path.result.now c.kind.ensures c.path.ensures)
