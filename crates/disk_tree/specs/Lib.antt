@@ -1,0 +1,2 @@
+-- Definitions of the tree over the real disk.
+pub mod Entry

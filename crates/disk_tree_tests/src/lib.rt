@@ -1,0 +1,5 @@
+//! The tests of `disk_tree`.
+#![tactic(auto)]
+
+#[cfg(test)]
+mod files;
