@@ -1,0 +1,3 @@
+pub mod AgreeingTests
+pub mod Questions
+pub mod Replays

@@ -1,0 +1,11 @@
+use Rattle.std.proofs.Common.{ap}
+use Rattle.tree_core.specs.declared.question.Question.TheVariants.{Exists}
+use Rattle.tree_core.specs.declared.question.Reply.TheVariants.{Flag}
+use Rattle.replay_core.specs.ReplayView.{replay_of}
+use Rattle.replay_core.proofs.Questions.{replayed, known_as}
+use Rattle.replay_core.proofs.replay_tree.ReplayTreeTree.exists.Goals as goal
+
+pub returns : goal.returns
+returns c =
+    replayed Flag (Exists c.args.p.now) c.in-Flag.b c.count.ensures c.in_ok-b.ensures.same
+    (known_as (replay_of c.count.new.self).trail _ _ _ _ c.in_ok-b.ensures.known (ap Exists c.in_ok-of.ensures) c.in-Flag.is)

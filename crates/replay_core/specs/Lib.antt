@@ -1,0 +1,5 @@
+pub mod Agreeing
+pub mod Replay
+pub mod ReplayView
+pub mod Replaying
+pub mod ReplayingParts
