@@ -28,6 +28,7 @@ pub trait PackageJsonCache {
 /// A cache over an ordered map.
 #[derive(Drop)]
 pub struct BTreeMapCache {
+    alloc: Global,
     packages: BTreeMap<String, PackageJsonRc>,
 }
 
@@ -37,6 +38,7 @@ impl BTreeMapCache {
         ensures { ⟦<BTreeMapCache as PackageJsonCache>⟧.kept result ≡ finite.empty }
     {
         BTreeMapCache {
+            alloc,
             packages: BTreeMap::new(alloc),
         }
     }
@@ -55,7 +57,8 @@ impl PackageJsonCache for BTreeMapCache {
     }
 
     fn set(&mut self, path: Text, package_json: PackageJsonRc) -> Result<(), AllocError> {
-        self.packages.insert(String::from(path), package_json)?;
+        let path = path.into_string(self.alloc)?;
+        self.packages.insert(path, package_json)?;
         Ok(())
     }
 }

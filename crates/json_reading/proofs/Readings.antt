@@ -53,3 +53,14 @@ reads_then k r o read rest = rw read rest
 
 pub some_then : {A B : Type 0} {a : A} {b : B} (k : A → Option B) (o : Option A) → o ≡ Some a → k a ≡ Some b → (o >>= k) ≡ Some b
 some_then k o read rest = rw read rest
+
+-- the same where the values are given up one after the other
+pub read_on-next : {A : Type 0} (f : Data → Option A) (made : List A) (v : Value) (vs : List Value) (a : A) → f (view v) ≡ Some a → read_on f made (v ∷ vs) ≡ read_on f (made ++ a ∷ []) vs
+read_on-next {A} f made v vs a reads = rw reads (by_read (items_by f (items_view vs)))
+  where
+    by_read : (o : Option (List A)) → option_map (λ rest. made ++ rest) (option_and_then (λ rest. Some (a ∷ rest)) o) ≡ option_map (λ rest. (made ++ a ∷ []) ++ rest) o
+    by_read None = refl
+    by_read (Some xs) = ap Some (sym (append_assoc made (a ∷ []) xs))
+
+pub read_on-stop : {A : Type 0} (f : Data → Option A) (made : List A) (v : Value) (vs : List Value) → f (view v) ≡ None → read_on f made (v ∷ vs) ≡ None
+read_on-stop f made v vs reads = rw reads refl

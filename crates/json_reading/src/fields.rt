@@ -1,11 +1,15 @@
 // The members of an object.
-ghost use Rattle.serde_json.specs.View.{view};
+ghost use Rattle.std.specs.Prelude.{◌≡◌, None, MatchOption};
+ghost use Rattle.serde_json.specs.Data.{object};
+ghost use Rattle.serde_json.specs.Find.{as_object};
+ghost use Rattle.serde_json.specs.View.{view, members_view};
 ghost use Rattle.json_reading.specs.Reading.{ReadsAs, field_by};
+ghost use Rattle.json_reading.specs.Members.{LacksOnly};
 ghost use Rattle.json_reading.specs.Reading as reading;
 
 use crate::error::FromJsonError;
 use crate::from_json::FromJson;
-use serde_json::Value;
+use serde_json::{Map, Value};
 use std::alloc::Global;
 
 /// A member that has to be there. `OtherKind` comes where the value is no object, where the object lacks it, and where it is
@@ -32,4 +36,48 @@ pub fn field_or<T: FromJson>(
         Some(member) => T::from_json(alloc, member),
         None => Ok(absent),
     }
+}
+
+/// The members of an object that is given up. A value of another kind has none.
+pub fn into_members(value: Value) -> Option<Map<String, Value>>
+    ensures { MatchOption result
+        (as_object (view value) ≡ None)
+        (λ members. view value ≡ object (members_view members.entries)) }
+{
+    match value {
+        Value::Object(members) => Some(members),
+        _ => None,
+    }
+}
+
+/// A member that has to be there, taken out of its object. `OtherKind` comes where the object lacks it, and where it is of another
+/// kind. The other members stay.
+pub fn take_field<T: FromJson>(
+    alloc: Global,
+    members: &mut Map<String, Value>,
+    name: &str,
+) -> Result<T, FromJsonError>
+    ensures reads { ReadsAs result (field_by name.now T.reads (object (members_view members.old.entries))) }
+    ensures others { LacksOnly name.now members.old.entries members.new.entries }
+{
+    let Some(member) = members.remove(name) else {
+        return Err(FromJsonError::OtherKind);
+    };
+    T::from_owned(alloc, member)
+}
+
+/// A member, taken out of its object, or what stands for it where it is absent. A null member isn't absent.
+pub fn take_field_or<T: FromJson>(
+    alloc: Global,
+    members: &mut Map<String, Value>,
+    name: &str,
+    absent: T,
+) -> Result<T, FromJsonError>
+    ensures reads { ReadsAs result (reading.field_or name.now absent T.reads (object (members_view members.old.entries))) }
+    ensures others { LacksOnly name.now members.old.entries members.new.entries }
+{
+    let Some(member) = members.remove(name) else {
+        return Ok(absent);
+    };
+    T::from_owned(alloc, member)
 }

@@ -18,6 +18,13 @@ pub trait FromJson: Drop {
     /// What the value is read as. `OtherKind` comes exactly where nothing is read, unless memory runs out before that is told.
     fn from_json(alloc: Global, value: &Value) -> Result<Self, FromJsonError>
         ensures { ReadsAs result (reads (view value.now)) };
+
+    /// The same from a value that is given up: what is read may keep its texts.
+    fn from_owned(alloc: Global, value: Value) -> Result<Self, FromJsonError>
+        ensures { ReadsAs result (reads (view value)) }
+    {
+        Self::from_json(alloc, &value)
+    }
 }
 
 /// The text of a string.
@@ -30,6 +37,13 @@ impl FromJson for Text {
         match value.as_str() {
             Some(text) => Ok(Text::of(alloc, text)?),
             None => Err(FromJsonError::OtherKind),
+        }
+    }
+
+    fn from_owned(_alloc: Global, value: Value) -> Result<Self, FromJsonError> {
+        match value {
+            Value::String(text) => Ok(Text::from(text)),
+            _ => Err(FromJsonError::OtherKind),
         }
     }
 }
@@ -60,6 +74,13 @@ impl<T: FromJson> FromJson for Option<T> {
             _ => Ok(Some(T::from_json(alloc, value)?)),
         }
     }
+
+    fn from_owned(alloc: Global, value: Value) -> Result<Self, FromJsonError> {
+        if value.is_null() {
+            return Ok(None);
+        }
+        Ok(Some(T::from_owned(alloc, value)?))
+    }
 }
 
 /// An array of exactly two.
@@ -71,6 +92,13 @@ impl<A: FromJson, B: FromJson> FromJson for (A, B) {
     fn from_json(alloc: Global, value: &Value) -> Result<Self, FromJsonError> {
         match value {
             Value::Array(items) => pair_of(alloc, items),
+            _ => Err(FromJsonError::OtherKind),
+        }
+    }
+
+    fn from_owned(alloc: Global, value: Value) -> Result<Self, FromJsonError> {
+        match value {
+            Value::Array(items) => owned_pair(alloc, items),
             _ => Err(FromJsonError::OtherKind),
         }
     }
@@ -91,6 +119,24 @@ fn pair_of<A: FromJson, B: FromJson>(
     Ok((first, second))
 }
 
+// Exactly two items, given up.
+fn owned_pair<A: FromJson, B: FromJson>(
+    alloc: Global,
+    mut items: Vec<Value>,
+) -> Result<(A, B), FromJsonError>
+    ensures { ReadsAs result (two_by A.reads B.reads (items_view items.items)) }
+{
+    if items.len() > 2 {
+        return Err(FromJsonError::OtherKind);
+    }
+    let (Some(second), Some(first)) = (items.pop(), items.pop()) else {
+        return Err(FromJsonError::OtherKind);
+    };
+    let first = A::from_owned(alloc, first)?;
+    let second = B::from_owned(alloc, second)?;
+    Ok((first, second))
+}
+
 /// An array of any length.
 impl<T: FromJson> FromJson for List<T> {
     ghost use Rattle.json_reading.specs.Reading.{list_by};
@@ -100,6 +146,13 @@ impl<T: FromJson> FromJson for List<T> {
     fn from_json(alloc: Global, value: &Value) -> Result<Self, FromJsonError> {
         match value {
             Value::Array(items) => Ok(List::from(each(alloc, items)?)),
+            _ => Err(FromJsonError::OtherKind),
+        }
+    }
+
+    fn from_owned(alloc: Global, value: Value) -> Result<Self, FromJsonError> {
+        match value {
+            Value::Array(items) => Ok(List::from(each_owned(alloc, items)?)),
             _ => Err(FromJsonError::OtherKind),
         }
     }
@@ -113,6 +166,18 @@ fn each<T: FromJson>(alloc: Global, items: &[Value]) -> Result<Vec<T>, FromJsonE
     let mut read = Vec::new(alloc);
     for item in items {
         read.push(T::from_json(alloc, item)?)?;
+    }
+    Ok(read)
+}
+
+// Each item, in order, given up.
+fn each_owned<T: FromJson>(alloc: Global, items: Vec<Value>) -> Result<Vec<T>, FromJsonError>
+    ensures ok { IfOk result (λ read. items_by T.reads (items_view items.items) ≡ Some read.items) }
+    ensures refused { IsErrOf result OtherKind → items_by T.reads (items_view items.items) ≡ None }
+{
+    let mut read = Vec::with_capacity(alloc, items.len())?;
+    for item in items {
+        read.push(T::from_owned(alloc, item)?)?;
     }
     Ok(read)
 }

@@ -1,15 +1,15 @@
 -- The search for the nearest manifest comes to what the tree has.
-use Rattle.std.proofs.Common.{◌≡◌, ◌++◌, List, [], Option, Some, None, Result, Ok, Err, refl, ap, ◌∙◌}
+use Rattle.std.proofs.Common.{◌≡◌, ◌++◌, [], Option, Some, None, Result, Ok, Err, ap, ◌∙◌}
 use Rattle.std.proofs.lemmas.List.{append-nil}
 use Rattle.sugar_path.specs.Path.{Path}
 use Rattle.tree_core.specs.Tree.{Files}
-use Rattle.tree_core.specs.Plan.{Plan, Done, answer, asked, ◌>>=◌, on_ok}
+use Rattle.tree_core.specs.Plan.{Plan, Done, answer, asked, on_ok}
 use Rattle.tree_core.proofs.Asking.{answer-then, asked-then, answer-done, asked-done}
 use Rattle.pnp_core.specs.Finding.{finding, in_file}
 use Rattle.pnp_core.specs.FindingOnTree.{as_found, in_file_on, in_file_asks, FindingOnTree}
 use Rattle.pnp_core.specs.Loading.{told_loading}
 use Rattle.pnp_core.specs.Manifest.{Contents}
-use Rattle.pnp_core.specs.OnTree.{nearest_on, nearest_asks, told_on}
+use Rattle.pnp_core.specs.OnTree.{nearest_on, nearest_asks}
 use Rattle.pnp_core.specs.Nearest.{nearest}
 use Rattle.pnp_core.specs.Refusal.{Refusal}
 use Rattle.pnp_core.proofs.OnTrees.{answer-nearest, asked-nearest, told_on_tree}

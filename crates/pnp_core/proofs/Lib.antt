@@ -1,4 +1,12 @@
 pub mod Slashes
+pub mod Belows
+pub mod TrieShapes
+pub mod NodeLists
+pub mod FirstNames
+pub mod TrieWays
+pub mod TrieMakes
+pub mod TrieValues
+pub mod TrieCounts
 pub mod Tries
 pub mod Owners
 pub mod Ignored
@@ -6,8 +14,10 @@ pub mod Ownerships
 pub mod Walking
 pub mod Payloads
 pub mod Normal
+pub mod PlainLocations
 pub mod Relocations
 pub mod Hydrations
+pub mod FieldReadings
 pub mod PathForms
 pub mod OnTrees
 pub mod VirtualPaths

@@ -1,9 +1,10 @@
 -- Owners, as the trie of locations finds them.
-use Rattle.std.proofs.Common.{◌≡◌, ap, ℕ, Bool, true, false, cond, List, [], ◌∷◌, ◌++◌, map, bytes_eq, refl, Some}
-use Rattle.std.specs.Prelude.{option_map}
+use Rattle.std.proofs.Common.{◌≡◌, ap, ◌∙◌, Option, ℕ, Bool, true, false, cond, List, [], ◌∷◌, ◌++◌, map, bytes_eq, refl, Some}
+use Rattle.std.specs.Prelude.{option_map, unwrap_or}
 use Rattle.std.specs.Map.{lookup}
 use Rattle.indexmap.specs.IndexMap.{insert_entry, insert_all}
-use Rattle.pnp_core.specs.ManifestReading.{entries_of}
+use Rattle.std.proofs.lemmas.List.{map-append}
+use Rattle.pnp_core.specs.ManifestReading.{entries_of, named}
 use Rattle.sugar_path.specs.Path.{Path, IsPath}
 use Rattle.pnp_core.specs.declared.manifest.PackageLocator.{PackageLocator}
 use Rattle.std.specs.HashMap.{HashMap}
@@ -57,3 +58,7 @@ insert_all-push es (x ∷ xs) k v = insert_all-push (insert_entry bytes_eq es x.
 -- one more pair is put behind those so far
 pub entries_of-push : {A : Type 0} (xs : List (List ℕ × A)) (k : List ℕ) (v : A) → entries_of (xs ++ (k, v) ∷ []) ≡ insert_entry bytes_eq (entries_of xs) k v
 entries_of-push xs k v = insert_all-push [] xs k v
+
+-- the same of a pair whose name may be null
+pub entries_of-named : {A : Type 0} (xs : List (Option (List ℕ) × A)) (k : Option (List ℕ)) (v : A) → entries_of (map named (xs ++ (k, v) ∷ [])) ≡ insert_entry bytes_eq (entries_of (map named xs)) (unwrap_or k []) v
+entries_of-named {A} xs k v = ap entries_of (map-append (named {A = A}) xs ((k, v) ∷ [])) ∙ entries_of-push (map named xs) (unwrap_or k []) v

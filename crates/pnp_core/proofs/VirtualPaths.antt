@@ -1,5 +1,5 @@
 -- What the segments of a path say, as they are read.
-use Rattle.std.proofs.Common.{◌≡◌, ◌≢◌, ◌==◌, ◌⊎◌, inl, inr, ℕ, suc, ◌+◌, ◌-◌, ◌<◌, ◌≤◌, ◌^◌, Bool, true, false, cond, not, ◌&&◌, List, [], ◌∷◌, ◌++◌, length, take, drop, map, bytes_eq, nat_lt, Option, Some, None, option_map, option_and_then, Result, Ok, Err, IfSome, min, get_or, refl, sym, ap, ◌∙◌, append_assoc, add-one, add-zero, length-append, arith, lt-ltb}
+use Rattle.std.proofs.Common.{◌≡◌, ◌≢◌, ◌==◌, ◌⊎◌, inl, inr, ℕ, suc, ◌+◌, ◌-◌, ◌<◌, ◌^◌, Bool, true, false, cond, ◌&&◌, List, [], ◌∷◌, ◌++◌, length, take, drop, bytes_eq, nat_lt, Option, Some, None, option_map, option_and_then, Result, Ok, Err, IfSome, min, get_or, refl, sym, ap, ◌∙◌, append_assoc, add-one, add-zero, length-append, arith, lt-ltb}
 use Rattle.std.specs.Result.{result_ok}
 use Rattle.std.specs.Str.{all_ascii_digits}
 use Rattle.std.specs.Str.Parse.{ParsesUnsigned, IsNumeral, digits_value, without_leading_plus}

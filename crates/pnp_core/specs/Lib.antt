@@ -5,9 +5,11 @@ pub mod BareIdentifier
 pub mod Payload
 pub mod Manifest
 pub mod ManifestReading
+pub mod FieldsWith
 pub mod Owner
 pub mod Ownership
 pub mod Trie
+pub mod Nodes
 pub mod Located
 pub mod Binding
 pub mod Wording

@@ -1,6 +1,6 @@
 -- What holds of the parts of each path.
-use Rattle.std.specs.Prelude.{◌≡◌, Bool, List, [], ◌++◌, Option, Some, None, IfSome}
-use Rattle.pnp_core.specs.VirtualPath.{Segments, PathParts, parts_of}
+use Rattle.std.specs.Prelude.{◌≡◌, Bool, [], ◌++◌, Option, Some, None, IfSome}
+use Rattle.pnp_core.specs.VirtualPath.{Segments, parts_of}
 
 -- of a virtual path all that isn't the base, but what follows the archive
 abbrev pub behind_base : Option (Segments × Segments) → Segments

@@ -1,5 +1,5 @@
 -- How the text of a path falls into a base, a virtual part and a path inside an archive.
-use Rattle.std.specs.Prelude.{ℕ, ◌+◌, ◌-◌, ◌^◌, suc, max, Bool, false, not, ◌==◌, ◌&&◌, if◌then◌else◌, List, [], ◌∷◌, ◌++◌, length, take, drop, reverse, Option, Some, None, option_map, option_and_then, slice_get, unwrap_or, codes, bytes_eq, nat_eq, nat_lt}
+use Rattle.std.specs.Prelude.{ℕ, ◌-◌, ◌^◌, suc, max, Bool, false, not, ◌==◌, ◌&&◌, if◌then◌else◌, List, [], ◌∷◌, ◌++◌, length, take, drop, reverse, Option, Some, None, option_map, option_and_then, slice_get, unwrap_or, codes, bytes_eq, nat_eq, nat_lt}
 use Rattle.std.specs.Char.{is_ascii_alphabetic}
 use Rattle.std.specs.List.{ends_with}
 use Rattle.std.specs.Str.{all_ascii_digits}

@@ -1,5 +1,5 @@
 // A payload's lists of pairs as maps, and its lists of names as sets: a repeated name keeps its place, and takes the last value.
-ghost use Rattle.std.specs.Prelude.{◌≡◌, IfOk, map, []};
+ghost use Rattle.std.specs.Prelude.{◌≡◌, IfOk, map, unwrap_or, []};
 ghost use Rattle.pnp_core.specs.ManifestReading.{entries_of, named};
 ghost use Rattle.indexmap.specs.IndexSet as set;
 
@@ -38,6 +38,12 @@ impl<V: FromJson> FromJson for Entries<V> {
         let entries = collected(alloc, pairs.into())?;
         Ok(entries)
     }
+
+    fn from_owned(alloc: Global, value: Value) -> Result<Self, FromJsonError> {
+        let pairs = List::<(Text, V)>::from_owned(alloc, value)?;
+        let entries = collected(alloc, pairs.into())?;
+        Ok(entries)
+    }
 }
 
 /// Values by a name that may be null, which stands for the empty text.
@@ -66,8 +72,14 @@ impl<V: FromJson> FromJson for NullableEntries<V> {
 
     fn from_json(alloc: Global, value: &Value) -> Result<Self, FromJsonError> {
         let pairs = List::<(Option<Text>, V)>::from_json(alloc, value)?;
-        let Entries { map } = collected(alloc, named(alloc, pairs.into())?)?;
-        Ok(NullableEntries { map })
+        let entries = collected_named(alloc, pairs.into())?;
+        Ok(entries)
+    }
+
+    fn from_owned(alloc: Global, value: Value) -> Result<Self, FromJsonError> {
+        let pairs = List::<(Option<Text>, V)>::from_owned(alloc, value)?;
+        let entries = collected_named(alloc, pairs.into())?;
+        Ok(entries)
     }
 }
 
@@ -97,35 +109,47 @@ impl<T: FromJson + Eq + Hash> FromJson for Members<T> {
         let members = distinct(alloc, members.into())?;
         Ok(members)
     }
+
+    fn from_owned(alloc: Global, value: Value) -> Result<Self, FromJsonError> {
+        let members = List::<T>::from_owned(alloc, value)?;
+        let members = distinct(alloc, members.into())?;
+        Ok(members)
+    }
 }
 
 // The map of a list of pairs.
 fn collected<V: Drop>(alloc: Global, pairs: Vec<(Text, V)>) -> Result<Entries<V>, AllocError>
     ensures { IfOk result (λ entries. entries ≡ entries_of pairs.items) }
 {
-    let mut map = IndexMap::new(alloc);
+    let mut map = IndexMap::with_capacity(alloc, pairs.len())?;
     for (name, value) in pairs {
         map.insert(name, value)?;
     }
     Ok(Entries { map })
 }
 
-// The pairs, with the empty text for null.
-pub(crate) fn named<V: Drop>(
+// The map of a list of pairs, with the empty text for a null name.
+fn collected_named<V: Drop>(
     alloc: Global,
     pairs: Vec<(Option<Text>, V)>,
-) -> Result<Vec<(Text, V)>, AllocError>
-    ensures { IfOk result (λ read. read.items ≡ map named pairs.items) }
+) -> Result<NullableEntries<V>, AllocError>
+    ensures { IfOk result (λ entries. entries ≡ entries_of (map named pairs.items)) }
 {
-    let mut read = Vec::new(alloc);
+    let mut map = IndexMap::with_capacity(alloc, pairs.len())?;
     for (name, value) in pairs {
-        let name = match name {
-            Some(name) => name,
-            None => Text::from(String::new(alloc)),
-        };
-        read.push((name, value))?;
+        map.insert(name_or_empty(alloc, name), value)?;
     }
-    Ok(read)
+    Ok(NullableEntries { map })
+}
+
+// A name, or the empty text for null.
+pub(crate) fn name_or_empty(alloc: Global, name: Option<Text>) -> Text
+    ensures { result ≡ unwrap_or name [] }
+{
+    match name {
+        Some(name) => name,
+        None => Text::from(String::new(alloc)),
+    }
 }
 
 // The set of a list.

@@ -1,20 +1,21 @@
 // A manifest gets its folder, and its rows the locations that they have from there.
-ghost use Rattle.std.specs.Prelude.{◌≡◌, ◌≤◌, ◌∷◌, [], IfOk, OnOk, OnErr, IsTrue, map, filter, is_none, bytes_eq, string_bytes, vec_len};
+ghost use Rattle.std.specs.Prelude.{◌≡◌, ◌≤◌, ◌⊎◌, ◌∷◌, ◌++◌, [], IfOk, OnOk, OnErr, IsTrue, IsSome, IfSome, map, filter, is_none, bytes_eq, string_bytes, vec_len};
 ghost use Rattle.indexmap.specs.IndexMap.{insert_all, spare};
-ghost use Rattle.sugar_path.specs.Path.{Path, IsPath, IsCleanPath, path_in, is_absolute, join, with_slash};
-ghost use Rattle.pnp_core.specs.NormalizePath.{normalize_path};
+ghost use Rattle.sugar_path.specs.Path.{Path, IsPath, IsCleanPath, path_in, is_absolute, ends_in_slash, join, with_slash};
+ghost use Rattle.pnp_core.specs.NormalizePath.{location_path, normalize_path};
+ghost use Rattle.pnp_core.specs.Slashed.{slashed};
 ghost use Rattle.pnp_core.specs.Manifest.{at, locator, rows, rows_under, top_level, has_row, package_at};
 ghost use Rattle.pnp_core.specs.ManifestReading.{initialized, located, located_registry, located_rows};
 ghost use Rattle.pnp_core.specs.Owner.{IsReady};
 ghost use Rattle.pnp_core.specs.Relocated.{changed, placed, locations_of, all_locations, overlaid, missing_of};
 ghost use Rattle.pnp_core.specs.Trie.{value_at};
 
-use crate::normalize::{location, normal_text};
+use crate::normalize::{location, text_with_end, with_room};
 use crate::registry::package_of;
 use crate::{Manifest, PackageDependency, PackageInformation, PackageLocator, Trie};
 use indexmap::IndexMap;
 use std::alloc::{AllocError, Global};
-use sugar_path::{CleanPath, Text};
+use sugar_path::{CleanPath, Text, is_clean};
 
 /// Gives a manifest that was read the path of its file: sets its folder and its path, reads its locations from the folder,
 /// fills its pool, and makes the trie of its locations. Where no memory is found, the manifest is as before.
@@ -60,7 +61,7 @@ fn located(
         (l : Path) → IsPath l
         → value_at made.1 l ≡ overlaid (rows (located_registry folder.now rows_by_name)) [] l) }
 {
-    let mut found = Vec::new(alloc);
+    let mut found = Vec::with_capacity(alloc, registry.len())?;
     let mut trie = Trie::new(alloc);
     for (name, references) in registry.iter() {
         found.push(locate_rows(alloc, &mut trie, folder, name, references)?)?;
@@ -84,7 +85,7 @@ fn locate_rows(
         (l : Path) → IsPath l
         → value_at trie.new l ≡ overlaid (rows_under (name.now, located)) trie.old l) }
 {
-    let mut found = Vec::new(alloc);
+    let mut found = Vec::with_capacity(alloc, references.len())?;
     for (reference, package) in references.iter() {
         found.push(locate_row(alloc, trie, folder, name, reference, package)?)?;
     }
@@ -108,9 +109,7 @@ fn locate_row(
         → value_at trie.new l
         ≡ overlaid ((locator name.now reference.now, located folder.now row.now) ∷ []) trie.old l) }
 {
-    let joined = joined_texts(alloc, folder, row.package_location.as_str())?;
-    let location = location(alloc, joined.as_str())?;
-    let text = normal_text(alloc, joined.as_str(), &location)?;
+    let (location, text) = located_at(alloc, folder, row.package_location.as_str())?;
     if row.discard_from_lookup {
         return Ok(text);
     }
@@ -124,6 +123,68 @@ fn locate_row(
     }
 }
 
+// The path that a location names from a folder, and its text in normal form.
+fn located_at(alloc: Global, folder: &str, text: &str) -> Result<(CleanPath, Text), AllocError>
+    requires { IsTrue (is_absolute folder.now) }
+    ensures path { IfOk result (λ at. at.0 ≡ location_path (join folder.now text.now)) }
+    ensures text { IfOk result (λ at. at.1 ≡ normalize_path (join folder.now text.now)) }
+{
+    if let Some(path) = plain_location(alloc, folder, text)? {
+        let normal = text_with_end(alloc, text, &path)?;
+        return Ok((path, normal));
+    }
+    let joined = joined_texts(alloc, folder, text)?;
+    let path = location(alloc, joined.as_str())?;
+    let normal = text_with_end(alloc, joined.as_str(), &path)?;
+    Ok((path, normal))
+}
+
+// The path that a location names from a folder, where it is written as Yarn writes it: `./`, and then names. It isn't read name by name.
+fn plain_location(alloc: Global, folder: &str, text: &str) -> Result<Option<CleanPath>, AllocError>
+    requires { IsTrue (is_absolute folder.now) }
+    ensures plain { IfOk result (λ found.
+        IfSome found (λ p. p ≡ location_path (join folder.now text.now))) }
+    ensures ends { IfOk result (λ found. IsSome found → ends_in_slash (join folder.now text.now) ≡ ends_in_slash text.now) }
+{
+    let Some(names) = text.strip_prefix("./") else {
+        return Ok(None);
+    };
+    let mut plain = with_slash(alloc, folder, names.len())?;
+    plain.push_str(without_end(names))?;
+    if is_plain(plain.as_str()) {
+        Ok(Some(CleanPath::from_clean(Text::from(plain))))
+    } else {
+        Ok(None)
+    }
+}
+
+// Whether a text is that of a clean path, without `\`.
+fn is_plain(text: &str) -> bool
+    ensures clean { IsTrue result → IsCleanPath text.now }
+    ensures plain { IsTrue result → slashed text.now ≡ text.now }
+{
+    is_clean(text) && has_no_backslash(text)
+}
+
+fn has_no_backslash(text: &str) -> bool
+    ensures { IsTrue result → slashed text.now ≡ text.now }
+{
+    match text.split_once('\\') {
+        None => true,
+        Some(_) => false,
+    }
+}
+
+// A text without the `/` at its end.
+fn without_end(text: &str) -> &str
+    ensures { (text.now ≡ result.now) ⊎ (text.now ≡ result.now ++ 47 ∷ []) }
+{
+    match text.strip_suffix('/') {
+        None => text,
+        Some(front) => front,
+    }
+}
+
 // One text behind another, as a path behind a folder.
 pub(crate) fn joined_texts(alloc: Global, folder: &str, text: &str) -> Result<String, AllocError>
     ensures { IfOk result (λ s. string_bytes s ≡ join folder.now text.now) }
@@ -132,16 +193,16 @@ pub(crate) fn joined_texts(alloc: Global, folder: &str, text: &str) -> Result<St
         let joined = String::from_str(alloc, text)?;
         return Ok(joined);
     }
-    let mut joined = with_slash(alloc, folder)?;
+    let mut joined = with_slash(alloc, folder, text.len())?;
     joined.push_str(text)?;
     Ok(joined)
 }
 
-// A folder with a `/` at its end, unless it is empty.
-fn with_slash(alloc: Global, folder: &str) -> Result<String, AllocError>
+// A folder with a `/` at its end, unless it is empty, and with room for some bytes behind it.
+fn with_slash(alloc: Global, folder: &str, room: usize) -> Result<String, AllocError>
     ensures { IfOk result (λ s. string_bytes s ≡ with_slash folder.now) }
 {
-    let mut text = String::from_str(alloc, folder)?;
+    let mut text = with_room(alloc, folder, room.saturating_add(1))?;
     if folder.is_empty() {
         return Ok(text);
     }

@@ -19,6 +19,7 @@ mod payload;
 mod readers;
 mod registry;
 mod trie;
+mod trie_nodes;
 mod undeclared;
 mod unqualified;
 mod virtual_path;
@@ -32,7 +33,7 @@ pub use error::{
 pub use finding::find_pnp_manifest;
 pub use host::{ResolutionConfig, ResolutionHost, resolve_to_unqualified};
 pub use initialize::init_pnp_manifest;
-pub use loading::{load_pnp_manifest, loaded_manifest};
+pub use loading::{load_pnp_manifest, loaded_manifest, manifest_of_bytes};
 pub use manifest::{
     Binding, Manifest, PackageDependency, PackageInformation, PackageLocator, RegexDef,
 };

@@ -12,9 +12,10 @@ ghost use Rattle.pnp_core.specs.Refusal.{pnp, IsOfManifest};
 ghost use Rattle.pnp_core.specs.Wording.{cause_message};
 ghost use Rattle.pnp_core.specs.Wording as wording;
 
+use crate::readers::read_owned_manifest;
 use crate::{
     Error, FailedManifestHydration, HydrationCause, Manifest, PackageLocator, ReadManifestError,
-    has_package, init_pnp_manifest, payload_of, read_manifest,
+    has_package, init_pnp_manifest, payload_of,
 };
 use serde_json::Value;
 use std::alloc::{AllocError, Global};
@@ -68,9 +69,21 @@ fn manifest_of_content(
     ensures decided { IsDecided result (reading content.now path.now) }
     ensures ready { IfOk result IsReady }
 {
-    let Some(bytes) = content else {
-        return Err(ResolveError::Refused(HydrationCause::NotText));
-    };
+    match content {
+        Some(bytes) => manifest_of_bytes(alloc, bytes, path),
+        None => Err(ResolveError::Refused(HydrationCause::NotText)),
+    }
+}
+
+/// The manifest that the bytes of the file at a path are: a ready one, or the cause why they are none.
+pub fn manifest_of_bytes(
+    alloc: Global,
+    bytes: &Bytes,
+    path: &CleanPath,
+) -> Result<Manifest, ResolveError<HydrationCause>>
+    ensures decided { IsDecided result (reading (Some bytes.now) path.now) }
+    ensures ready { IfOk result IsReady }
+{
     match str::from_utf8(bytes.as_slice()) {
         Ok(text) => manifest_of_text(alloc, text, path),
         Err(_) => Err(ResolveError::Refused(HydrationCause::NotText)),
@@ -102,7 +115,7 @@ fn manifest_of_payload(
     ensures ready { IfOk result IsReady }
 {
     match Value::from_str(alloc, payload) {
-        Ok(value) => manifest_of_value(alloc, &value, path),
+        Ok(value) => manifest_of_value(alloc, value, path),
         Err(e) => {
             if e.is_memory() {
                 return Err(ResolveError::NoMemory);
@@ -115,13 +128,13 @@ fn manifest_of_payload(
 // The manifest that a JSON value says.
 fn manifest_of_value(
     alloc: Global,
-    value: &Value,
+    value: Value,
     path: &CleanPath,
 ) -> Result<Manifest, ResolveError<HydrationCause>>
-    ensures decided { IsDecided result (placed_at path.now (manifest_in (view value.now))) }
+    ensures decided { IsDecided result (placed_at path.now (manifest_in (view value))) }
     ensures ready { IfOk result IsReady }
 {
-    match read_manifest(alloc, value) {
+    match read_owned_manifest(alloc, value) {
         Ok(manifest) => initialized(alloc, manifest, path),
         Err(ReadManifestError::BadJson) => Err(ResolveError::Refused(HydrationCause::BadJson)),
         Err(ReadManifestError::BadPattern) => Err(ResolveError::Refused(

@@ -70,7 +70,6 @@ impl Model for PackageInformation {
 pub struct RegexDef(pub Pattern);
 
 /// A manifest. Its registry, its pool and its lists keep the order of the payload.
-#[derive(Drop)]
 pub struct Manifest {
     pub manifest_dir: Text,
     pub manifest_path: Text,
@@ -97,6 +96,22 @@ impl Model for Manifest {
     ghost view = { contents_of };
 
     ghost invariant = { HoldsLocations };
+}
+
+impl Drop for Manifest {
+    fn drop(self) {
+        let Manifest {
+            manifest_dir: _,
+            manifest_path: _,
+            location_trie: _,
+            enable_top_level_fallback: _,
+            ignore_pattern_data: _,
+            dependency_tree_roots: _,
+            fallback_pool: _,
+            fallback_exclusion_list: _,
+            package_registry_data: _,
+        } = self;
+    }
 }
 
 /// What a row binds a name to.

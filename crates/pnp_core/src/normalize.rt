@@ -1,6 +1,6 @@
 // The normal form of the paths in a manifest.
-ghost use Rattle.std.specs.Prelude.{◌≡◌, [], List, ℕ, IfOk, OnOk, IsTrue, string_bytes, map, reverse};
-ghost use Rattle.sugar_path.specs.Path.{is_absolute, parts};
+ghost use Rattle.std.specs.Prelude.{◌≡◌, [], List, ℕ, IfOk, OnOk, string_bytes, map, reverse};
+ghost use Rattle.sugar_path.specs.Path.{parts, text_of};
 ghost use Rattle.pnp_core.specs.NormalizePath.{normalize_path, normal_names, location_path, by_relative_part, by_relative_parts, relative_names, joined, with_end};
 ghost use Rattle.pnp_core.specs.Slashed.{slashed, names_of};
 
@@ -39,26 +39,30 @@ fn normal_names(alloc: Global, text: &str) -> Result<String, AllocError>
     ensures { IfOk result (λ s. string_bytes s ≡ normal_names text.now) }
 {
     if text.starts_with('/') {
-        return Ok(String::from(location(alloc, text)?.into_text()?));
+        let absolute = location(alloc, text)?.into_string(alloc)?;
+        return Ok(absolute);
     }
     let slashed = with_slashes(alloc, text)?;
     let names = relative_text(alloc, slashed.as_str())?;
     Ok(names)
 }
 
-// The normal form of an absolute text, whose path is at hand.
-pub(crate) fn normal_text(
-    alloc: Global,
-    text: &str,
-    location: &CleanPath,
-) -> Result<Text, AllocError>
-    requires absolute { IsTrue (is_absolute text.now) }
-    requires names { location.now ≡ location_path text.now }
-    ensures { IfOk result (λ t. t ≡ normalize_path text.now) }
+// The text of a path, with the `/` that another text has at its end.
+pub(crate) fn text_with_end(alloc: Global, text: &str, path: &CleanPath) -> Result<Text, AllocError>
+    ensures { IfOk result (λ t. t ≡ with_end text.now (text_of path.now)) }
 {
-    let names = location.to_text(alloc)?;
-    let ended = with_end(text, String::from(names))?;
+    let names = with_room(alloc, path.as_str(), 1)?;
+    let ended = with_end(text, names)?;
     Ok(Text::from(ended))
+}
+
+// A copy of a text, with room for some more bytes.
+pub(crate) fn with_room(alloc: Global, text: &str, room: usize) -> Result<String, AllocError>
+    ensures { IfOk result (λ s. string_bytes s ≡ text.now) }
+{
+    let mut copy = String::with_capacity(alloc, text.len().saturating_add(room))?;
+    copy.push_str(text)?;
+    Ok(copy)
 }
 
 // The path that an absolute text names.

@@ -100,7 +100,7 @@ fn is_blank(c: char) -> bool
 fn quoted(alloc: Global, text: &str) -> Result<String, AllocError>
     ensures { IfOk result (λ s. string_bytes s ≡ quoted text.now) }
 {
-    let mut made = String::new(alloc);
+    let mut made = String::with_capacity(alloc, text.len())?;
     let mut rest = text;
     while let Some(at) = memchr2(b'\'', b'\\', rest.as_bytes()) {
         made.push_str(&rest[..at])?;

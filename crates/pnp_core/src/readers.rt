@@ -1,18 +1,22 @@
 // A manifest read from the value of its payload.
 ghost use Rattle.std.specs.Prelude.{◌≡◌, IfOk, map, option_map};
-ghost use Rattle.serde_json.specs.View.{view};
+ghost use Rattle.serde_json.specs.Data.{object};
+ghost use Rattle.serde_json.specs.View.{view, members_view};
 ghost use Rattle.json_reading.specs.Reading.{ReadsAs};
-ghost use Rattle.pnp_core.specs.ManifestReading.{entries_of, manifest_in, fields_in, with_pattern_text, IsReadAs};
+ghost use Rattle.pnp_core.specs.ManifestReading.{entries_of, named, package_in, manifest_in, fields_in, with_pattern_text, IsReadAs};
+ghost use Rattle.pnp_core.specs.FieldsWith.{fields_with};
 
-use crate::entries::{Entries, Members, NullableEntries, named};
+use crate::entries::{Entries, Members, NullableEntries, name_or_empty};
 use crate::{
     Manifest, PackageDependency, PackageInformation, PackageLocator, ReadManifestError, RegexDef,
     Trie,
 };
 use es_pattern::Pattern;
 use indexmap::{IndexMap, IndexSet};
-use json_reading::{FromJson, FromJsonError, field, field_or, holds_float};
-use serde_json::Value;
+use json_reading::{
+    FromJson, FromJsonError, field, field_or, holds_float, into_members, take_field, take_field_or,
+};
+use serde_json::{Map, Value};
 use std::alloc::{AllocError, Global};
 use std::marker::Model;
 use sugar_path::{List, Text};
@@ -26,6 +30,20 @@ pub fn read_manifest(alloc: Global, value: &Value) -> Result<Manifest, ReadManif
         return Err(ReadManifestError::BadJson);
     }
     let (manifest, pattern) = fields(alloc, value)?;
+    with_pattern(alloc, manifest, pattern)
+}
+
+/// The same of a value that is given up: its texts become the manifest's.
+pub(crate) fn read_owned_manifest(
+    alloc: Global,
+    value: Value,
+) -> Result<Manifest, ReadManifestError>
+    ensures { IsReadAs result (manifest_in (view value)) }
+{
+    if holds_float(&value) {
+        return Err(ReadManifestError::BadJson);
+    }
+    let (manifest, pattern) = owned_fields(alloc, value)?;
     with_pattern(alloc, manifest, pattern)
 }
 
@@ -49,12 +67,35 @@ fn with_pattern(
 fn fields(alloc: Global, value: &Value) -> Result<(Manifest, Option<Text>), FromJsonError>
     ensures { ReadsAs result (fields_in (view value.now)) }
 {
+    let registry: Registry = field(alloc, value, "packageRegistryData")?;
+    fields_with(alloc, value, registry)
+}
+
+// The same of a value that is given up.
+fn owned_fields(alloc: Global, value: Value) -> Result<(Manifest, Option<Text>), FromJsonError>
+    ensures { ReadsAs result (fields_in (view value)) }
+{
+    let Some(mut members) = into_members(value) else {
+        return Err(FromJsonError::OtherKind);
+    };
+    let registry: Registry = take_field(alloc, &mut members, "packageRegistryData")?;
+    let rest = Value::Object(members);
+    fields_with(alloc, &rest, registry)
+}
+
+// The same with a registry that was read.
+fn fields_with(
+    alloc: Global,
+    value: &Value,
+    registry: Registry,
+) -> Result<(Manifest, Option<Text>), FromJsonError>
+    ensures { ReadsAs result (fields_with (view value.now) registry) }
+{
     let enable_top_level_fallback: bool = field(alloc, value, "enableTopLevelFallback")?;
     let pattern: Option<Text> = field_or(alloc, value, "ignorePatternData", None)?;
     let roots: Members<PackageLocator> = field(alloc, value, "dependencyTreeRoots")?;
     let pool: Entries<Option<PackageDependency>> = field(alloc, value, "fallbackPool")?;
     let exclusions: Exclusions = field(alloc, value, "fallbackExclusionList")?;
-    let registry: Registry = field(alloc, value, "packageRegistryData")?;
     let manifest = Manifest {
         manifest_dir: Text::from(String::new(alloc)),
         manifest_path: Text::from(String::new(alloc)),
@@ -98,6 +139,16 @@ impl FromJson for PackageDependency {
             }
         }
     }
+
+    fn from_owned(alloc: Global, value: Value) -> Result<Self, FromJsonError> {
+        match value {
+            Value::String(reference) => Ok(PackageDependency::Reference(Text::from(reference))),
+            other => {
+                let (name, reference) = <(Text, Text)>::from_owned(alloc, other)?;
+                Ok(PackageDependency::Alias(name, reference))
+            }
+        }
+    }
 }
 
 impl FromJson for PackageInformation {
@@ -119,6 +170,34 @@ impl FromJson for PackageInformation {
             package_dependencies: dependencies.map,
         })
     }
+
+    fn from_owned(alloc: Global, value: Value) -> Result<Self, FromJsonError> {
+        match into_members(value) {
+            Some(members) => package_of_members(alloc, members),
+            None => Err(FromJsonError::OtherKind),
+        }
+    }
+}
+
+// What a row says of its package, by the members of an object that is given up.
+fn package_of_members(
+    alloc: Global,
+    mut members: Map<String, Value>,
+) -> Result<PackageInformation, FromJsonError>
+    ensures { ReadsAs result (package_in (object (members_view members.entries))) }
+{
+    let package_location: Text = take_field(alloc, &mut members, "packageLocation")?;
+    let discarded: bool = take_field_or(alloc, &mut members, "discardFromLookup", false)?;
+    let dependencies: Entries<Option<PackageDependency>> = take_field(
+        alloc,
+        &mut members,
+        "packageDependencies",
+    )?;
+    Ok(PackageInformation {
+        package_location,
+        discard_from_lookup: discarded,
+        package_dependencies: dependencies.map,
+    })
 }
 
 // References by name, seen as lists.
@@ -142,6 +221,12 @@ impl FromJson for Exclusions {
 
     fn from_json(alloc: Global, value: &Value) -> Result<Self, FromJsonError> {
         let pairs = List::<(Text, Members<Text>)>::from_json(alloc, value)?;
+        let exclusions = collect_exclusions(alloc, pairs.into())?;
+        Ok(exclusions)
+    }
+
+    fn from_owned(alloc: Global, value: Value) -> Result<Self, FromJsonError> {
+        let pairs = List::<(Text, Members<Text>)>::from_owned(alloc, value)?;
         let exclusions = collect_exclusions(alloc, pairs.into())?;
         Ok(exclusions)
     }
@@ -185,22 +270,29 @@ impl FromJson for Registry {
         let pairs = List::<(Option<Text>, NullableEntries<PackageInformation>)>::from_json(
             alloc, value,
         )?;
-        let rows = named(alloc, pairs.into())?;
-        let registry = collect_registry(alloc, rows)?;
+        let registry = collect_registry(alloc, pairs.into())?;
+        Ok(registry)
+    }
+
+    fn from_owned(alloc: Global, value: Value) -> Result<Self, FromJsonError> {
+        let pairs = List::<(Option<Text>, NullableEntries<PackageInformation>)>::from_owned(
+            alloc, value,
+        )?;
+        let registry = collect_registry(alloc, pairs.into())?;
         Ok(registry)
     }
 }
 
 fn collect_registry(
     alloc: Global,
-    rows: Vec<(Text, NullableEntries<PackageInformation>)>,
+    pairs: Vec<(Option<Text>, NullableEntries<PackageInformation>)>,
 ) -> Result<Registry, AllocError>
-    ensures { IfOk result (λ read. read ≡ entries_of rows.items) }
+    ensures { IfOk result (λ read. read ≡ entries_of (map named pairs.items)) }
 {
-    let mut map = IndexMap::new(alloc);
-    for (name, references) in rows {
+    let mut map = IndexMap::with_capacity(alloc, pairs.len())?;
+    for (name, references) in pairs {
         let NullableEntries { map: packages } = references;
-        map.insert(name, packages)?;
+        map.insert(name_or_empty(alloc, name), packages)?;
     }
     Ok(Registry { map })
 }

@@ -1,13 +1,13 @@
-// Values at locations, found by the nearest location above a path.
-ghost use Rattle.std.specs.Prelude.{◌≡◌, [], IsTrue, IfOk, IfErr, OnOk, OnErr, string_bytes};
+// Values at locations, found by the nearest location above a path. They are kept in a compressed trie.
+ghost use Rattle.std.specs.Prelude.{◌≡◌, [], IsTrue, IfOk, IfErr, OnOk, OnErr};
 ghost use Rattle.std.specs.Option.{option_copied};
 ghost use Rattle.sugar_path.specs.Path.{IsPath, is_absolute};
 ghost use Rattle.pnp_core.specs.NormalizePath.{location_path};
-ghost use Rattle.pnp_core.specs.Trie.{Puts, nearest_value};
+ghost use Rattle.pnp_core.specs.Trie.{Puts, nearest_value, CountsNodes};
 
 use crate::normalize::location;
+use crate::trie_nodes::{Node, nearest, node_at};
 use std::alloc::{AllocError, Global};
-use std::collections::BTreeMap;
 use std::marker::Model;
 use sugar_path::CleanPath;
 
@@ -15,7 +15,7 @@ use sugar_path::CleanPath;
 #[derive(Drop)]
 pub struct Trie<T> {
     alloc: Global,
-    locations: BTreeMap<String, T>,
+    nodes: Vec<Node<T>>,
 }
 
 impl<T> Model for Trie<T> {
@@ -23,9 +23,11 @@ impl<T> Model for Trie<T> {
 
     ghost Value = { Locations T };
 
-    ghost use Rattle.std.specs.Prelude.{map, string_bytes};
+    ghost use Rattle.pnp_core.specs.Nodes.{stored, AreTrie, AreNeeded};
 
-    ghost view = { λ t. map (λ e. (string_bytes e.0, e.1)) t.locations.entries };
+    ghost view = { λ t. stored t.nodes.items };
+
+    ghost invariant = { λ t. AreTrie t.nodes.items × AreNeeded t.nodes.items 0 };
 }
 
 impl<T: Drop> Trie<T> {
@@ -35,7 +37,7 @@ impl<T: Drop> Trie<T> {
     {
         Trie {
             alloc,
-            locations: BTreeMap::new(alloc),
+            nodes: Vec::new(alloc),
         }
     }
 
@@ -59,16 +61,12 @@ impl<T: Drop> Trie<T> {
         ensures err { OnErr result (self.new ≡ self.old) }
         ensures back { IfErr result (λ e. e.0 ≡ value) }
     {
-        let location = match location.into_text() {
-            Ok(text) => String::from(text),
-            Err(e) => return Err((value, e)),
-        };
-        match self.locations.insert(location, value) {
-            Ok(_) => Ok(()),
-            Err(failed) => {
-                let (_, value) = failed.value;
-                Err((value, AllocError))
+        match node_at(self.alloc, &mut self.nodes, location) {
+            Ok(node) => {
+                self.nodes[node.0].value = Some(value);
+                Ok(())
             }
+            Err(e) => Err((value, e)),
         }
     }
 
@@ -78,14 +76,18 @@ impl<T: Drop> Trie<T> {
         ensures { IfOk result (λ found.
             option_copied found ≡ nearest_value self.now (location_path key.now)) }
     {
-        let mut path = location(alloc, key)?;
-        loop {
-            if let Some(value) = self.locations.get(path.as_str()) {
-                return Ok(Some(value));
-            }
-            if !path.go_up() {
-                return Ok(None);
-            }
+        let path = location(alloc, key)?;
+        match nearest(&self.nodes, &path) {
+            None => Ok(None),
+            Some(node) => Ok(self.nodes[node.0].value.as_ref()),
         }
+    }
+
+    /// How many nodes there are: one for `/`, one for each location, and one for the longest path that each two locations share,
+    /// each path once.
+    pub fn nodes(&self) -> usize
+        ensures { CountsNodes self.now result }
+    {
+        self.nodes.len().max(1)
     }
 }

@@ -14,6 +14,8 @@ mod parts;
 #[cfg(test)]
 mod patterns;
 #[cfg(test)]
+mod tries;
+#[cfg(test)]
 mod unqualified;
 #[cfg(test)]
 mod virtual_paths;

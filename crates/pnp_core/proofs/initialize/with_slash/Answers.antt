@@ -5,7 +5,7 @@ use Rattle.pnp_core.proofs.initialize.with_slash.Goals as goal
 pub returns-then-is_empty : goal.returns-then-is_empty
 returns-then-is_empty c =
     let empty : bytes_eq c.args.folder.now [] ≡ true = bytes_eq-nil c.args.folder.now ∙ sym c.is_empty.ensures ∙ c.if-is_empty.true in
-    rw empty c.in_ok-text.ensures.ok
+    rw empty c.in_ok-text.ensures
 
 pub returns-then-ends_with : goal.returns-then-ends_with
 returns-then-ends_with c =

@@ -1,5 +1,3 @@
-use Rattle.std.proofs.Common.{ap, ◌∙◌, ℕ, ◌≡◌, min, drop, length, arith}
-use Rattle.std.proofs.lemmas.List.{drop_min}
 use Rattle.pnp_core.proofs.VirtualPaths.{virtual_parts-seen, behind-is}
 use Rattle.pnp_core.proofs.virtual_path.virtual_parts.Goals as goal
 
