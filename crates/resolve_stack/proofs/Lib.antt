@@ -4,3 +4,7 @@ pub mod Projects
 pub mod Plain
 pub mod OnTrees
 pub mod ThroughRows
+pub mod AlikePlans
+pub mod KnownOrders
+pub mod ManifestRows
+pub mod KnownFiles

@@ -1,9 +1,8 @@
 -- The plans of the order come to what the tree has, and put the questions that the laws say.
-use Rattle.std.proofs.Common.{◌≡◌, ℕ, Bool, true, false, cond, List, [], ◌++◌, Option, Some, None, Result, Ok, Err, ap, ◌∙◌}
+use Rattle.std.proofs.Common.{◌≡◌, ℕ, Bool, true, false, cond, List, [], ◌++◌, Option, Some, None, Ok, Err, ap, ◌∙◌}
 use Rattle.sugar_path.specs.Path.{Path}
-use Rattle.tree_core.specs.declared.question.Question.{Question}
 use Rattle.tree_core.specs.Tree.{Files}
-use Rattle.tree_core.specs.Plan.{Plan, Done, answer, asked}
+use Rattle.tree_core.specs.Plan.{Done, answer, asked}
 use Rattle.tree_core.specs.Asks.{raised, widened}
 use Rattle.tree_core.specs.Rows.{end_of, or_refused, ends_by}
 use Rattle.tree_core.proofs.Asking.{answer-then, asked-then, answer-done, asked-done}
@@ -61,11 +60,11 @@ asked-or_node_rows : {A : Type 0} (t : Files) (project : ProjectSettings) (reque
 asked-or_node_rows t project request None = asked-ends _ t project request
 asked-or_node_rows t project request (Some a) = asked-done t _
 
-answer-read : (t : Files) (file : Path) → answer t (read_manifest file) ≡ readable file (loaded_on t file)
+pub answer-read : (t : Files) (file : Path) → answer t (read_manifest file) ≡ readable file (loaded_on t file)
 unfolding read_manifest
 answer-read t file = answer-made t (loading file) (readable file) ∙ ap (readable file) (answer-loading t file)
 
-asked-read : (t : Files) (file : Path) → asked t (read_manifest file) ≡ loaded_asks file
+pub asked-read : (t : Files) (file : Path) → asked t (read_manifest file) ≡ loaded_asks file
 unfolding read_manifest
 asked-read t file = asked-made t (loading file) (readable file) ∙ asked-loading t file
 

@@ -8,3 +8,4 @@ pub mod OnTree
 pub mod Through
 pub mod ImportFault
 pub mod ResolverView
+pub mod Known

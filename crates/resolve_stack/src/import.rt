@@ -4,7 +4,8 @@ ghost use Rattle.tree_core.specs.Tree.{Files, Agrees, HasCause, put_times};
 ghost use Rattle.tree_core.specs.Asks.{Asks, Settles, AgreeWith, seen};
 ghost use Rattle.tree_core.specs.RecorderView.{asking_of};
 ghost use Rattle.tree_core.specs.Resolving.{Resolves, resolving};
-ghost use Rattle.resolve_stack.specs.Verdict.{project_order, verdict};
+ghost use Rattle.resolve_stack.specs.Known.{AreRight, project_order_by, verdict_by};
+ghost use Rattle.resolve_stack.specs.Verdict.{verdict};
 ghost use Rattle.resolve_stack.specs.OrderParts.{raised_result};
 ghost use Rattle.resolve_stack.specs.Through.{IsFound};
 ghost use Rattle.resolve_stack.specs.Request.{asked_for, request_of};
@@ -13,8 +14,10 @@ ghost use Rattle.resolver_core.specs.declared.refusal.TsRefusal.TheVariants.{Inn
 ghost use Rattle.resolve_stack.specs.declared.import.ImportError.TheVariants.{TreeFault, NoMemory};
 
 use crate::join::join;
+use crate::kept::KeptManifest;
+use crate::pnp_resolver::KnownJoin;
 use crate::request::Request;
-use crate::{JoinRefusal, Outcome, PnpResolver, Project, Refusal, Verdict};
+use crate::{JoinRefusal, KeptReadings, Outcome, Project, Refusal, Resolver, Verdict};
 use resolver_core::TsRefusal;
 use std::alloc::Global;
 use swc_loader::{FileName, Resolution};
@@ -77,12 +80,84 @@ pub fn resolve_import<T: Tree>(
         (T.state tree.old).questions (T.state tree.new).questions
         (verdict project.now (asked_for importer.now specifier.now)) }
 {
-    let mut recorder = Recorder::new(alloc, tree);
+    Resolver::new(alloc, project).resolve_import(alloc, tree, importer, specifier)
+}
+
+/// The same, with what earlier requests, of any project over any tree, have read. It changes no answer and no trail.
+pub fn resolve_import_with<T: Tree>(
+    alloc: Global,
+    tree: &mut T,
+    project: &Project<'_>,
+    kept: &mut KeptReadings,
+    importer: &FileName,
+    specifier: &str,
+) -> Result<Outcome, ImportError>
+    // The verdict and the trail are those of the order on each tree that agrees with the trail.
+    ensures settled { IfOk result (λ o. Settles o.verdict o.trail
+        (verdict project.now (asked_for importer.now specifier.now))) }
+    // Each tree that the object stands for agrees with the trail.
+    ensures agree { IfOk result (λ o. AgreeWith (T.state tree.old).stands_for o.trail) }
+    // A file found through a row lies below the location of the row that binds the name asked for, or that of its alias.
+    ensures found { IfOk result (λ o. (t : Files) → Agrees t o.trail →
+        IsFound t project.now (asked_for importer.now specifier.now) o.verdict) }
+    ensures stands { (T.state tree.new).stands_for ≡ (T.state tree.old).stands_for }
+    ensures cause { HasCause (T.state tree.old).faults (T.state tree.new).faults (as_read result) }
+    // The tree was asked once for each question of the trail.
+    ensures put { IfOk result (λ o. (T.state tree.new).questions ≡
+        put_times (length o.trail) (T.state tree.old).questions) }
+    // A fault refused one of the order's questions: the tree was asked once for each question before it and once for that one,
+    // and where the tree tells a question, it is that one.
+    ensures fails { IsErrOf result TreeFault → EndsInFault (T.state tree.old).stands_for
+        (T.state tree.old).questions (T.state tree.new).questions (T.state tree.new).told
+        (verdict project.now (asked_for importer.now specifier.now)) }
+    // Where memory was wanting, the tree was asked as often as there are different questions before, or once more.
+    ensures starves { IsErrOf result NoMemory → EndsStarved (T.state tree.old).stands_for
+        (T.state tree.old).questions (T.state tree.new).questions
+        (verdict project.now (asked_for importer.now specifier.now)) }
+{
+    let nothing = Vec::new(alloc);
     let request = Request {
         importer,
         specifier,
     };
-    let decided = decide(alloc, &mut recorder, project, &request);
+    import_by(alloc, tree, project, nothing.as_slice(), kept, &request)
+}
+
+// The same, where manifests are known of a tree that is stood for.
+pub(crate) fn import_by<T: Tree>(
+    alloc: Global,
+    tree: &mut T,
+    project: &Project<'_>,
+    known: &[KeptManifest],
+    kept: &mut KeptReadings,
+    request: &Request<'_>,
+) -> Result<Outcome, ImportError>
+    requires { AreRight (T.state tree.old).stands_for known.now }
+    // The verdict and the trail are those of the order on each tree that agrees with the trail.
+    ensures settled { IfOk result (λ o. Settles o.verdict o.trail
+        (verdict project.now (request_of request.now))) }
+    // Each tree that the object stands for agrees with the trail.
+    ensures agree { IfOk result (λ o. AgreeWith (T.state tree.old).stands_for o.trail) }
+    // A file found through a row lies below the location of the row that binds the name asked for, or that of its alias.
+    ensures found { IfOk result (λ o. (t : Files) → Agrees t o.trail →
+        IsFound t project.now (request_of request.now) o.verdict) }
+    ensures stands { (T.state tree.new).stands_for ≡ (T.state tree.old).stands_for }
+    ensures cause { HasCause (T.state tree.old).faults (T.state tree.new).faults (as_read result) }
+    // The tree was asked once for each question of the trail.
+    ensures put { IfOk result (λ o. (T.state tree.new).questions ≡
+        put_times (length o.trail) (T.state tree.old).questions) }
+    // A fault refused one of the order's questions: the tree was asked once for each question before it and once for that one,
+    // and where the tree tells a question, it is that one.
+    ensures fails { IsErrOf result TreeFault → EndsInFault (T.state tree.old).stands_for
+        (T.state tree.old).questions (T.state tree.new).questions (T.state tree.new).told
+        (verdict project.now (request_of request.now)) }
+    // Where memory was wanting, the tree was asked as often as there are different questions before, or once more.
+    ensures starves { IsErrOf result NoMemory → EndsStarved (T.state tree.old).stands_for
+        (T.state tree.old).questions (T.state tree.new).questions
+        (verdict project.now (request_of request.now)) }
+{
+    let mut recorder = Recorder::new(alloc, tree);
+    let decided = decide_with(alloc, &mut recorder, project, known, kept, request);
     let (trail, lent) = recorder.into_parts();
     let _end = lent;
     Ok(Outcome {
@@ -91,8 +166,8 @@ pub fn resolve_import<T: Tree>(
     })
 }
 
-// How the request ends: a refusal of the order is a verdict too.
-fn decide<T: Tree>(
+// How the request ends, where nothing is kept.
+pub(crate) fn decide<T: Tree>(
     alloc: Global,
     tree: &mut Recorder<'_, T>,
     project: &Project<'_>,
@@ -101,7 +176,40 @@ fn decide<T: Tree>(
     ensures { Asks (asking_of tree.old) (asking_of tree.new) result
         (verdict project.now (request_of request.now)) }
 {
-    match by_order(alloc, tree, project, request) {
+    let nothing = Vec::new(alloc);
+    let mut kept = KeptReadings::new(alloc);
+    decide_by(alloc, tree, project, nothing.as_slice(), &mut kept, request)
+}
+
+// How the request ends, which known manifests of a tree that is stood for don't change.
+fn decide_with<T: Tree>(
+    alloc: Global,
+    tree: &mut Recorder<'_, T>,
+    project: &Project<'_>,
+    known: &[KeptManifest],
+    kept: &mut KeptReadings,
+    request: &Request<'_>,
+) -> Result<Verdict, ReadError>
+    requires { AreRight (asking_of tree.old).tree.stands_for known.now }
+    ensures { Asks (asking_of tree.old) (asking_of tree.new) result
+        (verdict project.now (request_of request.now)) }
+{
+    decide_by(alloc, tree, project, known, kept, request)
+}
+
+// How the request ends: a refusal of the order is a verdict too.
+fn decide_by<T: Tree>(
+    alloc: Global,
+    tree: &mut Recorder<'_, T>,
+    project: &Project<'_>,
+    known: &[KeptManifest],
+    kept: &mut KeptReadings,
+    request: &Request<'_>,
+) -> Result<Verdict, ReadError>
+    ensures { Asks (asking_of tree.old) (asking_of tree.new) result
+        (verdict_by known.now project.now (request_of request.now)) }
+{
+    match by_order(alloc, tree, project, known, kept, request) {
         Ok(resolution) => Ok(Verdict::Answered(resolution)),
         Err(ResolveError::Refused(refusal)) => Ok(Verdict::Refused(refusal)),
         Err(ResolveError::TreeFault) => Err(ReadError::Fault),
@@ -114,17 +222,19 @@ fn by_order<T: Tree>(
     alloc: Global,
     tree: &mut Recorder<'_, T>,
     project: &Project<'_>,
+    known: &[KeptManifest],
+    kept: &mut KeptReadings,
     request: &Request<'_>,
 ) -> Result<Resolution, ResolveError<Refusal>>
     ensures { Resolves (asking_of tree.old) (asking_of tree.new) result
-        (project_order project.now (request_of request.now)) }
+        (project_order_by known.now project.now (request_of request.now)) }
 {
     match project.mapping() {
         Some(mapping) => {
-            let mut inner = PnpResolver::of(alloc, project)?;
+            let mut inner = KnownJoin::of(project, known, kept);
             mapping.resolve(alloc, tree, &mut inner, request.importer, request.specifier)
         }
-        None => inner_refusal(join(alloc, tree, project, request)),
+        None => inner_refusal(join(alloc, tree, project, known, kept, request)),
     }
 }
 

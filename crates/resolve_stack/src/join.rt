@@ -6,7 +6,7 @@ ghost use Rattle.tree_core.specs.Rows.{order};
 ghost use Rattle.pnp_core.specs.Owner.{IsReady};
 ghost use Rattle.resolve_stack.specs.Settings.{path_of};
 ghost use Rattle.resolve_stack.specs.Request.{request_of};
-ghost use Rattle.resolve_stack.specs.Order.{join as join_order};
+ghost use Rattle.resolve_stack.specs.Known.{join_by};
 ghost use Rattle.resolve_stack.specs.OrderParts.{manifest_rows, owned_rows, bare_rows, package_rows, folder_rows};
 ghost use Rattle.resolve_stack.specs.Rows.{node_rows_of};
 
@@ -14,8 +14,9 @@ use crate::join_rows::{
     bare_base, bound_of, checked_row, contained, folder_of, found_at, identifier_of, raised,
     read_manifest,
 };
+use crate::kept::KeptManifest;
 use crate::request::Request;
-use crate::{JoinRefusal, Project};
+use crate::{JoinRefusal, KeptReadings, Project};
 use pnp_core::{Manifest, PackageLocator, closest_manifest, find_locator};
 use std::alloc::Global;
 use sugar_path::{CleanPath, Text};
@@ -27,35 +28,43 @@ pub(crate) fn join<R: Asker>(
     alloc: Global,
     tree: &mut R,
     project: &Project<'_>,
+    known: &[KeptManifest],
+    kept: &mut KeptReadings,
     request: &Request<'_>,
 ) -> Result<Resolution, ResolveError<JoinRefusal>>
     ensures { Resolves (R.asking tree.old) (R.asking tree.new) result
-        (join_order project.now (request_of request.now)) }
+        (join_by known.now project.now (request_of request.now)) }
 {
+    let KeptReadings {
+        manifests,
+        packages,
+    } = kept;
     let Some(base) = bare_base(request) else {
-        return by_node_rows(alloc, tree, project, request);
+        return by_node_rows(alloc, tree, packages, project, request);
     };
     let importer = CleanPath::read(alloc, project.cwd(), base)?;
     let Some(file) = closest_manifest(alloc, tree, &importer)? else {
-        return by_node_rows(alloc, tree, project, request);
+        return by_node_rows(alloc, tree, packages, project, request);
     };
-    let manifest = read_manifest(alloc, tree, file)?;
-    join_by_manifest(alloc, tree, project, request, base, &manifest, &importer)
+    let manifest = read_manifest(alloc, tree, known, manifests, file)?;
+    join_by_manifest(
+        alloc, tree, packages, project, request, base, manifest, &importer,
+    )
 }
 
 // The node rows of the whole request.
 fn by_node_rows<R: Asker>(
     alloc: Global,
     tree: &mut R,
+    readings: &mut Readings,
     project: &Project<'_>,
     request: &Request<'_>,
 ) -> Result<Resolution, ResolveError<JoinRefusal>>
     ensures { Resolves (R.asking tree.old) (R.asking tree.new) result
         (node_rows_of project.now (request_of request.now)) }
 {
-    let found = project
-        .node()
-        .node_order(alloc, tree, request.importer, request.specifier);
+    let node = project.node();
+    let found = node.node_order_with(alloc, tree, readings, request.importer, request.specifier);
     raised(found)
 }
 
@@ -63,6 +72,7 @@ fn by_node_rows<R: Asker>(
 fn join_by_manifest<R: Asker>(
     alloc: Global,
     tree: &mut R,
+    readings: &mut Readings,
     project: &Project<'_>,
     request: &Request<'_>,
     base: &str,
@@ -76,9 +86,9 @@ fn join_by_manifest<R: Asker>(
 {
     match find_locator(alloc, manifest, importer.as_str())? {
         Some(owner) => join_owned(
-            alloc, tree, project, request, base, manifest, owner, importer,
+            alloc, tree, readings, project, request, base, manifest, owner, importer,
         ),
-        None => by_node_rows(alloc, tree, project, request),
+        None => by_node_rows(alloc, tree, readings, project, request),
     }
 }
 
@@ -86,6 +96,7 @@ fn join_by_manifest<R: Asker>(
 fn join_owned<R: Asker>(
     alloc: Global,
     tree: &mut R,
+    readings: &mut Readings,
     project: &Project<'_>,
     request: &Request<'_>,
     base: &str,
@@ -97,21 +108,20 @@ fn join_owned<R: Asker>(
     ensures { Resolves (R.asking tree.old) (R.asking tree.new) result
         (order (owned_rows project.now (request_of request.now) base.now manifest.now owner.now)) }
 {
-    let mut readings = Readings::new(alloc);
     let node = project.node();
-    let before = node.before_search_with(alloc, tree, &mut readings, importer, request.specifier)?;
+    let before = node.before_search_with(alloc, tree, readings, importer, request.specifier)?;
     let target = match before {
         Before::Decided(resolution) => return Ok(resolution),
         Before::Target(target) => target,
     };
     if !is_bare(target.as_str()) {
-        let found = node.search_with(alloc, tree, &mut readings, base, target.as_str());
+        let found = node.search_with(alloc, tree, readings, base, target.as_str());
         return raised(found);
     }
     join_bare(
         alloc,
         tree,
-        &mut readings,
+        readings,
         project,
         manifest,
         owner,

@@ -4,18 +4,19 @@ ghost use Rattle.std.specs.Option.{option_copied};
 ghost use Rattle.tree_core.specs.Asks.{seen};
 ghost use Rattle.tree_core.specs.Resolving.{Resolves, IsDecided, resolving};
 ghost use Rattle.lock_checks.specs.Lent.{lent};
-ghost use Rattle.pnp_core.specs.Manifest.{Contents};
 ghost use Rattle.pnp_core.specs.Owner.{IsReady};
 ghost use Rattle.resolve_stack.specs.Request.{request_of};
 ghost use Rattle.resolve_stack.specs.OrderParts.{raised_result};
+ghost use Rattle.resolve_stack.specs.Known.{read_by};
 ghost use Rattle.resolve_stack.specs.Rows as rows;
 
+use crate::kept::{KeptManifest, KeptManifests, known_at};
 use crate::request::Request;
 use crate::{JoinRefusal, Project};
 use lock_checks::{EdgeFault, checked_location};
 use pnp_core::{
-    Binding, HydrationCause, Manifest, PackageLocator, binding_of_name, loaded_manifest,
-    missing_peer_of, physical_place, split_bare_identifier, undeclared_of,
+    Binding, Manifest, PackageLocator, binding_of_name, missing_peer_of, physical_place,
+    split_bare_identifier, undeclared_of,
 };
 use std::alloc::{AllocError, Global};
 use sugar_path::{CleanPath, Text};
@@ -64,33 +65,22 @@ fn of_node(refusal: NodeRefusal) -> JoinRefusal
     }
 }
 
-// The manifest that a file is.
-pub(crate) fn read_manifest<R: Asker>(
+// The manifest that a file is: a known one, or what its bytes say.
+pub(crate) fn read_manifest<'k, R: Asker>(
     alloc: Global,
     tree: &mut R,
+    known: &'k [KeptManifest],
+    kept: &'k mut KeptManifests,
     file: CleanPath,
-) -> Result<Manifest, ResolveError<JoinRefusal>>
-    ensures asks { Resolves (R.asking tree.old) (R.asking tree.new) result
-        (rows.read_manifest file) }
-    ensures ready { IfOk result IsReady }
+) -> Result<&'k Manifest, ResolveError<JoinRefusal>>
+    ensures asks { Resolves (R.asking tree.old) (R.asking tree.new) (lent result)
+        (read_by known.now file) }
+    ensures ready { IfOk result (λ manifest. IsReady manifest.now) }
 {
-    match loaded_manifest(alloc, tree, &file) {
-        Ok(manifest) => Ok(manifest),
-        Err(ResolveError::Refused(cause)) => Err(failed_hydration(file, cause)),
-        Err(ResolveError::TreeFault) => Err(ResolveError::TreeFault),
-        Err(ResolveError::NoMemory) => Err(ResolveError::NoMemory),
-    }
-}
-
-// The refusal of a file that is no manifest.
-fn failed_hydration(file: CleanPath, cause: HydrationCause) -> ResolveError<JoinRefusal>
-    ensures { IsDecided {A = Contents} (Err result) (rows.readable file (Err cause)) }
-{
-    match file.into_text() {
-        Ok(manifest) => {
-            ResolveError::Refused(JoinRefusal::FailedManifestHydration { cause, manifest })
-        }
-        Err(_) => ResolveError::NoMemory,
+    let content = tree.read(&file)?;
+    match known_at(known, &file) {
+        Some(manifest) => Ok(manifest),
+        None => kept.manifest_of(alloc, file, content),
     }
 }
 

@@ -6,9 +6,13 @@ mod example;
 #[cfg(test)]
 mod join_rows;
 #[cfg(test)]
+mod kept;
+#[cfg(test)]
 mod mappings;
 #[cfg(test)]
 mod projects;
+#[cfg(test)]
+mod replays;
 #[cfg(test)]
 mod requests;
 #[cfg(test)]

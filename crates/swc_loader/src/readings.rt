@@ -11,8 +11,11 @@ use std::alloc::{AllocError, Global};
 use std::marker::Model;
 use sugar_path::Bytes;
 
-/// What the contents of package.jsons were parsed to, so that a content that several rows of a request read is parsed once. They
-/// change no answer: contracts see nothing of what is kept.
+// How many contents are kept.
+const MOST: usize = 128;
+
+/// What the contents of package.jsons were parsed to, so that a content that several rows or requests read is parsed once. They
+/// change no answer: contracts see nothing of what is kept. A content that is one too many takes the place of all of them.
 #[derive(Drop)]
 pub struct Readings {
     kept: IndexMap<Bytes, Option<Value>>,
@@ -66,8 +69,19 @@ fn place_of(
         return Ok(place);
     }
     let value = parsed(alloc, content.as_slice())?;
+    make_room(kept);
     let (place, _) = kept.insert_full(content, value)?;
     Ok(place)
+}
+
+// Where no more contents are to be kept, all go.
+fn make_room(kept: &mut IndexMap<Bytes, Option<Value>>)
+    requires { AreReadings kept.old.entries }
+    ensures { AreReadings kept.new.entries }
+{
+    if kept.len() >= MOST {
+        kept.clear();
+    }
 }
 
 // The value that bytes are, where they are JSON.

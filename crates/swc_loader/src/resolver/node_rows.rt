@@ -31,6 +31,22 @@ impl NodeModulesResolver {
         ensures { Resolves (R.asking tree.old) (R.asking tree.new) result
             (node self.now base.now specifier.now) }
     {
+        let mut readings = Readings::new(alloc);
+        self.node_order_with(alloc, tree, &mut readings, base, specifier)
+    }
+
+    /// The same, with readings that requests share.
+    pub fn node_order_with<R: Asker>(
+        &self,
+        alloc: Global,
+        tree: &mut R,
+        readings: &mut Readings,
+        base: &FileName,
+        specifier: &str,
+    ) -> Result<Resolution, ResolveError<NodeRefusal>>
+        ensures { Resolves (R.asking tree.old) (R.asking tree.new) result
+            (node self.now base.now specifier.now) }
+    {
         if let Some(file) = self.probe(alloc, tree, specifier)? {
             let relative = !specifier.starts_with('/');
             return Ok(self.answer(alloc, tree, None, file, relative)?);
@@ -39,16 +55,11 @@ impl NodeModulesResolver {
             return Err(ResolveError::Refused(NodeRefusal::BaseNotAFile));
         };
         let at = CleanPath::read(alloc, self.cwd(), importer.as_str())?;
-        let mut readings = Readings::new(alloc);
-        match self.before_search_with(alloc, tree, &mut readings, &at, specifier)? {
+        match self.before_search_with(alloc, tree, readings, &at, specifier)? {
             Before::Decided(resolution) => Ok(resolution),
-            Before::Target(target) => self.search_with(
-                alloc,
-                tree,
-                &mut readings,
-                importer.as_str(),
-                target.as_str(),
-            ),
+            Before::Target(target) => {
+                self.search_with(alloc, tree, readings, importer.as_str(), target.as_str())
+            }
         }
     }
 

@@ -1,40 +1,39 @@
 use Rattle.std.proofs.Common.{sym}
 use Rattle.tree_core.specs.Resolving.{resolving}
 use Rattle.tree_core.proofs.Asking.{asks_starved_in}
-use Rattle.resolve_stack.specs.Order.{join}
-use Rattle.resolve_stack.specs.Rows.{nearest_manifest, manifest_in}
+use Rattle.resolve_stack.specs.Known.{join_by, nearest_manifest_by, manifest_in_by}
 use Rattle.resolve_stack.proofs.Raising.{some_row, none_row}
 use Rattle.tree_core.proofs.RowCalls.{row_then, row_fails, ends_row, after_row, stops_row}
 use Rattle.resolve_stack.proofs.join.join.Goals as goal
 
 pub returns-in_default : goal.returns-in_default
-unfolding join
+unfolding join_by
 returns-in_default g c = none_row c.args.project.now _ _ _ (sym (rw c.in_default.is at c.bare_base.ensures)) c.by_node_rows.ensures
 
 pub returns-in_err-importer : goal.returns-in_err-importer
-unfolding join
+unfolding join_by
 returns-in_err-importer g c = some_row c.args.project.now _ _ _ (sym c.in-Some.ensures) (asks_starved_in resolving _ c.from_residual.ensures.1)
 
 pub returns-in_err-file : goal.returns-in_err-file
-unfolding join nearest_manifest
+unfolding join_by nearest_manifest_by
 returns-in_err-file g c =
     let nearest = rw (c.in_ok-importer.ensures, c.cwd.ensures) at c.in_err-file.ensures in
-    some_row c.args.project.now _ _ _ (sym c.in-Some.ensures) (row_fails (manifest_in c.args.project.now _) _ _ c.from_residual-in_err-file.ensures.1 nearest)
+    some_row c.args.project.now _ _ _ (sym c.in-Some.ensures) (row_fails (manifest_in_by c.args.known.now c.args.project.now _) _ _ c.from_residual-in_err-file.ensures.1 nearest)
 
 pub returns-in_default-2 : goal.returns-in_default-2
-unfolding join nearest_manifest
+unfolding join_by nearest_manifest_by
 returns-in_default-2 g c =
     let nearest = rw (c.in_ok-importer.ensures, c.cwd.ensures) at c.in_ok-file.ensures in
-    some_row c.args.project.now _ _ _ (sym c.in-Some.ensures) (row_then (manifest_in c.args.project.now _) _ nearest c.in_default-2.is (ends_row _ c.by_node_rows-in_default-2.ensures))
+    some_row c.args.project.now _ _ _ (sym c.in-Some.ensures) (row_then (manifest_in_by c.args.known.now c.args.project.now _) _ nearest c.in_default-2.is (ends_row _ c.by_node_rows-in_default-2.ensures))
 
 pub returns-in_err-manifest : goal.returns-in_err-manifest
-unfolding join nearest_manifest
+unfolding join_by nearest_manifest_by
 returns-in_err-manifest g c =
     let nearest = rw (c.in_ok-importer.ensures, c.cwd.ensures) at c.in_ok-file.ensures in
-    some_row c.args.project.now _ _ _ (sym c.in-Some.ensures) (row_then (manifest_in c.args.project.now _) _ nearest c.in-Some-2.is (stops_row _ _ _ c.from_residual-in_err-manifest.ensures.1 c.in_err-manifest.ensures.asks))
+    some_row c.args.project.now _ _ _ (sym c.in-Some.ensures) (row_then (manifest_in_by c.args.known.now c.args.project.now _) _ nearest c.in-Some-2.is (stops_row _ _ _ c.from_residual-in_err-manifest.ensures.1 c.in_err-manifest.ensures.asks))
 
 pub returns : goal.returns
-unfolding join nearest_manifest
+unfolding join_by nearest_manifest_by
 returns g c =
     let nearest = rw (c.in_ok-importer.ensures, c.cwd.ensures) at c.in_ok-file.ensures in
-    some_row c.args.project.now _ _ _ (sym c.in-Some.ensures) (row_then (manifest_in c.args.project.now _) _ nearest c.in-Some-2.is (after_row _ c.in_ok-manifest.ensures.asks c.join_by_manifest.ensures))
+    some_row c.args.project.now _ _ _ (sym c.in-Some.ensures) (row_then (manifest_in_by c.args.known.now c.args.project.now _) _ nearest c.in-Some-2.is (after_row _ c.in_ok-manifest.ensures.asks c.join_by_manifest.ensures))

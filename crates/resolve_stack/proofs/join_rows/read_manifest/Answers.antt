@@ -1,21 +1,21 @@
-use Rattle.std.proofs.Common.{Err, refl}
-use Rattle.tree_core.proofs.Asking.{asks_then, asks_done, asks_fails, asks_decided}
-use Rattle.resolve_stack.specs.Rows.{read_manifest}
+use Rattle.std.proofs.Common.{sym}
+use Rattle.lock_checks.specs.Lent.{lent}
+use Rattle.lock_checks.proofs.Bindings.{lent_err}
+use Rattle.tree_core.specs.Resolving.{resolving}
+use Rattle.tree_core.proofs.Asking.{asks_then, asks_fails_in}
+use Rattle.resolve_stack.specs.Known.{read_by}
+use Rattle.resolve_stack.proofs.ManifestRows.{known_row, read_row}
 use Rattle.resolve_stack.proofs.join_rows.read_manifest.Goals as goal
 
-pub returns-in-Ok-clause-asks : goal.returns-in-Ok-clause-asks
-unfolding read_manifest
-returns-in-Ok-clause-asks g c = asks_then _ c.in-Ok.ensures.asks (asks_done refl)
+pub returns-in_err-content-clause-asks : goal.returns-in_err-content-clause-asks
+unfolding read_by
+returns-in_err-content-clause-asks g c =
+    asks_fails_in resolving _ (lent c.from_residual.result) (lent_err _ _ c.from_residual.ensures.1) c.in_err-content.ensures
 
-pub returns-in-Err-Refused-clause-asks : goal.returns-in-Err-Refused-clause-asks
-unfolding read_manifest
-returns-in-Err-Refused-clause-asks g c =
-    asks_then _ (rw c.in-Err-Refused.field-0-is at c.in-Err-Refused.ensures.asks) (asks_decided (Err c.failed_hydration.result) c.failed_hydration.ensures)
+pub returns-in-Some-clause-asks : goal.returns-in-Some-clause-asks
+unfolding read_by
+returns-in-Some-clause-asks g c = asks_then _ c.in_ok-content.ensures (known_row _ _ _ (sym c.in-Some.ensures.known))
 
-pub returns-in-Err-TreeFault-clause-asks : goal.returns-in-Err-TreeFault-clause-asks
-unfolding read_manifest
-returns-in-Err-TreeFault-clause-asks g c = asks_fails _ _ refl (rw c.in-Err-TreeFault.field-0-is at c.in-Err-TreeFault.ensures.asks)
-
-pub returns-in-Err-NoMemory-clause-asks : goal.returns-in-Err-NoMemory-clause-asks
-unfolding read_manifest
-returns-in-Err-NoMemory-clause-asks g c = asks_fails _ _ refl (rw c.in-Err-NoMemory.field-0-is at c.in-Err-NoMemory.ensures.asks)
+pub returns-clause-asks : goal.returns-clause-asks
+unfolding read_by
+returns-clause-asks g c = asks_then _ c.in_ok-content.ensures (read_row c.manifest_of.result _ _ _ (sym c.in-None.ensures.known) c.manifest_of.ensures.decided)

@@ -1,0 +1,187 @@
+// A tree in memory whose manifests are known.
+ghost use Rattle.std.specs.Prelude.{◌≡◌, ◌≢◌, None, Some, OnOk, OnErr, IfOk, IfErr, IsErrOf, length, bytes_eq};
+ghost use Rattle.std.specs.FinMap as map;
+ghost use Rattle.std.specs.List.{list_any};
+ghost use Rattle.sugar_path.specs.Path.{text_of};
+ghost use Rattle.tree_core.specs.Memory.{memory_state, refusal, with_file};
+ghost use Rattle.tree_core.specs.Tree.{Files, Agrees, is_file, put_times};
+ghost use Rattle.tree_core.specs.Asks.{Settles, AgreeWith};
+ghost use Rattle.tree_core.specs.declared.memory.PutError.TheVariants as put_error;
+ghost use Rattle.resolve_stack.specs.Known.{IsSameBeside, AreKnownOn};
+ghost use Rattle.resolve_stack.specs.Verdict.{verdict};
+ghost use Rattle.resolve_stack.specs.Through.{IsFound};
+ghost use Rattle.resolve_stack.specs.Request.{asked_for};
+ghost use Rattle.resolve_stack.specs.ImportFault.{EndsStarved};
+ghost use Rattle.resolve_stack.specs.declared.import.ImportError.TheVariants.{NoMemory};
+
+use crate::import::import_by;
+use crate::kept::{KeptManifest, make_room};
+use crate::request::Request;
+use crate::{FileName, ImportError, KeptReadings, Outcome, Project};
+use std::alloc::Global;
+use std::marker::Model;
+use tree_core::{MemoryTree, PutError, Trail};
+
+/// A tree in memory that keeps what requests over it have read. Until the file of a manifest is put or removed, a further request over it
+/// neither reads nor compares the manifest's bytes.
+#[derive(Drop)]
+pub struct KnownTree {
+    tree: MemoryTree,
+    // the manifests that files of the tree are
+    known: Vec<KeptManifest>,
+    kept: KeptReadings,
+}
+
+impl Model for KnownTree {
+    ghost use Rattle.tree_core.specs.Memory.{Memory, memory_code};
+    ghost use Rattle.resolve_stack.specs.Known.{AreKnownOn};
+
+    ghost Value = { Memory };
+
+    ghost coded = { memory_code };
+
+    ghost view = { λ t. t.tree };
+
+    ghost invariant = { λ t. AreKnownOn t.tree.files t.known.items };
+}
+
+impl KnownTree {
+    /// The tree with no files.
+    pub fn new(alloc: Global) -> KnownTree
+        ensures { result ≡ record { files = map.empty; questions = 0 } }
+    {
+        KnownTree::of(alloc, MemoryTree::new(alloc))
+    }
+
+    /// The same tree, of which nothing is known yet.
+    pub fn of(alloc: Global, tree: MemoryTree) -> KnownTree
+        ensures { result ≡ tree }
+    {
+        KnownTree {
+            tree,
+            known: Vec::new(alloc),
+            kept: KeptReadings::new(alloc),
+        }
+    }
+
+    /// How many questions were put.
+    pub fn questions(&self) -> u64
+        ensures { result ≡ self.now.questions }
+    {
+        self.tree.questions()
+    }
+
+    /// Puts a file, in place of an earlier one at the path.
+    pub fn put(&mut self, path: &str, bytes: &[u8], canonical: &str) -> Result<(), PutError>
+        ensures ok { OnOk result (self.new ≡ record self.old {
+          files = with_file self.old.files path.now
+              (record { content = bytes.now; canonical = canonical.now });
+        }) }
+        ensures fits { OnOk result (refusal self.old.files path.now canonical.now ≡ None) }
+        ensures refused { IfErr result (λ e. e ≢ put_error.NoMemory
+            → refusal self.old.files path.now canonical.now ≡ Some e) }
+        ensures err { OnErr result (self.new ≡ self.old) }
+    {
+        self.tree.put(path, bytes, canonical)?;
+        forget(&mut self.known, path);
+        Ok(())
+    }
+
+    /// Takes a file out, and tells whether it was there.
+    pub fn remove(&mut self, path: &str) -> bool
+        ensures was { result ≡ is_file self.old.files path.now }
+        ensures gone { self.new ≡ record self.old { files = map.remove self.old.files path.now } }
+    {
+        let was = self.tree.remove(path);
+        forget(&mut self.known, path);
+        was
+    }
+
+    /// Which file a specifier means, asked from an importer of a project: the verdict of the order of search, with the trail that
+    /// decides it. The files stay as they are.
+    pub fn resolve_import(
+        &mut self,
+        alloc: Global,
+        project: &Project<'_>,
+        importer: &FileName,
+        specifier: &str,
+    ) -> Result<Outcome, ImportError>
+        // The verdict and the trail are those of the order on each tree that agrees with the trail.
+        ensures settled { IfOk result (λ o. Settles o.verdict o.trail
+            (verdict project.now (asked_for importer.now specifier.now))) }
+        // The tree itself agrees with the trail.
+        ensures agree { IfOk result (λ o. AgreeWith (memory_state self.old).stands_for o.trail) }
+        // A file found through a row lies below the location of the row that binds the name asked for, or that of its alias.
+        ensures found { IfOk result (λ o. (t : Files) → Agrees t o.trail →
+            IsFound t project.now (asked_for importer.now specifier.now) o.verdict) }
+        ensures files { self.new.files ≡ self.old.files }
+        // The tree was asked once for each question of the trail.
+        ensures put { IfOk result (λ o.
+            self.new.questions ≡ put_times (length o.trail) self.old.questions) }
+        ensures memory { IfErr result (λ e. e ≡ NoMemory) }
+        // Where memory was wanting, the tree was asked as often as there are different questions before, or once more.
+        ensures starves { IsErrOf result NoMemory → EndsStarved (memory_state self.old).stands_for
+            self.old.questions self.new.questions
+            (verdict project.now (asked_for importer.now specifier.now)) }
+    {
+        let request = Request {
+            importer,
+            specifier,
+        };
+        let outcome = import_by(
+            alloc,
+            &mut self.tree,
+            project,
+            self.known.as_slice(),
+            &mut self.kept,
+            &request,
+        )?;
+        learn(alloc, &mut self.known, &mut self.kept, &outcome.trail);
+        Ok(outcome)
+    }
+
+    /// The tree.
+    pub fn tree(&self) -> &MemoryTree
+        ensures { result.now ≡ self.now }
+    {
+        &self.tree
+    }
+}
+
+// Forgets what is known, where that is of the file at a path.
+fn forget(known: &mut Vec<KeptManifest>, path: &str)
+    ensures { (t u : Files) → IsSameBeside t u path.now
+        → AreKnownOn t known.old.items → AreKnownOn u known.new.items }
+{
+    if is_known(known.as_slice(), path) {
+        known.clear();
+    }
+}
+
+// Whether a manifest is known at a path.
+fn is_known(known: &[KeptManifest], path: &str) -> bool
+    ensures { result ≡ list_any (λ k. bytes_eq path.now (text_of k.path)) known.now }
+{
+    known.iter().any(|read| path == read.file())
+}
+
+// What was read is known where a trail has it.
+fn learn(alloc: Global, known: &mut Vec<KeptManifest>, kept: &mut KeptReadings, trail: &Trail)
+    ensures { (t : Files) → Agrees t trail.now
+        → AreKnownOn t known.old.items → AreKnownOn t known.new.items }
+{
+    for read in kept.manifests.take_all(alloc) {
+        note(alloc, known, read, trail);
+    }
+}
+
+// The same of one manifest. Where as many are known as are kept, the first is forgotten; where memory is wanting, the one is.
+fn note(alloc: Global, known: &mut Vec<KeptManifest>, read: KeptManifest, trail: &Trail)
+    ensures { (t : Files) → Agrees t trail.now
+        → AreKnownOn t known.old.items → AreKnownOn t known.new.items }
+{
+    if read.is_replied(alloc, trail) {
+        make_room(known);
+        let _noted = known.push(read);
+    }
+}
