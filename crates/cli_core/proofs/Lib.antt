@@ -1,5 +1,4 @@
-pub mod Causes
-pub mod Documents
-pub mod Items
+pub mod Reports
+pub mod Sizes
 pub mod Turns
-pub mod Floats
+pub mod Words

@@ -1,14 +1,60 @@
 -- Which words are which command.
-use Rattle.std.specs.Prelude.{ℕ, List, [], ◌∷◌, map, codes, bytes_eq, Option, Some, None, String, string_bytes, if◌then◌else◌}
+use Rattle.std.specs.Prelude.{ℕ, ◌+◌, ◌-◌, ◌*◌, Bool, true, false, ◌&&◌, nat_le, List, [], ◌∷◌, map, codes, bytes_eq, Option, Some, None, option_map, String, string_bytes, if◌then◌else◌}
+use Rattle.std.specs.Str.{all_ascii_digits}
 use Rattle.std.specs.declared.alloc.Global.{Global}
+use Rattle.disk_report.specs.DiskRequest.{Asked}
+use Rattle.cli_core.specs.OnDisk.{disk_request_in}
 use Rattle.cli_core.specs.declared.command.Command.{Command}
-use Rattle.cli_core.specs.declared.command.Command.TheVariants.{Resolve}
+use Rattle.cli_core.specs.declared.command.Command.TheVariants.{Resolve, Session, Generate, Disk}
+use Rattle.cli_core.specs.declared.document_kind.DocumentKind.{DocumentKind}
+use Rattle.cli_core.specs.declared.document_kind.DocumentKind.TheVariants.{Requests, Steps}
+use Rattle.cli_core.specs.declared.command.TheConstants.{LARGEST}
 
--- one word: `resolve`
+-- the first byte is a digit above 0
+abbrev pub begins_above_zero : List ℕ → Bool
+begins_above_zero [] = false
+begins_above_zero (c ∷ cs) = nat_le 49 c && nat_le c 57
+
+-- the number that digits give behind a number
+abbrev pub number_after : ℕ → List ℕ → ℕ
+number_after n [] = n
+number_after n (c ∷ cs) = number_after (10 * n + (c - 48)) cs
+
+-- the size that a word gives: a number from 1 to the largest one, without sign and without a zero in front
+unfoldable pub size_of : List ℕ → Option ℕ
+size_of word =
+    if begins_above_zero word && (all_ascii_digits word && nat_le (number_after 0 word) LARGEST) then Some (number_after 0 word)
+    else None
+
+-- one word: `resolve` or `session`
+abbrev pub command_of_one : List ℕ → Option Command
+command_of_one word =
+    if bytes_eq word (codes "resolve") then Some (Resolve false)
+    else if bytes_eq word (codes "session") then Some Session
+    else None
+
+-- two words: `resolve --trail`, or `generate` and a size
+abbrev pub command_of_two : List ℕ → List ℕ → Option Command
+command_of_two word next =
+    if bytes_eq word (codes "resolve") && bytes_eq next (codes "--trail") then Some (Resolve true)
+    else if bytes_eq word (codes "generate") then option_map Generate (size_of next)
+    else None
+
 abbrev pub command_in : List (List ℕ) → Option Command
 command_in [] = None
-command_in (word ∷ []) = if bytes_eq word (codes "resolve") then Some Resolve else None
-command_in (word ∷ next ∷ words) = None
+command_in (word ∷ []) = command_of_one word
+command_in (word ∷ next ∷ []) = command_of_two word next
+command_in (word ∷ next ∷ third ∷ words) =
+    option_map (λ _. Disk) (disk_request_in (word ∷ next ∷ third ∷ words))
 
 abbrev pub asked : List (String Global) → Option Command
 asked words = command_in (map string_bytes words)
+
+-- the request over a tree that words ask for
+abbrev pub asked_on_disk : List (String Global) → Option Asked
+asked_on_disk words = disk_request_in (map string_bytes words)
+
+-- the command that reads a document of a kind
+abbrev pub reader_of : DocumentKind → Command
+reader_of (Requests trails) = Resolve trails
+reader_of Steps = Session

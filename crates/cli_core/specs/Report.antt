@@ -1,165 +1,35 @@
--- The lines that are written: for each verdict the compact text of a JSON object whose keys stand in byte order.
-use Rattle.std.specs.Prelude.{ℕ, List, [], ◌∷◌, ◌++◌, codes, decimal, map, flat_map, Option, Some, None}
-use Rattle.json.specs.Print.{quoted}
-use Rattle.serde_json.specs.Data.{Data, null, string, array, object, no_members, member}
-use Rattle.serde_json.specs.View.{items_of}
-use Rattle.serde_json.specs.Written.{compact_text}
-use Rattle.swc_loader.specs.declared.resolution.FileName.{FileName}
-use Rattle.swc_loader.specs.declared.resolution.FileName.TheVariants.{Real, Custom, Anon}
-use Rattle.swc_loader.specs.declared.resolution.Found.{Found}
-use Rattle.pnp_core.specs.declared.error.HydrationCause.{HydrationCause}
-use Rattle.pnp_core.specs.declared.error.HydrationCause.TheVariants.{NotText, NoPayload, BadJson, BadPattern, NoTopLevel}
-use Rattle.resolve_stack.specs.declared.project.ProjectError.{ProjectError}
-use Rattle.resolve_stack.specs.declared.project.ProjectError.TheVariants.{SettingsFault, EmptyTargets, TwoWildcards, ExactNeedsOne, LockParser, NoMemory}
-use Rattle.resolve_stack.specs.declared.verdict.JoinRefusal.{JoinRefusal}
-use Rattle.resolve_stack.specs.declared.verdict.JoinRefusal.TheVariants.{BadSpecifier, FailedManifestHydration, UndeclaredDependency, MissingPeerDependency, NotInRegistry, NotLocked, MalformedPackage, OutOfRange, Archive, Outside, NotFound, BaseNotAFile}
-use Rattle.resolver_core.specs.declared.refusal.TsRefusal.{TsRefusal}
-use Rattle.resolver_core.specs.declared.refusal.TsRefusal.TheVariants.{Inner, TsFault}
-use Rattle.pnp_core.specs.declared.manifest.PackageLocator.{PackageLocator}
-use Rattle.swc_loader.specs.declared.resolution.Resolution.{Resolution}
-use Rattle.resolve_stack.specs.declared.verdict.Verdict.{Verdict}
-use Rattle.resolve_stack.specs.declared.verdict.Verdict.TheVariants.{Answered, Refused}
-use Rattle.swc_loader.specs.declared.resolution.Via.{Via}
-use Rattle.cli_core.specs.Cause.{name_of}
-use Rattle.cli_core.specs.declared.cause.Cause.{Cause}
-use Rattle.cli_core.specs.declared.cause.Cause.TheVariants as cause
+-- What is written for a document: a line for each of its requests or steps.
+use Rattle.std.specs.Prelude.{ℕ, Bool, List, flat_map, Result, Ok, Err}
+use Rattle.tree_core.specs.Tree.{Files}
+use Rattle.resolve_stack.specs.Settings.{ProjectSettings}
+use Rattle.document_core.specs.Cause.{◌>>=◌}
+use Rattle.document_core.specs.Document.{document}
+use Rattle.document_core.specs.Outcomes.{outcome_on}
+use Rattle.document_core.specs.declared.cause.Cause.{Cause}
+use Rattle.document_core.specs.declared.given.Request.{Request}
+use Rattle.report_core.specs.Lines.{outcome_line}
+use Rattle.session_report.specs.Report.{session_report}
+use Rattle.cli_core.specs.declared.document_kind.DocumentKind.{DocumentKind}
+use Rattle.cli_core.specs.declared.document_kind.DocumentKind.TheVariants.{Requests, Steps}
 
-abbrev pub text_or_null : Option (List ℕ) → Data
-text_or_null None = null
-text_or_null (Some t) = string t
+-- the lines of requests, in order, with trails where they are asked for
+abbrev pub lines_of : Bool → Files → ProjectSettings → List Request → List ℕ
+lines_of trails t project requests =
+    flat_map (λ request. outcome_line trails (outcome_on t project request)) requests
 
--- what answers: a file's text or a custom name
-abbrev pub name_value : FileName → Data
-name_value (Real t) = object (member (codes "real") (string t) no_members)
-name_value (Custom t) = object (member (codes "custom") (string t) no_members)
-name_value Anon = null
+-- the lines of a project's requests, or the cause against the project
+abbrev pub lines_by :
+    Bool → Files → List Request → Result ProjectSettings Cause → Result (List ℕ) Cause
+lines_by trails t requests (Ok project) = Ok (lines_of trails t project requests)
+lines_by trails t requests (Err cause) = Err cause
 
--- the row through which a file was found
-abbrev pub via_value : Option Via → Data
-via_value None = null
-via_value (Some via) = object
-    (member (codes "location") (string via.location)
-    (member (codes "name") (string via.name)
-    (member (codes "reference") (string via.reference) no_members)))
+-- the report on a document, with trails where they are asked for, or the first cause against it
+unfoldable pub report : Bool → List ℕ → Result (List ℕ) Cause
+report trails bytes = do
+  given ← document bytes
+  Ok (lines_of trails given.files given.project given.requests)
 
--- the file that was found
-abbrev pub found_value : Option Found → Data
-found_value None = null
-found_value (Some found) = object
-    (member (codes "file") (string found.file)
-    (member (codes "via") (via_value found.via) no_members))
-
-abbrev pub answer_value : Resolution → Data
-answer_value answer = object
-    (member (codes "answer") (name_value answer.filename)
-    (member (codes "found") (found_value answer.found)
-    (member (codes "slug") (text_or_null answer.slug) no_members)))
-
-abbrev pub cause_name : HydrationCause → List ℕ
-cause_name NotText = codes "NotText"
-cause_name NoPayload = codes "NoPayload"
-cause_name BadJson = codes "BadJson"
-cause_name BadPattern = codes "BadPattern"
-cause_name NoTopLevel = codes "NoTopLevel"
-
-abbrev pub issuer_value : PackageLocator → Data
-issuer_value issuer = object
-    (member (codes "name") (string issuer.name)
-    (member (codes "reference") (string issuer.reference) no_members))
-
--- a dependency that its issuer doesn't bind, by its kind
-abbrev pub dependency_value : List ℕ → List ℕ → PackageLocator → List ℕ → List ℕ → List ℕ → Data
-dependency_value kind name issuer message path request = object
-    (member (codes "dependency") (string name)
-    (member (codes "issuer") (issuer_value issuer)
-    (member (codes "kind") (string kind)
-    (member (codes "message") (string message)
-    (member (codes "path") (string path)
-    (member (codes "request") (string request) no_members))))))
-
--- a bound package that has no row or no entry, by its kind
-abbrev pub package_value : List ℕ → List ℕ → List ℕ → Data
-package_value kind name reference = object
-    (member (codes "kind") (string kind)
-    (member (codes "name") (string name)
-    (member (codes "reference") (string reference) no_members)))
-
--- a refusal that tells no more than its kind
-abbrev pub kind_value : List ℕ → Data
-kind_value kind = object (member (codes "kind") (string kind) no_members)
-
--- a refusal by its kind, with what it tells
-abbrev pub refusal_value : JoinRefusal → Data
-refusal_value (BadSpecifier specifier) = object
-    (member (codes "kind") (string (codes "BadSpecifier"))
-    (member (codes "specifier") (string specifier) no_members))
-refusal_value (FailedManifestHydration cause manifest) = object
-    (member (codes "cause") (string (cause_name cause))
-    (member (codes "kind") (string (codes "FailedManifestHydration"))
-    (member (codes "manifest") (string manifest) no_members)))
-refusal_value (UndeclaredDependency told) =
-    dependency_value (codes "UndeclaredDependency") told.dependency_name told.issuer_locator told.message told.issuer_path told.request
-refusal_value (MissingPeerDependency told) =
-    dependency_value (codes "MissingPeerDependency") told.dependency_name told.issuer_locator told.message told.issuer_path told.request
-refusal_value (NotInRegistry name reference) = package_value (codes "NotInRegistry") name reference
-refusal_value (NotLocked name reference) = package_value (codes "NotLocked") name reference
-refusal_value (OutOfRange range version) = object
-    (member (codes "kind") (string (codes "OutOfRange"))
-    (member (codes "range") (string range)
-    (member (codes "version") (string version) no_members)))
-refusal_value (MalformedPackage path) = object
-    (member (codes "kind") (string (codes "MalformedPackage"))
-    (member (codes "path") (string path) no_members))
-refusal_value (Archive location) = object
-    (member (codes "kind") (string (codes "Archive"))
-    (member (codes "location") (string location) no_members))
-refusal_value (Outside file location) = object
-    (member (codes "file") (string file)
-    (member (codes "kind") (string (codes "Outside"))
-    (member (codes "location") (string location) no_members)))
-refusal_value (NotFound text) = object
-    (member (codes "kind") (string (codes "NotFound"))
-    (member (codes "text") (string text) no_members))
-refusal_value BaseNotAFile = kind_value (codes "BaseNotAFile")
-
--- the refusal of a request: that of an inner request, or of a pattern whose targets all failed, with the refusal of each one's last try
-abbrev pub refused_value : TsRefusal JoinRefusal → Data
-refused_value (Inner refusal) = refusal_value refusal
-refused_value (TsFault pattern inner) = object
-    (member (codes "inner") (array (items_of (map refusal_value inner)))
-    (member (codes "kind") (string (codes "TsFault"))
-    (member (codes "pattern") (string pattern) no_members)))
-
-abbrev pub verdict_value : Verdict → Data
-verdict_value (Answered answer) = answer_value answer
-verdict_value (Refused refusal) =
-    object (member (codes "refused") (refused_value refusal) no_members)
-
--- the line of a verdict
-unfoldable pub verdict_line : Verdict → List ℕ
-verdict_line verdict = compact_text (verdict_value verdict) ++ 10 ∷ []
-
--- the lines of verdicts, in order
-abbrev pub verdict_lines : List Verdict → List ℕ
-verdict_lines verdicts = flat_map verdict_line verdicts
-
--- why settings make no project: patterns are told by their number, and of a lock only that it is none. No document is refused for want of memory
-abbrev pub project_cause : ProjectError → List ℕ
-project_cause (SettingsFault field) = codes "SettingsFault " ++ field
-project_cause (EmptyTargets at) = codes "EmptyTargets " ++ decimal at
-project_cause (TwoWildcards at) = codes "TwoWildcards " ++ decimal at
-project_cause (ExactNeedsOne at) = codes "ExactNeedsOne " ++ decimal at
-project_cause (LockParser place cause) = codes "LockParser"
-project_cause NoMemory = codes "NoMemory"
-
--- a cause, with its texts as JSON
-abbrev pub cause_text : Cause → List ℕ
-cause_text cause.NotJson = codes "not-json"
-cause_text (cause.BadField field) = codes "bad-field " ++ name_of field
-cause_text (cause.BadTree path None) = codes "bad-tree " ++ quoted path
-cause_text (cause.BadTree path (Some other)) = codes "bad-tree " ++ quoted path ++ 32 ∷ quoted other
-cause_text (cause.BadProject e) = codes "bad-project " ++ project_cause e
-
--- the line of a refused document
-unfoldable pub cause_line : Cause → List ℕ
-cause_line cause = codes "refused: " ++ cause_text cause ++ 10 ∷ []
+-- the report on a document of a kind
+abbrev pub report_of : DocumentKind → List ℕ → Result (List ℕ) Cause
+report_of (Requests trails) bytes = report trails bytes
+report_of Steps bytes = session_report bytes

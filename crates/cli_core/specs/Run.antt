@@ -1,10 +1,11 @@
 -- What each status says of the words, the source and the sink.
-use Rattle.std.specs.Prelude.{◌≡◌, ℕ, ◌≤◌, Bool, true, false, List, [], length, Option, Some, Result, Ok, Err}
+use Rattle.std.specs.Prelude.{◌≡◌, ℕ, ◌≤◌, ◌⊎◌, Bool, true, false, List, [], length, Option, Some, Result, Ok, Err}
 use Rattle.tree_core.specs.Tree.{Rose}
-use Rattle.cli_core.specs.Document.{report}
-use Rattle.cli_core.specs.Report.{cause_line}
+use Rattle.document_core.specs.CauseLine.{cause_line}
+use Rattle.document_core.specs.declared.cause.Cause.{Cause}
+use Rattle.cli_core.specs.Report.{report_of}
+use Rattle.cli_core.specs.declared.document_kind.DocumentKind.{DocumentKind}
 use Rattle.cli_core.specs.Streams.{Appends}
-use Rattle.cli_core.specs.declared.cause.Cause.{Cause}
 use Rattle.cli_core.specs.declared.reading.TheConstants.{LONGEST}
 use Rattle.cli_core.specs.declared.status.Status.{Status}
 use Rattle.cli_core.specs.declared.status.Status.TheVariants.{Done, Refused, Usage, ReadFault, WriteFault, TooLong, NoMemory, TreeFault}
@@ -25,9 +26,9 @@ abbrev pub reply_as : Result (List ℕ) Cause → Status × List ℕ
 reply_as (Ok text) = (Done, text)
 reply_as (Err cause) = (Refused, cause_line cause)
 
--- the status and the text for a document's bytes, where nothing fails
-abbrev pub reply_for : List ℕ → Status × List ℕ
-reply_for bytes = reply_as (report bytes)
+-- the status and the text for the bytes of a document of a kind, where nothing fails
+abbrev pub reply_for : DocumentKind → List ℕ → Status × List ℕ
+reply_for kind bytes = reply_as (report_of kind bytes)
 
 -- the source was read to its end
 pub record ReadsAll (bytes : List ℕ) (left : Option (List ℕ)) : Type 0 where
@@ -71,6 +72,10 @@ is_silent WriteFault = false
 is_silent TooLong = true
 is_silent NoMemory = true
 is_silent TreeFault = true
+
+-- a status with which a command that reads nothing ends
+abbrev pub EndsUnread : Status → Type 0
+EndsUnread status = (status ≡ Done) ⊎ ((status ≡ WriteFault) ⊎ (status ≡ NoMemory))
 
 -- a count of faults neither rose nor stands at its last value
 abbrev pub IsSteady : ℕ → ℕ → Type 0

@@ -1,14 +1,12 @@
 //! What a command-line program does with a document: it reads it, resolves its requests and writes a line for each.
 #![tactic(auto)]
 
-mod cause;
 mod command;
-mod document;
-mod fields;
-mod given;
-mod json_text;
+mod document_kind;
+mod generating;
 mod memory_sinks;
 mod memory_sources;
+mod on_disk;
 mod reading;
 mod report;
 mod resolving;
@@ -19,12 +17,13 @@ mod standard_streams;
 mod status;
 mod writing;
 
-pub use cause::{Cause, DocumentError, Field};
-pub use command::{Command, command_of};
-pub use document::report_for;
+pub use command::{Command, LARGEST, command_of};
+pub use document_core::{Cause, DocumentError, Field};
+pub use document_kind::{DocumentKind, report_of};
 pub use memory_sinks::{BytesSink, PlainSink};
 pub use memory_sources::{BytesSource, PlainSource};
 pub use reading::{CHUNK, LONGEST};
+pub use report::report_for;
 pub use running::run;
 pub use sink::{Sink, SinkFault};
 pub use source::{Source, SourceFault};

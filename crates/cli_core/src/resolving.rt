@@ -1,32 +1,36 @@
-// The command `resolve`: from a source's bytes to a status and a text.
+// The commands that read a document: from a source's bytes to a status and a text.
 ghost use Rattle.std.specs.Prelude.{◌≡◌, ◌≢◌, ◌≤◌, ◌<◌, ◌+◌, ◌⊎◌, true, IfOk, IsOk, IsOkAnd, IsErrAnd, length, string_bytes};
 ghost use Rattle.std.specs.Option.{ForSome};
-ghost use Rattle.cli_core.specs.Document.{report};
-ghost use Rattle.cli_core.specs.Report.{cause_line};
+ghost use Rattle.document_core.specs.CauseLine.{cause_line};
+ghost use Rattle.cli_core.specs.Report.{report_of};
 ghost use Rattle.cli_core.specs.Reading.{LeavesEnd};
 ghost use Rattle.cli_core.specs.Run.{Finishes, IsSteady, ReadsAll, is_of_sink, is_of_source, is_silent, reply_for};
 ghost use Rattle.cli_core.specs.Streams.{CountsFault};
 ghost use Rattle.cli_core.specs.Writing.{AppendsFront};
 
-use crate::cause::DocumentError;
-use crate::document::report_for;
+use crate::document_kind::{DocumentKind, report_of};
 use crate::reading::{CHUNK, LONGEST, ReadAllError, read_all};
-use crate::report::line_of_cause;
 use crate::sink::Sink;
 use crate::source::Source;
 use crate::status::Status;
 use crate::writing::write_all;
+use document_core::{DocumentError, line_of_cause};
 use std::alloc::{AllocError, Global};
 
-// Reads one document from the source, and writes a line for each of its requests to the sink, or the line of the first cause
-// against the document.
-pub(crate) fn resolve<S: Source, K: Sink>(alloc: Global, source: &mut S, sink: &mut K) -> Status
+// Reads one document from the source, and writes a line for each of its requests or steps to the sink, or the line of the first
+// cause against the document.
+pub(crate) fn resolve<S: Source, K: Sink>(
+    alloc: Global,
+    kind: DocumentKind,
+    source: &mut S,
+    sink: &mut K,
+) -> Status
     // How each status comes.
     ensures done { result ≡ Status.Done → ForSome (S.left source.old) (λ bytes.
-        IsOkAnd (report bytes) (λ text.
+        IsOkAnd (report_of kind bytes) (λ text.
         Finishes bytes text (S.left source.new) (K.written sink.old) (K.written sink.new))) }
     ensures refused { result ≡ Status.Refused → ForSome (S.left source.old) (λ bytes.
-        IsErrAnd (report bytes) (λ cause.
+        IsErrAnd (report_of kind bytes) (λ cause.
         Finishes bytes (cause_line cause)
         (S.left source.new) (K.written sink.old) (K.written sink.new))) }
     ensures command { result ≢ Status.Usage }
@@ -34,7 +38,7 @@ pub(crate) fn resolve<S: Source, K: Sink>(alloc: Global, source: &mut S, sink: &
         LONGEST < length bytes) }
     ensures cut { result ≡ Status.WriteFault → ForSome (S.left source.old) (λ bytes.
         ReadsAll bytes (S.left source.new)
-        × AppendsFront ((reply_for bytes).1) (K.written sink.old) (K.written sink.new)) }
+        × AppendsFront ((reply_for kind bytes).1) (K.written sink.old) (K.written sink.new)) }
     ensures no_tree_fault { result ≢ Status.TreeFault }
 
     // Each fault has its cause, and none is passed over.
@@ -44,7 +48,7 @@ pub(crate) fn resolve<S: Source, K: Sink>(alloc: Global, source: &mut S, sink: &
 
     // Without a fault a document that nothing is against is answered, or no memory was found.
     ensures complete { ForSome (S.left source.old) (λ bytes.
-        length bytes ≤ LONGEST → IsOk (report bytes)
+        length bytes ≤ LONGEST → IsOk (report_of kind bytes)
         → IsSteady (S.faults source.old) (S.faults source.new)
         → IsSteady (K.faults sink.old) (K.faults sink.new)
         → (result ≡ Status.Done) ⊎ (result ≡ Status.NoMemory)) }
@@ -62,7 +66,7 @@ pub(crate) fn resolve<S: Source, K: Sink>(alloc: Global, source: &mut S, sink: &
         Err(ReadAllError::TooLong) => return Status::TooLong,
         Err(ReadAllError::NoMemory) => return Status::NoMemory,
     };
-    let Ok(reply) = reply_to(alloc, &bytes) else {
+    let Ok(reply) = reply_to(alloc, kind, &bytes) else {
         return Status::NoMemory;
     };
     match write_all(sink, reply.text.as_bytes()) {
@@ -79,10 +83,10 @@ struct Reply {
 }
 
 // The whole text is made here, before the first write.
-fn reply_to(alloc: Global, bytes: &[u8]) -> Result<Reply, AllocError>
-    ensures { IfOk result (λ reply. (reply.status, string_bytes reply.text) ≡ reply_for bytes.now) }
+fn reply_to(alloc: Global, kind: DocumentKind, bytes: &[u8]) -> Result<Reply, AllocError>
+    ensures { IfOk result (λ reply. (reply.status, string_bytes reply.text) ≡ reply_for kind bytes.now) }
 {
-    match report_for(alloc, bytes) {
+    match report_of(alloc, kind, bytes) {
         Ok(text) => Ok(Reply {
             status: Status::Done,
             text,

@@ -176,7 +176,7 @@ fn a_document_is_cut(rt: HostRuntime) -> Result<(), Fail> {
 
 #[test]
 fn other_words_are_no_command(rt: HostRuntime) -> Result<(), Fail> {
-    for words in ["", "resolved", "resolve --trail"] {
+    for words in ["", "resolved", "resolve --trails"] {
         let came = comes_to(rt.alloc(), words, bare_name().as_bytes(), 2, "")?;
         assert!(rt; came, "at {words}");
     }

@@ -11,3 +11,5 @@ mod mappings;
 mod node_search;
 #[cfg(test)]
 mod refusals;
+#[cfg(test)]
+mod trails;

@@ -5,7 +5,7 @@ ghost use Rattle.std.specs.Prelude.{◌≡◌, true, Some, IfOk, IfSome};
 ghost use Rattle.cli_core.specs.Command.{asked};
 ghost use Rattle.cli_core.specs.Run.{reply_for};
 
-use cli_core::{Command, PlainSink, PlainSource, Status, run};
+use cli_core::{Command, DocumentKind, PlainSink, PlainSource, Status, run};
 use std::alloc::{AllocError, Global};
 use std::fs::Files;
 use std::io::ErrorKind;
@@ -52,7 +52,7 @@ fn is_as_written(rt: &(impl Files + AllocGlobal), folder: &str, name: &str) -> i
 
 // Whether the program writes this text for the document.
 fn gives(alloc: Global, document: Vec<u8>, wanted: &[u8]) -> Result<bool, AllocError>
-    ensures { IfOk result (λ gives. gives ≡ true → (reply_for document.items).1 ≡ wanted.now) }
+    ensures { IfOk result (λ gives. gives ≡ true → (reply_for (DocumentKind.Requests false) document.items).1 ≡ wanted.now) }
 {
     // with room for one byte more, a longer text differs
     match written(alloc, document, wanted.len().saturating_add(1))? {
@@ -64,10 +64,10 @@ fn gives(alloc: Global, document: Vec<u8>, wanted: &[u8]) -> Result<bool, AllocE
 // What the program writes for the document, where that is written whole.
 fn written(alloc: Global, document: Vec<u8>, room: usize) -> Result<Option<PlainSink>, AllocError>
     ensures { IfOk result (λ sink. IfSome sink (λ sink.
-        sink.written ≡ (reply_for document.items).1)) }
+        sink.written ≡ (reply_for (DocumentKind.Requests false) document.items).1)) }
 {
     let words = words(alloc)?;
-    let mut source = PlainSource::new(Bytes::from(document));
+    let mut source = PlainSource::new(Bytes::from_vec(document)?);
     let mut sink = PlainSink::new(alloc, room)?;
     let mut disk = MemoryTree::new(alloc);
     match run(alloc, &words, &mut source, &mut sink, &mut disk) {
@@ -78,7 +78,7 @@ fn written(alloc: Global, document: Vec<u8>, room: usize) -> Result<Option<Plain
 }
 
 fn words(alloc: Global) -> Result<Vec<String>, AllocError>
-    ensures { IfOk result (λ words. asked words.items ≡ Some Command.Resolve) }
+    ensures { IfOk result (λ words. asked words.items ≡ Some (Command.Resolve false)) }
 {
     Ok(vec![in alloc; String::from_str(alloc, "resolve")?]?)
 }

@@ -6,12 +6,12 @@ ghost use Rattle.std.specs.IoError.{error_kind};
 ghost use Rattle.std.specs.Vec.Iter.{into_iter_items};
 
 use cli_core::{ReaderSource, Status, WriterSink, run};
+use disk_tree::DiskTree;
 use std::alloc::{AllocError, Global};
 use std::env::Args;
 use std::io::ErrorKind;
 use std::process::ExitCode;
 use std::{env, io};
-use tree_core::MemoryTree;
 
 fn main(rt: HostRuntime) -> ExitCode {
     let alloc = rt.alloc();
@@ -21,7 +21,7 @@ fn main(rt: HostRuntime) -> ExitCode {
             &words,
             &mut ReaderSource::new(rt.stdin()),
             &mut WriterSink::new(rt.stdout()),
-            &mut MemoryTree::new(alloc),
+            &mut DiskTree::new(&rt),
         ),
         Err(status) => status,
     };

@@ -1,0 +1,2 @@
+-- Definitions of a request over a tree.
+pub mod DiskRequest

@@ -1,0 +1,4 @@
+pub mod Causes
+pub mod Documents
+pub mod Items
+pub mod OutcomesOnTrees

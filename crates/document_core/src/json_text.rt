@@ -1,0 +1,21 @@
+// Reads a document's bytes as JSON.
+ghost use Rattle.std.specs.Result.{result_map_both};
+ghost use Rattle.serde_json.specs.View.{view};
+ghost use Rattle.document_core.specs.Cause.{Meets};
+ghost use Rattle.document_core.specs.Json.{json_value};
+
+use crate::cause::{Cause, DocumentError};
+use json_reading::FromJsonError;
+use serde_json::Value;
+use std::alloc::Global;
+
+/// The value of bytes that are UTF-8 and read as JSON of at most 127 levels.
+pub fn read_json(alloc: Global, bytes: &[u8]) -> Result<Value, DocumentError>
+    ensures { Meets (result_map_both view (λ e. e) result) (json_value bytes.now) }
+{
+    match json_reading::read_json(alloc, bytes) {
+        Ok(value) => Ok(value),
+        Err(FromJsonError::OtherKind) => Err(DocumentError::Refused(Cause::NotJson)),
+        Err(FromJsonError::NoMemory) => Err(DocumentError::NoMemory),
+    }
+}

@@ -1,0 +1,18 @@
+//! A document: the files, settings and requests that JSON gives, or the first cause against it.
+#![tactic(auto)]
+
+mod cause;
+mod cause_line;
+mod document;
+mod fields;
+mod given;
+mod json_text;
+mod outcome;
+
+pub use cause::{Cause, DocumentError, Field};
+pub use cause_line::line_of_cause;
+pub use document::{project_in, read_document, tree_of};
+pub use fields::{Document, GivenProject, GivenSettings, field, read_project};
+pub use given::{GivenFile, GivenMapping, Request};
+pub use json_text::read_json;
+pub use outcome::outcome_of;

@@ -1,0 +1,8 @@
+//! Verdicts and trails as lines of JSON.
+#![tactic(auto)]
+
+mod lines;
+mod trails;
+mod verdicts;
+
+pub use lines::{line_of_outcome, line_of_verdict, line_with_trail};
