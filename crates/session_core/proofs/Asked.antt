@@ -1,5 +1,5 @@
 -- What an ask leaves, and which outcome stands in front then.
-use Rattle.std.proofs.Common.{◌≡◌, ◌-◌, ℕ, Bool, true, false, not, List, [], ◌∷◌, map, filter, Option, Some, None, is_some, Result, Ok, Err, OnOk, OnErr, All, refl, sym, ap, ◌∙◌, subst}
+use Rattle.std.proofs.Common.{◌≡◌, ◌-◌, ℕ, Bool, false, not, List, [], map, Option, Some, None, is_some, Result, Ok, Err, OnOk, OnErr, All, refl, sym, ap, ◌∙◌, subst}
 use Rattle.std.specs.Prelude.{slice_get}
 use Rattle.std.specs.List.{AllByRecursion}
 use Rattle.std.proofs.lemmas.List.Elements.{All-from_recursion, recursion_from_All}
@@ -10,7 +10,7 @@ use Rattle.resolve_stack.specs.declared.verdict.Outcome.{Outcome}
 use Rattle.resolve_stack.specs.Settings.{ProjectSettings}
 use Rattle.session_core.specs.declared.latest.Entry.{Entry}
 use Rattle.session_core.specs.Entries.{is_for, kept_for, moved_first, put_first}
-use Rattle.session_core.specs.Session.{Session, IsRight, outcome_on, entry_on, asked_by, after_ask}
+use Rattle.session_core.specs.Session.{Session, IsRight, outcome_on, asked_by, after_ask}
 use Rattle.session_core.specs.Asked.{IsStarved}
 use Rattle.session_core.proofs.Lists.{find-passes, all-find, all-filter, all-take}
 use Rattle.session_core.proofs.Requests.{importer-is, specifier-is}

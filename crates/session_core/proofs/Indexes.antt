@@ -1,11 +1,11 @@
 -- What is noted of entries, and what is found by it.
-use Rattle.std.proofs.Common.{◌≡◌, ◌≤◌, ◌<◌, ◌-◌, ◌^◌, ◌&&◌, ◌||◌, ◌⊎◌, inl, inr, ℕ, zero, suc, Bool, true, false, not, cond, nat_eq, bytes_eq, IsTrue, List, [], ◌∷◌, ◌++◌, take, filter, Option, Some, None, IfSome, IfNone, refl, sym, ap, ◌∙◌, subst, arith, append_assoc}
+use Rattle.std.proofs.Common.{◌≡◌, ◌≤◌, ◌<◌, ◌-◌, ◌^◌, ◌||◌, ◌⊎◌, inl, inr, ℕ, zero, suc, Bool, true, false, cond, nat_eq, bytes_eq, List, [], ◌∷◌, ◌++◌, take, Option, Some, None, IfSome, IfNone, refl, sym, ap, ◌∙◌, subst, arith, append_assoc}
 use Rattle.std.specs.Prelude.{slice_get}
-use Rattle.std.specs.List.{list_any, AllByRecursion, IsDistinct}
-use Rattle.std.specs.Map.{lookup, keys_of, remove_entry}
+use Rattle.std.specs.List.{AllByRecursion, IsDistinct}
+use Rattle.std.specs.Map.{lookup, keys_of}
 use Rattle.std.specs.BTreeMap.{is_at}
 use Rattle.std.specs.BTreeMap.Range.{range_contains}
-use Rattle.std.specs.Ordering.{nat_cmp, ordering_then, is_eq, is_le, is_lt}
+use Rattle.std.specs.Ordering.{nat_cmp, is_eq, is_le, is_lt}
 use Rattle.std.specs.Cmp.{nat_cmp_is}
 use Rattle.std.proofs.lemmas.Map.Lookups.{exact_unsigned, exact_pairs}
 use Rattle.std.specs.declared.cmp.Ordering.{Ordering}
@@ -20,11 +20,11 @@ use Rattle.session_core.specs.declared.latest.Entry.{Entry}
 use Rattle.session_core.specs.declared.index.Noted.{Noted}
 use Rattle.session_core.specs.declared.index.Sought.{Sought}
 use Rattle.session_core.specs.declared.index.Sought.TheVariants.{Request, Path}
-use Rattle.session_core.specs.Entries.{is_for, asks, is_asking}
-use Rattle.session_core.specs.Numbered.{IsNumberOf, IsNumbered}
+use Rattle.session_core.specs.Entries.{asks}
+use Rattle.session_core.specs.Numbered.{IsNumbered}
 use Rattle.session_core.specs.Index.{request_hash, path_hash, fits, hash_of, noted_cmp, note_of, is_noted, noted_under, AreNoted, IsNotedEntry, StayNoted, OthersStayNoted, FailsAt}
 use Rattle.session_core.proofs.Lists.{all-take}
-use Rattle.session_core.proofs.Numbers.{lookup-at, all-removed, others-removed, below-differ, last-apart, last-below}
+use Rattle.session_core.proofs.Numbers.{lookup-at, below-differ, last-apart, last-below}
 use Rattle.session_core.proofs.Requests.{importer-is, specifier-is}
 
 or_cases : (a b : Bool) → (a || b) ≡ true → (a ≡ true) ⊎ (b ≡ true)

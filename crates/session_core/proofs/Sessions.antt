@@ -1,17 +1,16 @@
 -- Whatever is asked and edited, a session stays right.
-use Rattle.std.proofs.Common.{◌≡◌, ◌≤◌, ◌<◌, ◌+◌, ◌-◌, ℕ, Bool, true, false, not, cond, List, [], ◌∷◌, take, filter, length, All, Option, Some, None, refl, sym, ap, ◌∙◌, subst, arith}
-use Rattle.std.specs.List.{find, AllByRecursion, IsDistinct}
-use Rattle.std.specs.FinMap as finite
+use Rattle.std.proofs.Common.{◌≡◌, ◌-◌, ℕ, Bool, true, false, not, cond, List, [], ◌∷◌, take, filter, All, Option, Some, None, refl, sym, ◌∙◌, subst, arith}
+use Rattle.std.specs.List.{AllByRecursion}
 use Rattle.std.proofs.lemmas.List.Elements.{All-from_recursion, recursion_from_All}
 use Rattle.tree_core.specs.declared.memory.PutError.{PutError}
 use Rattle.tree_core.specs.declared.tree.TreeFile.{TreeFile}
 use Rattle.tree_core.specs.Tree.{Files, is_file}
-use Rattle.tree_core.specs.Memory.{refusal, with_file}
+use Rattle.tree_core.specs.Memory.{refusal}
 use Rattle.swc_loader.specs.declared.resolution.FileName.{FileName}
 use Rattle.resolve_stack.specs.Settings.{ProjectSettings}
 use Rattle.session_core.specs.declared.latest.Entry.{Entry}
-use Rattle.session_core.specs.Entries.{is_for, same_request, kept_for, moved_first, put_first, is_touched, untouched}
-use Rattle.session_core.specs.Session.{Session, IsSession, IsRight, outcome_on, entry_on, asked_by, after_ask, after_put, after_remove, Step, Ask, Put, Remove, put_unless, after_step, after_steps}
+use Rattle.session_core.specs.Entries.{is_for, same_request, kept_for, is_touched, untouched}
+use Rattle.session_core.specs.Session.{Session, IsSession, outcome_on, entry_on, asked_by, after_put, after_remove, Step, Ask, Put, Remove, put_unless, after_step, after_steps}
 use Rattle.session_core.proofs.Lists.{find-passes, all-find, find-none, all-filter, filter-fails, all-take, distinct-filter, distinct-take, length-filter-le, length-others, length-cut}
 use Rattle.session_core.proofs.Requests.{apart-first, is_for-itself}
 use Rattle.session_core.proofs.Replies.{SameBut, same_but-put, same_but-remove, outcome-same}

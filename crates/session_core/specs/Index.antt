@@ -1,5 +1,5 @@
 -- Numbers of entries under hashes of what entries are looked up by.
-use Rattle.std.specs.Prelude.{◌≡◌, ◌-◌, ◌^◌, ℕ, Bool, false, nat_eq, IsTrue, IfSome, List, [], ◌++◌, filter, bytes_eq}
+use Rattle.std.specs.Prelude.{◌≡◌, ◌-◌, ◌^◌, ℕ, Bool, false, nat_eq, IsTrue, IfSome, List, [], ◌++◌, filter}
 use Rattle.std.specs.List.{fold, list_any, AllByRecursion}
 use Rattle.std.specs.Map.{lookup}
 use Rattle.std.specs.BTreeMap.{is_at}

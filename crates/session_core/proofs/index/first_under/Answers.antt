@@ -1,4 +1,4 @@
-use Rattle.std.proofs.Common.{◌≡◌, List, [], ◌∷◌, false, sym, ap, ◌∙◌, subst, rules}
+use Rattle.std.proofs.Common.{◌≡◌, List, [], subst, rules}
 use Rattle.std.specs.List.{AllByRecursion}
 use Rattle.session_core.specs.declared.index.Noted.{Noted}
 use Rattle.session_core.specs.Index.{fits, hash_of, noted_under, FailsAt}

@@ -1,4 +1,4 @@
-use Rattle.std.proofs.Common.{◌≡◌, [], ◌∷◌, ◌++◌, true, sym, ap, ◌∙◌, append_assoc, append-nil, rules}
+use Rattle.std.proofs.Common.{◌≡◌, [], ◌∷◌, ◌++◌, true, sym, ap, ◌∙◌, append_assoc, append-nil}
 use Rattle.std.specs.Slice.Iter.{iter_rest}
 use Rattle.tree_core.specs.Question.{path_asked}
 use Rattle.session_core.specs.Index.{is_noted, path_hash}

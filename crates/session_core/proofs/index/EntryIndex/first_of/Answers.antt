@@ -1,4 +1,3 @@
-use Rattle.std.proofs.Common.{◌≡◌, ap}
 use Rattle.session_core.proofs.Indexes.{none-sought, if_none-then}
 use Rattle.session_core.proofs.index.EntryIndex.first_of.Goals as goal
 

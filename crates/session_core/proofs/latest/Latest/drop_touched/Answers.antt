@@ -1,10 +1,10 @@
-use Rattle.std.proofs.Common.{◌≡◌, ◌-◌, ◌+◌, ◌≤◌, ◌⊎◌, inl, inr, ℕ, List, Bool, true, false, take, not, filter, count_by, length, refl, sym, ap, ◌∙◌, arith}
+use Rattle.std.proofs.Common.{◌≡◌, ◌-◌, true, take, length, sym, ap, ◌∙◌, arith}
 use Rattle.std.proofs.lemmas.Str.Pattern.{rfind_char}
 use Rattle.tree_core.specs.Tree.{stands_above}
 use Rattle.tree_core.proofs.Above.{cut-above}
 use Rattle.session_core.specs.Entries.{bears_on, is_touched, untouched}
 use Rattle.session_core.specs.Numbered.{kept_in}
-use Rattle.session_core.proofs.Lists.{count-filter, length-filter-le}
+use Rattle.session_core.proofs.Lists.{count-filter}
 use Rattle.session_core.proofs.Touched.{untouched-dropped, asks-above, asks-begin, bears-cases, bears-path, bears-cut, none-touched, above-cut, none-above}
 use Rattle.session_core.proofs.latest.Latest.drop_touched.Goals as goal
 

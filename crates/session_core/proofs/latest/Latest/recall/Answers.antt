@@ -1,7 +1,6 @@
-use Rattle.std.proofs.Common.{◌≡◌, None, Some, is_some, refl, sym, ap, ◌∙◌, rules}
-use Rattle.session_core.specs.Entries.{is_for, kept_for, moved_first}
+use Rattle.std.proofs.Common.{refl}
+use Rattle.session_core.specs.Entries.{is_for}
 use Rattle.session_core.specs.Index.{IsNotedEntry}
-use Rattle.session_core.specs.Numbered.{kept_in, entries_in}
 use Rattle.session_core.proofs.Numbers.{entries-promoted, numbered-promoted, all-promoted, none-kept, find-alone}
 use Rattle.session_core.proofs.latest.Latest.recall.Goals as goal
 

@@ -1,4 +1,4 @@
-use Rattle.std.proofs.Common.{◌≡◌, nat_eq}
+use Rattle.std.proofs.Common.{nat_eq}
 use Rattle.session_core.specs.Index.{IsNotedEntry}
 use Rattle.session_core.proofs.Numbers.{numbered-removed, all-removed, others-removed}
 use Rattle.session_core.proofs.Indexes.{all-others}

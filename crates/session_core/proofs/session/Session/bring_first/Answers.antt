@@ -1,7 +1,6 @@
-use Rattle.std.proofs.Common.{◌≡◌, None, Some, refl, sym, ap, ◌∙◌}
+use Rattle.std.proofs.Common.{◌≡◌, ap, ◌∙◌}
 use Rattle.session_core.specs.Entries.{kept_for, moved_first}
 use Rattle.session_core.specs.Numbered.{kept_in}
-use Rattle.session_core.specs.Session.{outcome_on, entry_on}
 use Rattle.session_core.specs.SessionView.{state_of}
 use Rattle.session_core.proofs.Asked.{not-kept, right-moved, right-put, starved, on_err, on_err-then}
 use Rattle.session_core.proofs.session.Session.bring_first.Goals as goal

@@ -1,4 +1,3 @@
-use Rattle.std.proofs.Common.{◌≡◌, ap, sym, ◌∙◌}
 use Rattle.session_core.proofs.Firsts.{some-first}
 use Rattle.session_core.specs.Numbered.{kept_in}
 use Rattle.session_core.proofs.session.Session.first.Goals as goal

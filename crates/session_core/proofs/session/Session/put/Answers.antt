@@ -1,5 +1,3 @@
-use Rattle.std.proofs.Common.{◌≡◌, ap, ◌∙◌}
-use Rattle.tree_core.specs.Memory.{Memory, with_file}
 use Rattle.session_core.specs.Numbered.{kept_in}
 use Rattle.session_core.proofs.Replies.{SameBut, same_but-put}
 use Rattle.session_core.proofs.Sessions.{right-left}

@@ -1,4 +1,4 @@
-use Rattle.std.proofs.Common.{◌≡◌, false, sym, ap, ◌∙◌}
+use Rattle.std.proofs.Common.{◌≡◌, sym, ap, ◌∙◌}
 use Rattle.tree_core.specs.Memory.{Memory}
 use Rattle.tree_core.specs.Tree.{Files}
 use Rattle.session_core.specs.Numbered.{kept_in}
