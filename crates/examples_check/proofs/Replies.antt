@@ -1,5 +1,5 @@
 -- What a sink that was empty holds after a run that wrote its text whole.
-use Rattle.std.proofs.Common.{◌≡◌, refl, ℕ, List, [], Option, Some, Result, Ok, Err, IsOkAnd, IsErrAnd}
+use Rattle.std.proofs.Common.{◌≡◌, refl, ℕ, false, List, [], Option, Some, Result, Ok, Err, IsOkAnd, IsErrAnd}
 use Rattle.document_core.specs.CauseLine.{cause_line}
 use Rattle.document_core.specs.declared.cause.Cause.{Cause}
 use Rattle.cli_core.specs.Report.{report_of}

@@ -1,7 +1,7 @@
 //! Whether each document of a folder gives the text that stands beside it: `NAME.out` for `NAME.json`. It is given the folder.
 #![tactic(auto)]
 
-ghost use Rattle.std.specs.Prelude.{◌≡◌, true, Some, IfOk, IfSome};
+ghost use Rattle.std.specs.Prelude.{◌≡◌, false, true, Some, IfOk, IfSome};
 ghost use Rattle.cli_core.specs.Command.{asked};
 ghost use Rattle.cli_core.specs.Run.{reply_for};
 

@@ -5,20 +5,10 @@ use std::alloc::{AllocError, Global};
 use std::process::Abort;
 use std::test::Fail;
 use sugar_path::{List, Text};
-use tree_core::{MemoryTree, Tree};
+use tree_core::Tree;
 
 fn number(alloc: Global, number: u64) -> Result<List<u64>, AllocError> {
     Ok(List::from(vec![in alloc; number]?))
-}
-
-// A package far up, behind one that is malformed.
-fn walked(alloc: Global) -> Result<MemoryTree, Fail> {
-    let files = [
-        ("/w/a.js", ""),
-        ("/w/node_modules/q/package.json", "{"),
-        ("/node_modules/q/index.js", ""),
-    ];
-    tree_of(alloc, files.as_slice())
 }
 
 // How many questions a request takes and what it comes to, or nothing where the tree refused one.
@@ -39,13 +29,13 @@ fn fails_at_each(
     rt: &impl Abort,
     alloc: Global,
     project: &Project<'_>,
-    make: fn(Global) -> Result<MemoryTree, Fail>,
+    files: &[(&str, &str)],
     specifier: &str,
     answer: &str,
 ) -> Result<u64, Fail> {
     let mut questions = 0u64;
     for at in 1..100u64 {
-        let mut tree = make(alloc)?.fail_at(number(alloc, at)?);
+        let mut tree = tree_of(alloc, files)?.fail_at(number(alloc, at)?);
         let first = told_and_counted(alloc, &mut tree, project, specifier)?;
         if first.is_some() {
             assert_eq!(rt; tree.faults(), 0, "at {at}");
@@ -59,39 +49,24 @@ fn fails_at_each(
     Ok(questions)
 }
 
+// A package lies far up, behind one that is malformed.
 #[test]
 fn a_walk_fails_at_each_question(rt: HostRuntime) -> Result<(), Fail> {
     let alloc = rt.alloc();
+    let files = [
+        ("/w/a.js", ""),
+        ("/w/node_modules/q/package.json", "{"),
+        ("/node_modules/q/index.js", ""),
+    ];
     let project = node_project(alloc)?;
-    let count = fails_at_each(
-        &rt,
-        alloc,
-        &project,
-        walked,
-        "q",
-        "real /node_modules/q/index.js",
-    )?;
+    let answer = "real /node_modules/q/index.js";
+    let count = fails_at_each(&rt, alloc, &project, files.as_slice(), "q", answer)?;
     assert_eq!(rt; count, 36);
     Ok(())
 }
 
-// A manifest, a lock, a mapping and rules for browsers have a part in this one.
-fn everything(alloc: Global) -> Result<MemoryTree, Fail> {
-    let files = [
-        ("/w/a.js", ""),
-        (
-            "/w/.pnp.cjs",
-            "const RAW_RUNTIME_STATE =\n'{\"dependencyTreeRoots\":[],\"enableTopLevelFallback\":true,\"ignorePatternData\":null,\"fallbackExclusionList\":[],\"fallbackPool\":[],\"packageRegistryData\":[[null,[[null,{\"packageLocation\":\"./\",\"packageDependencies\":[[\"foo\",\"npm:1.0.0\"]]}]]],[\"foo\",[[\"npm:1.0.0\",{\"packageLocation\":\"./.yarn/foo/\",\"packageDependencies\":[]}]]]]}';\n",
-        ),
-        ("/w/package.json", "{\"dependencies\":{\"foo\":\"^1.0.0\"}}"),
-        (
-            "/w/.yarn/foo/package.json",
-            "{\"main\":\"m.js\",\"browser\":{\"./m.js\":\"./b.js\"}}",
-        ),
-        ("/w/.yarn/foo/m.js", ""),
-        ("/w/.yarn/foo/b.js", ""),
-    ];
-    tree_of(alloc, files.as_slice())
+fn manifest() -> &'static str {
+    "const RAW_RUNTIME_STATE =\n'{\"dependencyTreeRoots\":[],\"enableTopLevelFallback\":true,\"ignorePatternData\":null,\"fallbackExclusionList\":[],\"fallbackPool\":[],\"packageRegistryData\":[[null,[[null,{\"packageLocation\":\"./\",\"packageDependencies\":[[\"foo\",\"npm:1.0.0\"]]}]]],[\"foo\",[[\"npm:1.0.0\",{\"packageLocation\":\"./.yarn/foo/\",\"packageDependencies\":[]}]]]]}';\n"
 }
 
 fn lock() -> &'static str {
@@ -110,18 +85,24 @@ fn its_project(alloc: Global) -> Result<Project<'static>, Fail> {
     Ok(Project::new(alloc, settings)?)
 }
 
+// A manifest, a lock, a mapping and rules for browsers have a part in this one.
 #[test]
 fn everything_fails_at_each_question(rt: HostRuntime) -> Result<(), Fail> {
     let alloc = rt.alloc();
+    let files = [
+        ("/w/a.js", ""),
+        ("/w/.pnp.cjs", manifest()),
+        ("/w/package.json", "{\"dependencies\":{\"foo\":\"^1.0.0\"}}"),
+        (
+            "/w/.yarn/foo/package.json",
+            "{\"main\":\"m.js\",\"browser\":{\"./m.js\":\"./b.js\"}}",
+        ),
+        ("/w/.yarn/foo/m.js", ""),
+        ("/w/.yarn/foo/b.js", ""),
+    ];
     let project = its_project(alloc)?;
-    let count = fails_at_each(
-        &rt,
-        alloc,
-        &project,
-        everything,
-        "x/y",
-        "real /w/.yarn/foo/b.js",
-    )?;
+    let answer = "real /w/.yarn/foo/b.js";
+    let count = fails_at_each(&rt, alloc, &project, files.as_slice(), "x/y", answer)?;
     assert!(rt; count > 10, "{count}");
     Ok(())
 }

@@ -8,13 +8,13 @@ use Rattle.examples_check.proofs.written.Goals as goal
 pub returns-in-Done : goal.returns-in-Done
 returns-in-Done c =
     let named = ap asked c.deref.ensures.value ∙ c.in_ok-words.ensures in
-    let given = ap (λ b. Some b) (c.new-source.ensures ∙ c.from.ensures) in
+    let given = ap (λ b. Some b) (c.new-source.ensures ∙ c.in_ok-from_vec.ensures) in
     let empty = ap (λ (s : CountingRoom). s.written) c.in_ok-sink.ensures in
     holds_report _ _ _ _ empty (c.run.ensures.done (Requests false) named c.in-Done.is _ given)
 
 pub returns-in-Refused : goal.returns-in-Refused
 returns-in-Refused c =
     let named = ap asked c.deref.ensures.value ∙ c.in_ok-words.ensures in
-    let given = ap (λ b. Some b) (c.new-source.ensures ∙ c.from.ensures) in
+    let given = ap (λ b. Some b) (c.new-source.ensures ∙ c.in_ok-from_vec.ensures) in
     let empty = ap (λ (s : CountingRoom). s.written) c.in_ok-sink.ensures in
     holds_cause _ _ _ _ empty (c.run.ensures.refused (Requests false) named c.in-Refused.is _ given)
