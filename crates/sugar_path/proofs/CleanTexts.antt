@@ -1,10 +1,11 @@
 -- A text is a clean path exactly where it is `/`, or a slash and parts that are names.
-use Rattle.std.proofs.Common.{◌≡◌, ◌≢◌, ◌==◌, ◌⊎◌, inl, inr, ℕ, Bool, true, false, cond, List, [], ◌∷◌, ◌++◌, refl, sym, ap, ◌∙◌, append_assoc, append-nil}
+use Rattle.std.proofs.Common.{◌≡◌, ◌≢◌, ◌==◌, ◌&&◌, ◌⊎◌, inl, inr, ℕ, Bool, true, false, cond, List, [], ◌∷◌, ◌++◌, refl, sym, ap, ◌∙◌, append_assoc, append-nil}
 use Rattle.std.specs.Prelude.{flat_map, ◌↔◌, IsTrue}
 use Rattle.std.specs.List.{onto_first, list_all, AllByRecursion}
 use Rattle.std.proofs.lemmas.Bool.Decides.{eqb_tells}
 use Rattle.std.proofs.lemmas.List.Folds.{list_all-append}
 use Rattle.sugar_path.specs.Path.{Path, IsPath, IsCleanPath, is_name, is_plain, has_no_slash, steps, text_of, is_absolute, parts, by_parts}
+use Rattle.sugar_path.specs.Reading.{are_steps}
 use Rattle.sugar_path.proofs.Bools.{and_left, and_right, and_both}
 use Rattle.sugar_path.proofs.Paths.{no_slash-name}
 use Rattle.sugar_path.proofs.Parts.{HasNoSlash, parts-some, parts-no_slash, parts-slash, parts-name, by_part-name, IsPath-by_parts, text_of-absolute}
@@ -82,3 +83,12 @@ not_clean-other t other = (λ h. absurd (let e : false ≡ true = h in cc), λ c
 
 pub clean-parts : (t r : List ℕ) (b : Bool) → t ≡ 47 ∷ r → r ≢ [] → b ≡ list_all is_plain (parts r) → IsTrue b ↔ IsCleanPath t
 clean-parts t r b is some told = rw (is, told) (clean-from_parts r, λ clean. parts-from_clean r clean some)
+
+-- names are the steps of a route that doesn't go up
+pub steps-names : (ps : List (List ℕ)) → list_all is_plain ps ≡ are_steps false ps
+steps-names [] = refl
+steps-names (p ∷ ps) = by_test (is_plain p) (steps-names ps)
+  where
+    by_test : (b : Bool) → list_all is_plain ps ≡ are_steps false ps → (b && list_all is_plain ps) ≡ cond b (are_steps false ps) false
+    by_test true rest = rest
+    by_test false rest = refl

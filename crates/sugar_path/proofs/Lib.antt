@@ -19,3 +19,4 @@ pub mod PlaceParts
 pub mod SharedTexts
 pub mod StdPaths
 pub mod Upwards
+pub mod StdParents

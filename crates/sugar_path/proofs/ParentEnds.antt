@@ -69,7 +69,7 @@ pub until-alone : (t : List ℕ) → parts t ≡ t ∷ [] → t ≡ until_last (
 until-alone t is = sym (ap until_last is)
 
 -- ---- the parts as far as the last component
-trimmed-no_slash : (xs : List (List ℕ)) → AllByRecursion HasNoSlash xs → AllByRecursion HasNoSlash (trimmed xs)
+pub trimmed-no_slash : (xs : List (List ℕ)) → AllByRecursion HasNoSlash xs → AllByRecursion HasNoSlash (trimmed xs)
 trimmed-no_slash [] h = tt
 trimmed-no_slash (x ∷ xs) h = by_test (is_nil (trimmed xs) && is_silent x) (trimmed-no_slash xs h.1)
   where

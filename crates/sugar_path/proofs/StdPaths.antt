@@ -19,7 +19,7 @@ parts-pieces (c ∷ cs) = by_test (c == 47) (parts-pieces cs)
     by_test true h = ap (λ ps. [] ∷ ps) h
     by_test false h = ap (onto_first c) h
 
-some_length : (n : ℕ) → (suc n == 0) ≡ false
+pub some_length : (n : ℕ) → (suc n == 0) ≡ false
 some_length n = elim (eqb_tells (suc n) 0) [ inl w ↦ absurd (omega (arith, w.1)) | inr w ↦ w.0 ]
 
 no_length : (x : List ℕ) → bytes_eq x [] ≡ (length x == 0)

@@ -1,7 +1,7 @@
 -- The components of a path, as Rust's `std::path` tells them apart on Unix.
 use Rattle.std.specs.Prelude.{Bool, false, if◌then◌else◌, List, [], ◌∷◌, ◌++◌, ℕ, bytes_eq}
 use Rattle.sugar_path.specs.Path.{parts, is_absolute}
-use Rattle.sugar_path.specs.Parent.{is_silent}
+use Rattle.sugar_path.specs.Part.{is_silent}
 
 -- the root, the folder that a path is read from, the folder above, or a name
 pub data Piece : Type 0 where

@@ -1,6 +1,6 @@
 -- What holds between the path operations, whatever the paths.
 use Rattle.std.specs.Prelude.{◌≡◌, ◌↔◌, ◌⊎◌, true, List, [], ◌∷◌, ◌++◌, map, ℕ, Some, None}
-use Rattle.std.specs.Path.{path_join, path_components}
+use Rattle.std.specs.Path.{path_join, path_components, path_parent}
 use Rattle.sugar_path.specs.Path.{Path, IsPath, text_of, clean, is_absolute, join}
 use Rattle.sugar_path.specs.Route.{Route, Rooted, Relative, route_up, route_down, route_of, normal, from_folder}
 use Rattle.sugar_path.specs.Relative.{relative_from}
@@ -62,3 +62,7 @@ std_text (Name n) = n
 -- the components of a path, as std's paths have them
 abbrev pub ComponentsAreStds : Type 0
 ComponentsAreStds = (t : List ℕ) → map std_text (components_of t) ≡ path_components t
+
+-- the parent of a path, as std's paths have it
+abbrev pub ParentIsStds : Type 0
+ParentIsStds = (t : List ℕ) → parent_of t ≡ path_parent t

@@ -7,6 +7,7 @@ pub mod Lent
 pub mod LentParts
 pub mod Parent
 pub mod ParentEnd
+pub mod Part
 pub mod Path
 pub mod PathEq
 pub mod PathTypes

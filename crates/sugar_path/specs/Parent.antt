@@ -1,11 +1,8 @@
 -- The parent of a path: the text as far as its last component but one, as Rust's `std::path` has it.
-use Rattle.std.specs.Prelude.{ℕ, ◌||◌, ◌&&◌, Bool, true, false, if◌then◌else◌, List, [], ◌∷◌, bytes_eq, Option, Some, None}
+use Rattle.std.specs.Prelude.{ℕ, ◌&&◌, Bool, true, false, if◌then◌else◌, List, [], ◌∷◌, Option, Some, None}
 use Rattle.std.specs.List.{join_with_byte}
 use Rattle.sugar_path.specs.Path.{parts}
-
--- a part that is no component, where it isn't the first one: an empty part or `.`
-abbrev pub is_silent : List ℕ → Bool
-is_silent part = bytes_eq part [] || bytes_eq part (46 ∷ [])
+pub use Rattle.sugar_path.specs.Part.{is_silent}
 
 abbrev pub is_nil : List (List ℕ) → Bool
 is_nil [] = true

@@ -1,6 +1,7 @@
 -- Clean paths: lists of names, the last name first, and their texts.
 use Rattle.std.specs.Prelude.{◌≡◌, ◌==◌, ◌&&◌, ◌||◌, ℕ, Bool, true, false, not, if◌then◌else◌, IsTrue, List, [], ◌∷◌, ◌++◌, bytes_eq, get_or}
 use Rattle.std.specs.List.{AllByRecursion, slice_split}
+use Rattle.sugar_path.specs.Part.{by_kind}
 
 abbrev pub has_no_slash : List ℕ → Bool
 has_no_slash [] = true
@@ -74,10 +75,7 @@ is_plain part = not (bytes_eq part []) && not (bytes_eq part (46 ∷ [])) && not
 
 -- a path read on by one part: an empty one and `.` stay, `..` goes to the folder above, where `/` stays, and a name goes to the child
 abbrev pub by_part : Path → List ℕ → Path
-by_part p part =
-    if bytes_eq part [] || bytes_eq part (46 ∷ []) then p
-    else if bytes_eq part (46 ∷ 46 ∷ []) then parent p
-    else (part ∷ p)
+by_part p part = by_kind part p (parent p) (part ∷ p)
 
 -- a path read on by parts in order
 abbrev pub by_parts : Path → List (List ℕ) → Path

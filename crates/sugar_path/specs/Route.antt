@@ -1,6 +1,7 @@
 -- What a path says, absolute or not: its root, the folders that it first goes up, and its names.
-use Rattle.std.specs.Prelude.{Bool, true, false, ℕ, ◌+◌, ◌&&◌, ◌||◌, not, if◌then◌else◌, List, [], ◌∷◌, ◌++◌, bytes_eq, reverse, replicate}
+use Rattle.std.specs.Prelude.{Bool, true, false, ℕ, ◌+◌, ◌&&◌, not, if◌then◌else◌, List, [], ◌∷◌, ◌++◌, bytes_eq, reverse, replicate}
 use Rattle.std.specs.List.{join_with_byte}
+use Rattle.sugar_path.specs.Part.{by_kind}
 use Rattle.sugar_path.specs.Path.{Path, parent, is_absolute, parts, ends_in_slash, join}
 
 -- where a path leads: from `/` down some names, the last one first, or from some folder so many folders up and then down some names
@@ -33,10 +34,7 @@ route_parts (Relative ups p) = replicate ups (46 ∷ 46 ∷ []) ++ reverse p
 
 -- a route read on by one part: an empty one and `.` stay, `..` goes up, and a name goes down
 abbrev pub route_by_part : Route → List ℕ → Route
-route_by_part r part =
-    if bytes_eq part [] || bytes_eq part (46 ∷ []) then r
-    else if bytes_eq part (46 ∷ 46 ∷ []) then route_up r
-    else route_down r part
+route_by_part r part = by_kind part r (route_up r) (route_down r part)
 
 -- a route read on by parts in order
 abbrev pub route_by_parts : Route → List (List ℕ) → Route

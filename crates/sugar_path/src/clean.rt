@@ -1,9 +1,9 @@
 // Clean absolute paths as texts.
-ghost use Rattle.std.specs.Prelude.{◌≡◌, ◌↔◌, IfOk, IsTrue, not};
-ghost use Rattle.std.specs.List.{list_all};
-ghost use Rattle.sugar_path.specs.Path.{IsCleanPath, is_plain, parts, text_of, path_in, clean};
+ghost use Rattle.std.specs.Prelude.{◌≡◌, ◌↔◌, IfOk, IsTrue};
+ghost use Rattle.sugar_path.specs.Path.{IsCleanPath, text_of, path_in, clean};
 
 use crate::clean_path::CleanPath;
+use crate::normal::are_steps;
 use crate::plain::Text;
 use std::alloc::{AllocError, Global};
 
@@ -13,22 +13,8 @@ pub fn is_clean(text: &str) -> bool
 {
     match text.strip_prefix('/') {
         None => false,
-        Some(rest) => rest.is_empty() || are_names(rest),
+        Some(rest) => rest.is_empty() || are_steps(rest.as_bytes(), false),
     }
-}
-
-// Whether each part of a text is a name.
-fn are_names(text: &str) -> bool
-    ensures { result ≡ list_all is_plain (parts text.now) }
-{
-    text.split('/').all(is_plain)
-}
-
-// Whether a part is a name.
-fn is_plain(part: &str) -> bool
-    ensures { result ≡ is_plain part.now }
-{
-    part != "" && part != "." && part != ".."
 }
 
 /// A text read from a folder, with `.`, `..` and separators resolved lexically. An absolute text is read from `/`.
@@ -39,7 +25,7 @@ pub fn clean_text(alloc: Global, cwd: &str, text: &str) -> Result<Text, AllocErr
     ensures clean { IfOk result IsCleanPath }
 {
     if text.starts_with('/') {
-        return CleanPath::root(alloc).follow_all(text)?.into_text();
+        return CleanPath::from_root(alloc, text)?.into_text();
     }
     CleanPath::of(alloc, cwd)?.follow_all(text)?.into_text()
 }

@@ -6,6 +6,7 @@ ghost use Rattle.std.specs.Hash as fed;
 ghost use Rattle.std.specs.Hash.{same_Alike};
 ghost use Rattle.sugar_path.specs.PathEq.{path_eq-Decides, path_eq-equivalence};
 
+use crate::clean::is_clean;
 use crate::content::Content;
 use crate::plain::Text;
 use std::alloc::{AllocError, Global};
@@ -77,9 +78,23 @@ impl CleanPath {
         ensures { IfOk result (λ p. p ≡ clean folder.now text.now) }
     {
         if text.starts_with('/') {
-            return CleanPath::root(alloc).follow_all(text);
+            return CleanPath::from_root(alloc, text);
         }
         folder.try_clone(alloc)?.follow_all(text)
+    }
+
+    // The parts of a text, read from `/`. A clean text is copied as it stands.
+    #[tactic(auto, unfolding(crate::specs::Path::path_in))]
+    pub(crate) fn from_root(alloc: Global, text: &str) -> Result<CleanPath, AllocError>
+        ensures { IfOk result (λ p. p ≡ by_parts [] (parts text.now)) }
+    {
+        if is_clean(text) {
+            return CleanPath::of(alloc, text);
+        }
+        let root = CleanPath {
+            steps: Content::owned(String::with_capacity(alloc, text.len())?),
+        };
+        root.follow_all(text)
     }
 
     // Goes on by the parts of a text.

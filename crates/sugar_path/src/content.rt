@@ -160,7 +160,10 @@ impl Front {
     fn with_name(&self, name: &str) -> Result<String, AllocError>
         ensures { IfOk result (λ s. string_bytes s ≡ front_bytes self.now ++ 47 ∷ name.now) }
     {
-        let mut grown = String::from_str(self.alloc, self.as_str())?;
+        let front = self.as_str();
+        let room = front.len().saturating_add(name.len()).saturating_add(1);
+        let mut grown = String::with_capacity(self.alloc, room)?;
+        grown.push_str(front)?;
         push_name(&mut grown, name)?;
         Ok(grown)
     }

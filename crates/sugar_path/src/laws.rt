@@ -1,5 +1,5 @@
 // Laws of the path operations, each proved for all paths. The calls have them by their contracts.
-ghost use Rattle.sugar_path.specs.Laws.{NormalTwice, RelativeLeadsThere, RelativeEmptyAtOnePlace, ComponentsLeadThere, ParentLeavesLast, RootHasNoParent, PlaceIsClean, JoinIsStds, ComponentsAreStds};
+ghost use Rattle.sugar_path.specs.Laws.{NormalTwice, RelativeLeadsThere, RelativeEmptyAtOnePlace, ComponentsLeadThere, ParentLeavesLast, RootHasNoParent, PlaceIsClean, JoinIsStds, ComponentsAreStds, ParentIsStds};
 
 /// A normal form is its own normal form. So `normalize` lends what it answered, where that is UTF-8.
 pub fn normal_twice()
@@ -45,4 +45,9 @@ pub fn join_is_stds()
 /// The components of a path are those of std's paths.
 pub fn components_are_stds()
     ensures { ComponentsAreStds }
+{}
+
+/// The parent of a path is what std's paths give.
+pub fn parent_is_stds()
+    ensures { ParentIsStds }
 {}

@@ -87,8 +87,8 @@ fn climb_of(path: &[u8]) -> Climb
     climb
 }
 
-// Whether the parts of a path are names, behind some `..` where the path may go up.
-fn are_steps(path: &[u8], may_go_up: bool) -> bool
+/// Whether the parts of a path are names, behind some `..` where the path may go up.
+pub(crate) fn are_steps(path: &[u8], may_go_up: bool) -> bool
     ensures { result ≡ are_steps may_go_up (parts path.now) }
 {
     let mut up = may_go_up;
