@@ -20,8 +20,8 @@ use tree_core::{MemoryTree, PutError};
 pub fn read_document(alloc: Global, bytes: &[u8]) -> Result<Document, DocumentError>
     ensures { Meets result (fields_in bytes.now) }
 {
-    let value = read_json(alloc, bytes)?;
-    read_fields(alloc, &value)
+    let mut value = read_json(alloc, bytes)?;
+    read_fields(alloc, &mut value)
 }
 
 // The text that is there, lent.

@@ -1,21 +1,22 @@
 // Reads the fields of a document from its JSON value.
-ghost use Rattle.std.specs.Prelude.{◌≡◌, codes, option_map};
+ghost use Rattle.std.specs.Prelude.{◌≡◌, OnOk, codes, option_map};
 ghost use Rattle.serde_json.specs.View.{view};
 ghost use Rattle.json_reading.specs.Reading.{field_by};
 ghost use Rattle.json_reading.specs.Reading as reading;
 ghost use Rattle.resolve_stack.specs.Settings.{given};
 ghost use Rattle.document_core.specs.Cause.{Meets, name_of};
 ghost use Rattle.document_core.specs.Document.{settings_in};
-ghost use Rattle.document_core.specs.Fields.{fields_of, project_fields_of, required, settings_of, target_of};
+ghost use Rattle.document_core.specs.Fields.{KeepsOthers, fields_of, project_fields_of, required, settings_of, target_of};
 ghost use Rattle.document_core.specs.declared.cause.Field.TheVariants.{Target};
 ghost use Rattle.swc_loader.specs.declared.target.TargetEnv.TheVariants.{Browser};
 
 use crate::cause::{Cause, DocumentError, Field};
 use crate::given::{GivenFile, GivenMapping, Request};
-use json_reading::{FromJson, FromJsonError, Object};
+use json_reading::{FromJson, FromJsonError, Object, into_members};
 use resolve_stack::{Settings, TargetEnv, TsSettings};
 use serde_json::Value;
 use std::alloc::Global;
+use std::mem;
 use sugar_path::{List, Text};
 
 /// What a document of any kind has: the settings of a project, its lock and its files.
@@ -84,16 +85,16 @@ impl GivenSettings {
     }
 }
 
-// The document that a JSON value gives.
-pub(crate) fn read_fields(alloc: Global, value: &Value) -> Result<Document, DocumentError>
-    ensures { Meets result (fields_of (view value.now)) }
+// The document that a JSON value gives, whose files and requests are taken out.
+pub(crate) fn read_fields(alloc: Global, value: &mut Value) -> Result<Document, DocumentError>
+    ensures { Meets result (fields_of (view value.old)) }
 {
     let GivenProject {
         settings,
         lock,
         files,
     } = read_project(alloc, value)?;
-    let requests: List<Request> = field(alloc, value, Field::Requests)?;
+    let requests: List<Request> = take_field(alloc, value, Field::Requests)?;
     Ok(Document {
         settings,
         lock,
@@ -102,13 +103,15 @@ pub(crate) fn read_fields(alloc: Global, value: &Value) -> Result<Document, Docu
     })
 }
 
-/// The project that a JSON value gives, or the first cause against its fields.
-pub fn read_project(alloc: Global, value: &Value) -> Result<GivenProject, DocumentError>
-    ensures { Meets result (project_fields_of (view value.now)) }
+/// The project that a JSON value gives, or the first cause against its fields. The files are taken out; the other members stay,
+/// unless a field is refused.
+pub fn read_project(alloc: Global, value: &mut Value) -> Result<GivenProject, DocumentError>
+    ensures project { Meets result (project_fields_of (view value.old)) }
+    ensures others { OnOk result (KeepsOthers (codes "files") (view value.old) (view value.new)) }
 {
     let settings = read_settings(alloc, value)?;
     let lock: Option<Text> = field_or(alloc, value, Field::Lock, None)?;
-    let files: List<GivenFile> = field(alloc, value, Field::Files)?;
+    let files: List<GivenFile> = take_field(alloc, value, Field::Files)?;
     Ok(GivenProject {
         settings,
         lock,
@@ -137,12 +140,34 @@ fn read_settings(alloc: Global, value: &Value) -> Result<GivenSettings, Document
     })
 }
 
-/// A field that has to be there.
-pub fn field<T: FromJson>(alloc: Global, value: &Value, name: Field) -> Result<T, DocumentError>
+// A field that has to be there.
+fn field<T: FromJson>(alloc: Global, value: &Value, name: Field) -> Result<T, DocumentError>
     ensures { Meets result (required name (field_by (name_of name) T.reads (view value.now))) }
 {
     match json_reading::field(alloc, value, name.name()) {
         Ok(read) => Ok(read),
+        Err(FromJsonError::OtherKind) => Err(DocumentError::Refused(Cause::BadField(name))),
+        Err(FromJsonError::NoMemory) => Err(DocumentError::NoMemory),
+    }
+}
+
+/// A field that has to be there, taken out of its object. The other members stay, unless the field is refused.
+pub fn take_field<T: FromJson>(
+    alloc: Global,
+    value: &mut Value,
+    name: Field,
+) -> Result<T, DocumentError>
+    ensures field { Meets result (required name (field_by (name_of name) T.reads (view value.old))) }
+    ensures others { OnOk result (KeepsOthers (name_of name) (view value.old) (view value.new)) }
+{
+    let Some(mut members) = into_members(mem::replace(value, Value::Null)) else {
+        return Err(DocumentError::Refused(Cause::BadField(name)));
+    };
+    match json_reading::take_field(alloc, &mut members, name.name()) {
+        Ok(read) => {
+            *value = Value::Object(members);
+            Ok(read)
+        }
         Err(FromJsonError::OtherKind) => Err(DocumentError::Refused(Cause::BadField(name))),
         Err(FromJsonError::NoMemory) => Err(DocumentError::NoMemory),
     }

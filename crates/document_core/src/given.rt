@@ -1,15 +1,15 @@
 // Reads the files, the mapping and the requests of a document from their JSON values.
-ghost use Rattle.std.specs.Prelude.{◌≡◌, codes, Option, option_map};
+ghost use Rattle.std.specs.Prelude.{◌≡◌, codes, IfOk, Option, Some, option_map, unwrap_or};
 ghost use Rattle.std.specs.List.{list_all};
-ghost use Rattle.serde_json.specs.Find.{as_str};
-ghost use Rattle.serde_json.specs.View.{view};
-ghost use Rattle.json_reading.specs.Reading.{ReadsAs, field_by, present_or};
-ghost use Rattle.document_core.specs.Given.{content_of, hex_bytes, importer_of, is_lower_hex_digit};
+ghost use Rattle.serde_json.specs.Data.{object, string};
+ghost use Rattle.serde_json.specs.View.{members_view, view};
+ghost use Rattle.json_reading.specs.Reading.{ReadsAs, field_by};
+ghost use Rattle.document_core.specs.Given.{content_of, file_of, hex_bytes, importer_of, is_lower_hex_digit};
 
-use json_reading::{FromJson, FromJsonError, field};
+use json_reading::{FromJson, FromJsonError, field, into_members, take_field, take_optional};
 use resolve_stack::{FileName, TsSettings};
-use serde_json::Value;
-use std::alloc::Global;
+use serde_json::{Map, Value};
+use std::alloc::{AllocError, Global};
 use sugar_path::{Bytes, List, Text};
 
 /// A file as a document gives it.
@@ -40,45 +40,71 @@ impl FromJson for GivenFile {
     ghost reads = { file_of };
 
     fn from_json(alloc: Global, value: &Value) -> Result<Self, FromJsonError> {
-        let path = path_in(alloc, value)?;
-        let content = content_in(alloc, value.get("text"), value.get("hex"))?;
-        let canonical = text_or_copy(alloc, value.get("canonical"), &path)?;
-        Ok(GivenFile {
-            path,
-            content,
-            canonical,
-        })
+        let copy = value.clone()?;
+        Self::from_owned(alloc, copy)
+    }
+
+    fn from_owned(alloc: Global, value: Value) -> Result<Self, FromJsonError> {
+        match into_members(value) {
+            Some(members) => file_of_members(alloc, members),
+            None => Err(FromJsonError::OtherKind),
+        }
     }
 }
 
-// The path of a file, which copies share.
-fn path_in(alloc: Global, file: &Value) -> Result<Text, FromJsonError>
-    ensures { ReadsAs result (field_by (codes "path") as_str (view file.now)) }
+// A file, by the members of an object that is given up. Copies share its path and its bytes.
+fn file_of_members(
+    alloc: Global,
+    mut members: Map<String, Value>,
+) -> Result<GivenFile, FromJsonError>
+    ensures { ReadsAs result (file_of (object (members_view members.entries))) }
 {
-    let path: Text = field(alloc, file, "path")?;
-    Ok(path.into_shared()?)
+    let path: Text = take_field(alloc, &mut members, "path")?;
+    let text: Option<Text> = take_optional(alloc, &mut members, "text")?;
+    let hex: Option<Text> = take_optional(alloc, &mut members, "hex")?;
+    let canonical: Option<Text> = take_optional(alloc, &mut members, "canonical")?;
+    let content = content_of(alloc, text, hex)?;
+    file_with(alloc, path, content, canonical)
+}
+
+// A file, with its path as its canonical name where it has no other.
+fn file_with(
+    alloc: Global,
+    path: Text,
+    content: Bytes,
+    canonical: Option<Text>,
+) -> Result<GivenFile, FromJsonError>
+    ensures { ReadsAs result (Some (record { path = path; content = content; canonical = unwrap_or canonical path })) }
+{
+    let path = path.into_shared()?;
+    let canonical = match canonical {
+        Some(canonical) => canonical,
+        None => path.try_clone(alloc)?,
+    };
+    Ok(GivenFile {
+        path,
+        content,
+        canonical,
+    })
 }
 
 // The bytes that exactly one of a text and a hex text gives.
-fn content_in(
-    alloc: Global,
-    text: Option<&Value>,
-    hex: Option<&Value>,
-) -> Result<Bytes, FromJsonError>
-    ensures { ReadsAs result (content_of (option_map (λ v. view v.now) text.entry)
-        (option_map (λ v. view v.now) hex.entry)) }
+fn content_of(alloc: Global, text: Option<Text>, hex: Option<Text>) -> Result<Bytes, FromJsonError>
+    ensures { ReadsAs result (content_of (option_map string text) (option_map string hex)) }
 {
     match (text, hex) {
-        (Some(text), None) => match text.as_str() {
-            Some(text) => Ok(Bytes::of(alloc, text.as_bytes())?),
-            None => Err(FromJsonError::OtherKind),
-        },
-        (None, Some(hex)) => match hex.as_str() {
-            Some(hex) => bytes_of_hex(alloc, hex),
-            None => Err(FromJsonError::OtherKind),
-        },
+        (Some(text), None) => Ok(bytes_of_text(alloc, text)?),
+        (None, Some(hex)) => bytes_of_hex(alloc, hex.as_str()),
         _ => Err(FromJsonError::OtherKind),
     }
+}
+
+// The bytes of a text, which aren't copied.
+fn bytes_of_text(alloc: Global, text: Text) -> Result<Bytes, AllocError>
+    ensures { IfOk result (λ b. b ≡ text) }
+{
+    let text = text.into_string(alloc)?;
+    Bytes::from_vec(text.into_bytes())
 }
 
 // The bytes of a hex text in lower case.
@@ -106,17 +132,6 @@ fn is_lower_hex_digit(c: u8) -> bool
     ensures { result ≡ is_lower_hex_digit c }
 {
     matches!(c, b'0'..=b'9' | b'a'..=b'f')
-}
-
-// A text, or a copy of what stands for one that is missing.
-fn text_or_copy(alloc: Global, value: Option<&Value>, absent: &Text) -> Result<Text, FromJsonError>
-    ensures { ReadsAs result
-        (present_or absent.now as_str (option_map (λ v. view v.now) value.entry)) }
-{
-    match value {
-        None => Ok(absent.try_clone(alloc)?),
-        Some(value) => Text::from_json(alloc, value),
-    }
 }
 
 impl FromJson for Request {

@@ -64,3 +64,12 @@ read_on-next {A} f made v vs a reads = rw reads (by_read (items_by f (items_view
 
 pub read_on-stop : {A : Type 0} (f : Data → Option A) (made : List A) (v : Value) (vs : List Value) → f (view v) ≡ None → read_on f made (v ∷ vs) ≡ None
 read_on-stop f made v vs reads = rw reads refl
+
+-- what isn't read isn't told as being there
+pub reads_no_option : {A : Type 0} (e : FromJsonError) (r : Result (Option A) FromJsonError) (o : Option A) → IsErrAnd r (λ x. x ≡ e) → ReadsAs {A = A} (Err e) o → ReadsAs r (option_map Some o)
+reads_no_option e (Ok a) o is h = elim is [ ]
+reads_no_option {A} e (Err x) o is h = rw is (by_error e h)
+  where
+    by_error : (e : FromJsonError) → ReadsAs {A = A} (Err e) o → ReadsAs {A = Option A} (Err e) (option_map Some o)
+    by_error OtherKind h = rw h refl
+    by_error NoMemory h = tt

@@ -69,3 +69,7 @@ present_or absent f (Some d) = f d
 -- the member of an object, and what stands for it where it is absent. A value that isn't an object has no member
 abbrev pub field_or : {A : Type 0} → List ℕ → A → (Data → Option A) → Data → Option A
 field_or key absent f d = present_or absent f (get key d)
+
+-- the member of an object, where it has one
+abbrev pub optional_by : {A : Type 0} → List ℕ → (Data → Option A) → Data → Option (Option A)
+optional_by key f d = field_or key None (λ v. option_map Some (f v)) d

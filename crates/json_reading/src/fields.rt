@@ -3,7 +3,7 @@ ghost use Rattle.std.specs.Prelude.{◌≡◌, None, MatchOption};
 ghost use Rattle.serde_json.specs.Data.{object};
 ghost use Rattle.serde_json.specs.Find.{as_object};
 ghost use Rattle.serde_json.specs.View.{view, members_view};
-ghost use Rattle.json_reading.specs.Reading.{ReadsAs, field_by};
+ghost use Rattle.json_reading.specs.Reading.{ReadsAs, field_by, optional_by};
 ghost use Rattle.json_reading.specs.Members.{LacksOnly};
 ghost use Rattle.json_reading.specs.Reading as reading;
 
@@ -80,4 +80,20 @@ pub fn take_field_or<T: FromJson>(
         return Ok(absent);
     };
     T::from_owned(alloc, member)
+}
+
+/// A member that may be absent, taken out of its object. A null member isn't absent.
+pub fn take_optional<T: FromJson>(
+    alloc: Global,
+    members: &mut Map<String, Value>,
+    name: &str,
+) -> Result<Option<T>, FromJsonError>
+    ensures reads { ReadsAs result (optional_by name.now T.reads (object (members_view members.old.entries))) }
+    ensures others { LacksOnly name.now members.old.entries members.new.entries }
+{
+    let Some(member) = members.remove(name) else {
+        return Ok(None);
+    };
+    let read = T::from_owned(alloc, member)?;
+    Ok(Some(read))
 }

@@ -10,7 +10,7 @@ mod objects;
 
 pub use bytes::read_json;
 pub use error::FromJsonError;
-pub use fields::{field, field_or, into_members, take_field, take_field_or};
+pub use fields::{field, field_or, into_members, take_field, take_field_or, take_optional};
 pub use floats::holds_float;
 pub use from_json::FromJson;
 pub use objects::Object;
