@@ -2,13 +2,14 @@
 use Rattle.std.proofs.Common.{◌≡◌, ℕ, Bool, List, [], Option, Some, None, refl, ◌∙◌}
 use Rattle.std.specs.Prelude.{String, codes}
 use Rattle.std.specs.declared.alloc.Global.{Global}
-use Rattle.serde_json.specs.Data.{Data, null, boolean, number, string, array, object}
-use Rattle.serde_json.specs.Find.{get, as_str, as_bool, as_object}
+use Rattle.serde_json.specs.Data.{Data, object}
+use Rattle.serde_json.specs.Find.{as_bool, as_object, as_str}
 use Rattle.serde_json.specs.View.{members_view}
 use Rattle.serde_json.specs.declared.value.Value.{Value}
 use Rattle.sugar_path.specs.Front.{◌>>=◌}
 use Rattle.json_reading.specs.Reading.{nullable_by, field_by, field_or}
 use Rattle.json_reading.specs.Members.{LacksOnly}
+use Rattle.json_reading.proofs.TakenMembers.{get-other}
 use Rattle.pnp_core.specs.declared.manifest.PackageLocator.{PackageLocator}
 use Rattle.pnp_core.specs.Manifest.{Contents, Dependencies, Registry}
 use Rattle.pnp_core.specs.ManifestReading.{roots_in, dependencies_in, exclusions_in, registry_in, fields_in, package_in}
@@ -51,21 +52,12 @@ fields_in-parts d =
     by_fields (Some a) (Some b) (Some c) (Some e) None (Some g) = refl
     by_fields (Some a) (Some b) (Some c) (Some e) (Some f) None = refl
 
--- a value that is no object has no member
-get-none : (d : Data) (key : List ℕ) → as_object d ≡ None → get key d ≡ None
-get-none null key none = refl
-get-none (boolean b) key none = refl
-get-none (number n) key none = refl
-get-none (string s) key none = refl
-get-none (array ds) key none = refl
-get-none (object ms) key none = cc
-
 pub fields_in-other : (d : Data) → as_object d ≡ None → fields_in d ≡ None
-fields_in-other d none = fields_in-parts d ∙ rw (get-none d (codes "packageRegistryData") none) refl
+fields_in-other d none = fields_in-parts d ∙ rw (get-other d (codes "packageRegistryData") none) refl
 
 pub package_in-other : (d : Data) → as_object d ≡ None → package_in d ≡ None
 unfolding package_in
-package_in-other d none = rw (get-none d (codes "packageLocation") none) refl
+package_in-other d none = rw (get-other d (codes "packageLocation") none) refl
 
 -- the other fields stay where the registry was taken out
 pub fields_with-kept : (old new : List (String Global × Value)) (registry : Registry) → LacksOnly (codes "packageRegistryData") old new → fields_with (object (members_view new)) registry ≡ fields_with (object (members_view old)) registry

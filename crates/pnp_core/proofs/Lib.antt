@@ -16,8 +16,10 @@ pub mod Payloads
 pub mod Normal
 pub mod PlainLocations
 pub mod Relocations
+pub mod Copying
 pub mod Hydrations
 pub mod FieldReadings
+pub mod PairReadings
 pub mod PathForms
 pub mod OnTrees
 pub mod VirtualPaths

@@ -64,17 +64,24 @@ pub overlaid-nil : (rs : List Row) (l : Path) → overlaid rs [] l ≡ last_at r
 overlaid-nil rs l = option_or-none (last_at rs l)
 
 -- a discarded row changes nothing
+pub overlaid-past : (n r : List ℕ) (p : Package) (t : Locations PackageLocator) (l : Path) → p.discard_from_lookup ≡ true → value_at t l ≡ overlaid ((locator n r, p) ∷ []) t l
+overlaid-past n r p t l e = rw e refl
+
 pub overlaid-discarded : (dir n r : List ℕ) (p : Package) (t : Locations PackageLocator) (l : Path) → p.discard_from_lookup ≡ true → value_at t l ≡ overlaid ((locator n r, located dir p) ∷ []) t l
-overlaid-discarded dir n r p t l e = rw e refl
+overlaid-discarded dir n r p t l e = overlaid-past n r (located dir p) t l e
 
 -- another row owns its location
-pub overlaid-row : (dir n r : List ℕ) (p : Package) (old new : Locations PackageLocator) (l : Path) → is_absolute dir ≡ true → IsPath l → p.discard_from_lookup ≡ false → Puts old new (location_path (join dir p.package_location)) (locator n r) → value_at new l ≡ overlaid ((locator n r, located dir p) ∷ []) old l
-overlaid-row dir n r p old new l abs path kept puts =
-    puts l path ∙ rw (kept, location_path-normalize_path (join dir p.package_location) (join-absolute dir p.package_location abs)) (by_test (path_eq (location_path (join dir p.package_location)) l))
+pub overlaid-own : (n r : List ℕ) (p : Package) (old new : Locations PackageLocator) (l : Path) → IsPath l → p.discard_from_lookup ≡ false → Puts old new (location_path p.package_location) (locator n r) → value_at new l ≡ overlaid ((locator n r, p) ∷ []) old l
+overlaid-own n r p old new l path kept puts =
+    puts l path ∙ rw kept (by_test (path_eq (location_path p.package_location) l))
   where
     by_test : (b : Bool) → cond b (Some (locator n r)) (value_at old l) ≡ option_or (cond b (Some (locator n r)) None) (value_at old l)
     by_test true = refl
     by_test false = refl
+
+pub overlaid-row : (dir n r : List ℕ) (p : Package) (old new : Locations PackageLocator) (l : Path) → is_absolute dir ≡ true → IsPath l → p.discard_from_lookup ≡ false → Puts old new (location_path (join dir p.package_location)) (locator n r) → value_at new l ≡ overlaid ((locator n r, located dir p) ∷ []) old l
+overlaid-row dir n r p old new l abs path kept puts =
+    overlaid-own n r (located dir p) old new l path kept (rw (location_path-normalize_path (join dir p.package_location) (join-absolute dir p.package_location abs)) puts)
 
 -- ---- a manifest is ready
 

@@ -4,6 +4,7 @@ pub mod Slashed
 pub mod BareIdentifier
 pub mod Payload
 pub mod Manifest
+pub mod Copying
 pub mod ManifestReading
 pub mod FieldsWith
 pub mod Owner

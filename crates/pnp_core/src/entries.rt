@@ -1,5 +1,8 @@
 // A payload's lists of pairs as maps, and its lists of names as sets: a repeated name keeps its place, and takes the last value.
-ghost use Rattle.std.specs.Prelude.{◌≡◌, IfOk, map, unwrap_or, []};
+ghost use Rattle.std.specs.Prelude.{◌≡◌, IfOk, map, option_map, unwrap_or, []};
+ghost use Rattle.serde_json.specs.Find.{as_str};
+ghost use Rattle.serde_json.specs.View.{items_view};
+ghost use Rattle.json_reading.specs.Reading.{ReadsAs, items_by, nullable_by, pair_by};
 ghost use Rattle.pnp_core.specs.ManifestReading.{entries_of, named};
 ghost use Rattle.indexmap.specs.IndexSet as set;
 
@@ -40,9 +43,10 @@ impl<V: FromJson> FromJson for Entries<V> {
     }
 
     fn from_owned(alloc: Global, value: Value) -> Result<Self, FromJsonError> {
-        let pairs = List::<(Text, V)>::from_owned(alloc, value)?;
-        let entries = collected(alloc, pairs.into())?;
-        Ok(entries)
+        match value {
+            Value::Array(items) => entries_of_items(alloc, items),
+            _ => Err(FromJsonError::OtherKind),
+        }
     }
 }
 
@@ -77,9 +81,10 @@ impl<V: FromJson> FromJson for NullableEntries<V> {
     }
 
     fn from_owned(alloc: Global, value: Value) -> Result<Self, FromJsonError> {
-        let pairs = List::<(Option<Text>, V)>::from_owned(alloc, value)?;
-        let entries = collected_named(alloc, pairs.into())?;
-        Ok(entries)
+        match value {
+            Value::Array(items) => named_entries_of_items(alloc, items),
+            _ => Err(FromJsonError::OtherKind),
+        }
     }
 }
 
@@ -138,6 +143,39 @@ fn collected_named<V: Drop>(
     let mut map = IndexMap::with_capacity(alloc, pairs.len())?;
     for (name, value) in pairs {
         map.insert(name_or_empty(alloc, name), value)?;
+    }
+    Ok(NullableEntries { map })
+}
+
+// The map of an array's pairs, given up: each is put in as it is read.
+fn entries_of_items<V: FromJson>(
+    alloc: Global,
+    items: Vec<Value>,
+) -> Result<Entries<V>, FromJsonError>
+    ensures { ReadsAs result
+        (option_map entries_of (items_by (pair_by as_str V.reads) (items_view items.items))) }
+{
+    let mut map = IndexMap::with_capacity(alloc, items.len())?;
+    for item in items {
+        let (name, member) = <(Text, V)>::from_owned(alloc, item)?;
+        map.insert(name, member)?;
+    }
+    Ok(Entries { map })
+}
+
+// The same with the empty text for a null name.
+fn named_entries_of_items<V: FromJson>(
+    alloc: Global,
+    items: Vec<Value>,
+) -> Result<NullableEntries<V>, FromJsonError>
+    ensures { ReadsAs result
+        (option_map (λ pairs. entries_of (map named pairs))
+        (items_by (pair_by (nullable_by as_str) V.reads) (items_view items.items))) }
+{
+    let mut map = IndexMap::with_capacity(alloc, items.len())?;
+    for item in items {
+        let (name, member) = <(Option<Text>, V)>::from_owned(alloc, item)?;
+        map.insert(name_or_empty(alloc, name), member)?;
     }
     Ok(NullableEntries { map })
 }

@@ -253,7 +253,7 @@ fn missing_from(
     Ok(missing)
 }
 
-fn copy_of(
+pub(crate) fn copy_of(
     alloc: Global,
     dependency: &Option<PackageDependency>,
 ) -> Result<Option<PackageDependency>, AllocError>

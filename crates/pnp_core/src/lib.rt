@@ -3,6 +3,7 @@
 
 mod bare_identifier;
 mod binding;
+mod copies;
 mod entries;
 mod error;
 mod finding;

@@ -1,4 +1,5 @@
 // What a manifest has of its packages, at values from outside. The manifest is lent to each check, so that one function owns it.
+ghost use Rattle.std.specs.Prelude.{IfOk};
 ghost use Rattle.pnp_core.specs.Owner.{IsReady};
 
 use crate::manifests::{path, ready_manifest};
@@ -16,6 +17,21 @@ use sugar_path::Text;
 fn a_manifest_answers(rt: HostRuntime) -> Result<(), Fail> {
     let manifest = ready_manifest(rt.alloc())?;
     answers(&rt, rt.alloc(), &manifest)
+}
+
+// A copy answers alike, once the manifest itself is gone.
+#[test]
+fn a_copy_answers_alike(rt: HostRuntime) -> Result<(), Fail> {
+    let copy = copied_manifest(rt.alloc())?;
+    answers(&rt, rt.alloc(), &copy)
+}
+
+fn copied_manifest(alloc: Global) -> Result<Manifest, Fail>
+    ensures { IfOk result IsReady }
+{
+    let manifest = ready_manifest(alloc)?;
+    let copy = manifest.try_clone(alloc)?;
+    Ok(copy)
 }
 
 fn answers(rt: &impl Abort, alloc: Global, manifest: &Manifest) -> Result<(), Fail>

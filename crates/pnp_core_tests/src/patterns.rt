@@ -42,6 +42,14 @@ fn manifest_with(alloc: Global, pattern: &str) -> Result<Manifest, Fail>
     Ok(manifest)
 }
 
+fn copied_manifest(alloc: Global, pattern: &str) -> Result<Manifest, Fail>
+    ensures { IfOk result IsReady }
+{
+    let manifest = manifest_with(alloc, pattern)?;
+    let copy = manifest.try_clone(alloc)?;
+    Ok(copy)
+}
+
 fn is_owned_by(
     rt: &impl Abort,
     alloc: Global,
@@ -68,6 +76,14 @@ fn owner_is(
 ) -> Result<(), Fail> {
     let manifest = manifest_with(alloc, pattern)?;
     is_owned_by(rt, alloc, &manifest, text, wanted)
+}
+
+// A copy has the pattern too.
+#[test]
+fn copies_ignore_paths(rt: HostRuntime) -> Result<(), Fail> {
+    let copy = copied_manifest(rt.alloc(), SDKS)?;
+    is_owned_by(&rt, rt.alloc(), &copy, "/w/.yarn/sdks/.bin", None)?;
+    is_owned_by(&rt, rt.alloc(), &copy, "/w/.yarn/sdksx/a.js", Some(""))
 }
 
 #[test]
