@@ -4,6 +4,10 @@
 #[cfg(test)]
 mod example;
 #[cfg(test)]
+mod kept;
+#[cfg(test)]
+mod memory;
+#[cfg(test)]
 mod project;
 #[cfg(test)]
 mod random_steps;
