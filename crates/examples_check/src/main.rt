@@ -1,10 +1,16 @@
-//! Whether each document of a folder gives the text that stands beside it: `NAME.out` for `NAME.json`. It is given the folder.
+//! Whether each document of a folder gives the text that stands beside it, `NAME.out` for `NAME.json`, or a front of it where writing
+//! fails, and whether the trails of its requests decide. It is given the folder.
 #![tactic(auto)]
 
 ghost use Rattle.std.specs.Prelude.{◌≡◌, false, true, Some, IfOk, IfSome};
 ghost use Rattle.cli_core.specs.Command.{asked};
 ghost use Rattle.cli_core.specs.Run.{reply_for};
 
+mod cut_short;
+mod replays;
+
+use crate::cut_short::ends_at_each_sink;
+use crate::replays::{Replays, replays_in};
 use cli_core::{Command, DocumentKind, PlainSink, PlainSource, Status, run};
 use std::alloc::{AllocError, Global};
 use std::fs::Files;
@@ -18,14 +24,50 @@ fn main(rt: HostRuntime) -> io::Result<()> {
         return Err(io::Error::from(ErrorKind::InvalidInput));
     };
     for name in documents(&rt, &folder)? {
-        let tells = if is_as_written(&rt, &folder, &name)? {
-            "as written"
-        } else {
-            "differs"
-        };
-        println!(rt; "{name}: {tells}")?;
+        tell(&rt, &folder, &name)?;
     }
     Ok(())
+}
+
+fn tell(rt: &(impl Files + Print + AllocGlobal), folder: &str, name: &str) -> io::Result<()> {
+    let document = fs::read(rt, format!(in rt.alloc(); "{folder}/{name}.json")?)?;
+    let wanted = fs::read(rt, format!(in rt.alloc(); "{folder}/{name}.out")?)?;
+    let Replays {
+        requests,
+        questions,
+        files,
+        differ,
+    } = replays_in(rt.alloc(), &document)?;
+    let ends = how_sinks_end(rt.alloc(), &document, &wanted)?;
+    let tells = how_it_is_written(rt.alloc(), document, &wanted)?;
+    println!(rt;
+        "{name}: {tells}, {ends}; {requests} requests replayed, without {questions} questions and {files} files: {differ} differ"
+    )
+}
+
+fn how_sinks_end(
+    alloc: Global,
+    document: &[u8],
+    wanted: &[u8],
+) -> Result<&'static str, AllocError> {
+    let document = Bytes::of(alloc, document)?;
+    if ends_at_each_sink(alloc, &words(alloc)?, &document, wanted)? {
+        Ok("cut short by sinks")
+    } else {
+        Ok("cut short otherwise")
+    }
+}
+
+fn how_it_is_written(
+    alloc: Global,
+    document: Vec<u8>,
+    wanted: &[u8],
+) -> Result<&'static str, AllocError> {
+    if gives(alloc, document, wanted)? {
+        Ok("as written")
+    } else {
+        Ok("differs")
+    }
 }
 
 // The names of the documents, in order.
@@ -42,12 +84,6 @@ fn documents(
     }
     names.sort()?;
     Ok(names)
-}
-
-fn is_as_written(rt: &(impl Files + AllocGlobal), folder: &str, name: &str) -> io::Result<bool> {
-    let document = fs::read(rt, format!(in rt.alloc(); "{folder}/{name}.json")?)?;
-    let wanted = fs::read(rt, format!(in rt.alloc(); "{folder}/{name}.out")?)?;
-    Ok(gives(rt.alloc(), document, &wanted)?)
 }
 
 // Whether the program writes this text for the document.
