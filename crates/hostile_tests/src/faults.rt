@@ -65,7 +65,8 @@ fn a_walk_fails_at_each_question(rt: HostRuntime) -> Result<(), Fail> {
     Ok(())
 }
 
-fn manifest() -> &'static str {
+// A manifest whose top-level package binds `foo`.
+pub fn manifest() -> &'static str {
     "const RAW_RUNTIME_STATE =\n'{\"dependencyTreeRoots\":[],\"enableTopLevelFallback\":true,\"ignorePatternData\":null,\"fallbackExclusionList\":[],\"fallbackPool\":[],\"packageRegistryData\":[[null,[[null,{\"packageLocation\":\"./\",\"packageDependencies\":[[\"foo\",\"npm:1.0.0\"]]}]]],[\"foo\",[[\"npm:1.0.0\",{\"packageLocation\":\"./.yarn/foo/\",\"packageDependencies\":[]}]]]]}';\n"
 }
 

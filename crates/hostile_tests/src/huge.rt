@@ -27,7 +27,7 @@ fn project_at_the_root(alloc: Global) -> Result<Project<'static>, Fail> {
 
 #[test]
 fn an_importer_lies_deep(rt: HostRuntime) -> Result<(), Fail> {
-    for (depth, questions) in [(500, 1015), (5_000, 10_015)] {
+    for (depth, questions) in [(500, 1015), (10_000, 20_015)] {
         let (count, text) = below_folders(rt.alloc(), depth)?;
         assert_eq!(rt; count, questions);
         assert_eq!(rt; text.as_str(), "nothing is found at q");

@@ -13,3 +13,5 @@ mod huge;
 mod names;
 #[cfg(test)]
 mod requests;
+#[cfg(test)]
+mod streams;

@@ -1,4 +1,5 @@
 // Names of any bytes, and rules that lead to themselves.
+use crate::faults::manifest;
 use crate::requests::{came, node_project, settings, tree_of};
 use resolve_stack::{Project, TargetEnv};
 use std::alloc::{AllocError, Global};
@@ -33,6 +34,17 @@ fn a_name_has_any_characters(rt: HostRuntime) -> Result<(), Fail> {
         let (text, wanted) = came_in(rt.alloc(), name)?;
         assert_eq!(rt; text.as_str(), wanted.as_str());
     }
+    Ok(())
+}
+
+// A backslash parts no names in a tree. An owner is looked for as if it did.
+#[test]
+fn an_importer_has_a_backslash(rt: HostRuntime) -> Result<(), Fail> {
+    let alloc = rt.alloc();
+    let files = [("/w/.pnp.cjs", manifest()), ("/w/.yarn/foo/index.js", "")];
+    let mut tree = tree_of(alloc, files.as_slice())?;
+    let text = came(alloc, &mut tree, &node_project(alloc)?, "/w/x\\y.js", "foo")?;
+    assert_eq!(rt; text.as_str(), "real /w/.yarn/foo/index.js");
     Ok(())
 }
 
