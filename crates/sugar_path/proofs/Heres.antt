@@ -1,17 +1,20 @@
 -- Paths that lead back to where they begin.
 use mathlib.Core.Bool.{beq}
-use Rattle.std.proofs.Common.{eqb, ◌≡◌, ◌≢◌, ◌==◌, ◌&&◌, ◌||◌, ◌⊎◌, inl, inr, ℕ, zero, suc, ◌+◌, ◌-◌, Bool, true, false, not, cond, List, [], ◌∷◌, ◌++◌, length, map, bytes_eq, refl, sym, ap, ◌∙◌, subst, reverse, replicate, arith, length-append}
+use Rattle.std.proofs.Common.{eqb, ◌≡◌, ◌≢◌, ◌==◌, ◌⊎◌, inl, inr, ℕ, zero, suc, ◌+◌, ◌-◌, Bool, true, false, not, cond, List, [], ◌∷◌, ◌++◌, length, map, bytes_eq, refl, sym, ap, ◌∙◌, subst, reverse, replicate, arith, length-append}
 use denote.Ref.{Bor}
 use Rattle.std.specs.List.{join_with_byte, AllByRecursion}
 use Rattle.std.proofs.lemmas.Bool.Decides.{eqb_tells}
 use Rattle.std.proofs.lemmas.List.{map-append}
 use Rattle.std.proofs.lemmas.Slice.Eq.{bytes_eq-Decides}
 use Rattle.sugar_path.specs.declared.normal.Climb.{Climb}
+use Rattle.sugar_path.specs.declared.part.Lead.TheVariants.{Nowhere, Up, Down}
+use Rattle.sugar_path.specs.Part.{by_kind}
 use Rattle.sugar_path.specs.Relative.{same_start, needs_folder}
 use Rattle.sugar_path.specs.Path.{IsName, IsPath, is_plain, is_absolute, ends_in_slash, parts}
 use Rattle.sugar_path.specs.Route.{Route, Rooted, Relative, route_up, route_down, route_by_part, route_by_parts, route_of, route_names, is_rooted, route_text, or_dot, place, normal}
 use Rattle.sugar_path.specs.Reading.{HasClimb, is_start, ups_of}
 use Rattle.sugar_path.proofs.RouteTexts.{route_by_parts-append}
+use Rattle.sugar_path.proofs.Leads.{by_kind-lead}
 use Rattle.std.proofs.lemmas.Grind.{reverse_onto}
 use Rattle.sugar_path.proofs.Placed.{route_by_part-plain, AllByRecursion-reverse, IsPath-route_of, route_of-rooted, normal-open, start-loose}
 
@@ -33,15 +36,6 @@ HasClimb-up (Rooted p) a b h none ups depth = absurd h
 HasClimb-up (Relative k []) a b h none ups depth = (omega (arith, h.0, ups), omega (arith, h.1, depth))
 HasClimb-up (Relative k (n ∷ p)) a b h none ups depth = absurd (omega (arith, h.1, none))
 
-route_by_part-silent : (r : Route) (x : List ℕ) → is_plain x ≡ false → bytes_eq x (46 ∷ 46 ∷ []) ≡ false → route_by_part r x ≡ r
-route_by_part-silent r x plain dots = by_tests (bytes_eq x []) (bytes_eq x (46 ∷ [])) (bytes_eq x (46 ∷ 46 ∷ [])) plain dots
-  where
-    by_tests : (a b c : Bool) → (not a && not b && not c) ≡ false → c ≡ false → cond (a || b) r (cond c (route_up r) (route_down r x)) ≡ r
-    by_tests true b c p d = refl
-    by_tests false true c p d = refl
-    by_tests false false true p d = cc
-    by_tests false false false p d = cc
-
 -- ---- the same at the parts that a loop passed
 abbrev pub seen_route : List (Bor (List ℕ)) → Route
 seen_route seen = route_by_parts (Relative 0 []) (map (λ x. x.now) seen)
@@ -62,10 +56,11 @@ seen-up seen x a b h dots none ups depth =
     let P : Route → Type 0 = λ r. HasClimb r b in
     subst P (sym (seen-push seen x ∙ ap (route_by_part (seen_route seen)) dots)) (HasClimb-up (seen_route seen) a b h none ups depth)
 
-pub seen-silent : (seen : List (Bor (List ℕ))) (x : Bor (List ℕ)) (a : Climb) → HasClimb (seen_route seen) a → is_plain x.now ≡ false → bytes_eq x.now (46 ∷ 46 ∷ []) ≡ false → HasClimb (seen_route (seen ++ x ∷ [])) a
-seen-silent seen x a h plain dots =
+pub seen-silent : (seen : List (Bor (List ℕ))) (x : Bor (List ℕ)) (a : Climb) → HasClimb (seen_route seen) a → Nowhere ≡ by_kind x.now Nowhere Up Down → HasClimb (seen_route (seen ++ x ∷ [])) a
+seen-silent seen x a h silent =
     let P : Route → Type 0 = λ r. HasClimb r a in
-    subst P (sym (seen-push seen x ∙ route_by_part-silent (seen_route seen) x.now plain dots)) h
+    let r = seen_route seen in
+    subst P (sym (seen-push seen x ∙ by_kind-lead x.now Nowhere r (route_up r) (route_down r x.now) silent)) h
 
 -- what a climb tells of its route
 climb-depth : (r : Route) (a : Climb) → HasClimb r a → a.ups ≡ 0 → (a.depth == 0) ≡ is_start r

@@ -1,5 +1,6 @@
 pub mod Bools
 pub mod Paths
+pub mod Leads
 pub mod Parts
 pub mod Below
 pub mod CleanTexts

@@ -184,9 +184,6 @@ told-other part word literal b told differs is = ap (bytes_eq part) (sym is) ∙
     by_test true e = cc
     by_test false e = refl
 
-pub HasRead-dots : (r : Route) (part : List ℕ) (t : Reading) → part ≡ 46 ∷ 46 ∷ [] → HasRead (route_up r) t → HasRead (route_by_part r part) t
-HasRead-dots r part t is h = rw is h
-
 pub IsPart-name : (n : List ℕ) → IsName n → IsPart n
 IsPart-name [] h = cc
 IsPart-name (c ∷ n) h = no_slash-name (c ∷ n) h

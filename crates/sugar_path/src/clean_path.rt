@@ -8,6 +8,7 @@ ghost use Rattle.sugar_path.specs.PathEq.{path_eq-Decides, path_eq-equivalence};
 
 use crate::clean::is_clean;
 use crate::content::Content;
+use crate::part::{Lead, lead_of};
 use crate::plain::Text;
 use std::alloc::{AllocError, Global};
 use std::fmt;
@@ -112,14 +113,14 @@ impl CleanPath {
         requires { IsTrue (has_no_slash part.now) }
         ensures { OnOk result (self.new ≡ by_part self.old part.now) }
     {
-        if part == "" || part == "." {
-            return Ok(());
+        match lead_of(part.as_bytes()) {
+            Lead::Nowhere => Ok(()),
+            Lead::Up => {
+                let _went = self.go_up();
+                Ok(())
+            }
+            Lead::Down => self.go_down(part),
         }
-        if part == ".." {
-            let _ = self.go_up();
-            return Ok(());
-        }
-        self.go_down(part)
     }
 
     /// The path's text: `/`, or each name behind a `/`.

@@ -1,10 +1,10 @@
 // The components of a path, one after the other.
-ghost use Rattle.std.specs.Prelude.{◌≡◌, ◌∷◌, ◌++◌, IsNone};
+ghost use Rattle.std.specs.Prelude.{◌≡◌, ◌∷◌, ◌++◌, [], IsNone};
 ghost use Rattle.sugar_path.specs.Path.{parts};
-ghost use Rattle.sugar_path.specs.Component.{piece, pieces, beginning, components_of};
-ghost use Rattle.sugar_path.specs.ComponentTypes.{told, told_if, parts_if};
+ghost use Rattle.sugar_path.specs.Component.{pieces, beginning, components_of};
+ghost use Rattle.sugar_path.specs.ComponentTypes.{told_if, parts_if};
 
-use crate::parents::is_silent;
+use crate::part::{Lead, lead_of};
 use crate::path::Path;
 use crate::reading::is_absolute;
 use memchr::memchr;
@@ -82,21 +82,21 @@ fn next_component(left: Option<&[u8]>) -> (Option<Component<'_>>, Option<&[u8]>)
     while let Some(text) = rest {
         let (part, behind) = split_first_part(text);
         rest = behind;
-        if !is_silent(part) {
-            return (Some(component_of(part)), rest);
+        if let Some(component) = component_of(part) {
+            return (Some(component), rest);
         }
     }
     (None, None)
 }
 
-// A part that isn't silent, as a component.
-fn component_of(part: &[u8]) -> Component<'_>
-    ensures { told result ≡ piece part.now }
+// The component that a part is, if it leads somewhere.
+fn component_of(part: &[u8]) -> Option<Component<'_>>
+    ensures { told_if result ≡ pieces (part.now ∷ []) }
 {
-    if part == b"..".as_slice() {
-        Component::ParentDir
-    } else {
-        Component::Normal(Path::of_bytes(part))
+    match lead_of(part) {
+        Lead::Nowhere => None,
+        Lead::Up => Some(Component::ParentDir),
+        Lead::Down => Some(Component::Normal(Path::of_bytes(part))),
     }
 }
 

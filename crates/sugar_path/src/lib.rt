@@ -14,6 +14,7 @@ mod lexical;
 mod lexical_buf;
 mod normal;
 mod parents;
+mod part;
 mod path;
 mod path_components;
 mod plain;

@@ -1,10 +1,11 @@
 // Tests that a path is in order as it stands, so that nothing is copied.
 ghost use Rattle.std.specs.Prelude.{◌≡◌, ◌∷◌, [], bytes_eq};
-ghost use Rattle.sugar_path.specs.Path.{parts, is_plain};
+ghost use Rattle.sugar_path.specs.Path.{parts};
 ghost use Rattle.sugar_path.specs.Route.{Relative, route_by_parts, route_of, place, normal};
 ghost use Rattle.sugar_path.specs.Reading.{HasClimb, are_steps, is_start, ups_of};
 ghost use Rattle.sugar_path.specs.Relative.{needs_folder};
 
+use crate::part::{Lead, lead_of};
 use crate::reading::{ends_in_slash, is_absolute};
 
 /// Whether a path is its own normal form.
@@ -74,14 +75,11 @@ fn climb_of(path: &[u8]) -> Climb
 {
     let mut climb = Climb { ups: 0, depth: 0 };
     for part in path.split(|b| *b == b'/') {
-        if is_plain(part) {
-            climb.depth += 1;
-        } else if part != b"..".as_slice() {
-            continue;
-        } else if climb.depth > 0 {
-            climb.depth -= 1;
-        } else {
-            climb.ups += 1;
+        match lead_of(part) {
+            Lead::Nowhere => {}
+            Lead::Down => climb.depth += 1,
+            Lead::Up if climb.depth > 0 => climb.depth -= 1,
+            Lead::Up => climb.ups += 1,
         }
     }
     climb
@@ -93,18 +91,12 @@ pub(crate) fn are_steps(path: &[u8], may_go_up: bool) -> bool
 {
     let mut up = may_go_up;
     for part in path.split(|b| *b == b'/') {
-        if is_plain(part) {
-            up = false;
-        } else if !up || part != b"..".as_slice() {
-            return false;
+        match lead_of(part) {
+            Lead::Nowhere => return false,
+            Lead::Up if !up => return false,
+            Lead::Up => {}
+            Lead::Down => up = false,
         }
     }
     true
-}
-
-// Whether a part is a name.
-fn is_plain(part: &[u8]) -> bool
-    ensures { result ≡ is_plain part.now }
-{
-    !part.is_empty() && part != b".".as_slice() && part != b"..".as_slice()
 }

@@ -5,6 +5,7 @@ ghost use Rattle.sugar_path.specs.Path.{parts};
 ghost use Rattle.sugar_path.specs.Parent.{is_silent, or_slash, parent_of};
 ghost use Rattle.sugar_path.specs.ParentEnd.{until_last};
 
+use crate::part::{Lead, lead_of};
 use crate::path::Path;
 use memchr::memrchr;
 
@@ -41,9 +42,9 @@ fn or_root(path: &[u8]) -> &[u8]
     if path.is_empty() { b"/" } else { path }
 }
 
-/// Whether a part behind the first one is no component.
-pub(crate) fn is_silent(part: &[u8]) -> bool
+// Whether a part behind the first one is no component.
+fn is_silent(part: &[u8]) -> bool
     ensures { result ≡ is_silent part.now }
 {
-    part.is_empty() || part == b".".as_slice()
+    matches!(lead_of(part), Lead::Nowhere)
 }

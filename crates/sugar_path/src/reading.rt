@@ -1,9 +1,10 @@
 // A path read part by part, its text edited in place.
 ghost use Rattle.std.specs.Prelude.{◌≡◌, ◌++◌, [], ◌||◌, List, ℕ, IfOk, OnOk, IsTrue, bytes_eq, cond, false, not};
 ghost use Rattle.sugar_path.specs.Path.{has_no_slash, ends_in_slash, with_slash, is_absolute, parts, join, IsName};
-ghost use Rattle.sugar_path.specs.Route.{Route, Rooted, Relative, route_by_part, route_by_parts, route_text, or_dot, place, normal};
+ghost use Rattle.sugar_path.specs.Route.{Route, Rooted, Relative, route_up, route_by_part, route_by_parts, route_text, or_dot, place, normal};
 ghost use Rattle.sugar_path.specs.Reading.{HasRead, StandsOn};
 
+use crate::part::{Lead, lead_of};
 use memchr::memrchr;
 use std::alloc::{AllocError, Global};
 
@@ -46,12 +47,18 @@ impl Reading {
         ensures { (r : Route) → HasRead r self.old →
             OnOk result (HasRead (route_by_part r part.now) self.new) }
     {
-        if part.is_empty() || part == b".".as_slice() {
-            return Ok(());
+        match lead_of(part) {
+            Lead::Nowhere => Ok(()),
+            Lead::Up => self.go_up(),
+            Lead::Down => push_part(&mut self.text, part),
         }
-        if part != b"..".as_slice() {
-            return push_part(&mut self.text, part);
-        }
+    }
+
+    // Goes on by `..`.
+    fn go_up(&mut self) -> Result<(), AllocError>
+        ensures { (r : Route) → HasRead r self.old →
+            OnOk result (HasRead (route_up r) self.new) }
+    {
         if self.base < self.text.len() {
             pop_name(&mut self.text, self.base);
             return Ok(());
@@ -59,7 +66,7 @@ impl Reading {
         if self.rooted {
             return Ok(());
         }
-        push_part(&mut self.text, part)?;
+        push_part(&mut self.text, b"..")?;
         self.base = self.text.len();
         Ok(())
     }

@@ -1,27 +1,26 @@
-use Rattle.std.proofs.Common.{◌==◌, ◌∷◌, [], List, ℕ, refl, sym, ◌∙◌, subst, rules, arith}
+use Rattle.std.proofs.Common.{◌==◌, [], List, ℕ, refl, subst, rules, arith}
 use Rattle.std.proofs.lemmas.Iterator.Consumers.{YieldsList-end, YieldsList-at}
 use Rattle.std.proofs.lemmas.Iterator.Splits.{YieldsList-from_slice_split}
 use Rattle.std.proofs.lemmas.List.{length_push}
 use Rattle.sugar_path.specs.Route.{Relative, route_by_parts}
 use Rattle.sugar_path.specs.Reading.{HasClimb}
-use Rattle.sugar_path.proofs.RouteTexts.{told-same, told-other}
+use Rattle.sugar_path.proofs.Leads.{up-dots, down-plain}
 use Rattle.sugar_path.proofs.Heres.{seen-plain, seen-back, seen-up, seen-silent}
 use Rattle.sugar_path.proofs.normal.climb_of.Goals as goal
 
-pub loop-part-preserved-then-is_plain : goal.loop-part-preserved-then-is_plain
-loop-part-preserved-then-is_plain c = (
+pub loop-part-preserved-in-Nowhere : goal.loop-part-preserved-in-Nowhere
+loop-part-preserved-in-Nowhere c = (
   search rules,
   search rules,
-  seen-plain c.loop-part.yielded c.in-Some.part c.loop-part.climb _ c.loop-part.invariant.2 (sym c.is_plain.ensures ∙ c.if-is_plain.true) refl refl,
+  seen-silent c.loop-part.yielded c.in-Some.part c.loop-part.climb c.loop-part.invariant.2 c.in-Nowhere.ensures,
   omega (arith, length_push c.loop-part.yielded c.in-Some.part),
 )
 
-pub loop-part-preserved-then-ne : goal.loop-part-preserved-then-ne
-loop-part-preserved-then-ne c = (
+pub loop-part-preserved-in-Down : goal.loop-part-preserved-in-Down
+loop-part-preserved-in-Down c = (
   search rules,
   search rules,
-  seen-silent c.loop-part.yielded c.in-Some.part c.loop-part.climb c.loop-part.invariant.2 (sym c.is_plain.ensures ∙ c.if-is_plain.false)
-      (told-other c.in-Some.part.now c.as_slice.result.now (46 ∷ 46 ∷ []) c.ne.result c.ne.ensures c.if-ne.true c.as_slice.ensures),
+  seen-plain c.loop-part.yielded c.in-Some.part c.loop-part.climb _ c.loop-part.invariant.2 (down-plain c.in-Some.part.now c.in-Down.ensures) refl refl,
   omega (arith, length_push c.loop-part.yielded c.in-Some.part),
 )
 
@@ -29,7 +28,7 @@ pub loop-part-preserved-then-climb-gt0 : goal.loop-part-preserved-then-climb-gt0
 loop-part-preserved-then-climb-gt0 c = (
   search rules,
   search rules,
-  seen-back c.loop-part.yielded c.in-Some.part c.loop-part.climb _ c.loop-part.invariant.2 (told-same c.in-Some.part.now c.as_slice.result.now (46 ∷ 46 ∷ []) c.ne.result c.ne.ensures c.if-ne.false c.as_slice.ensures) (λ e. omega arith) refl refl,
+  seen-back c.loop-part.yielded c.in-Some.part c.loop-part.climb _ c.loop-part.invariant.2 (up-dots c.in-Some.part.now c.in-Up.ensures) (λ e. omega arith) refl refl,
   omega (arith, length_push c.loop-part.yielded c.in-Some.part),
 )
 
@@ -37,7 +36,7 @@ pub loop-part-preserved : goal.loop-part-preserved
 loop-part-preserved c = (
   search rules,
   search rules,
-  seen-up c.loop-part.yielded c.in-Some.part c.loop-part.climb _ c.loop-part.invariant.2 (told-same c.in-Some.part.now c.as_slice.result.now (46 ∷ 46 ∷ []) c.ne.result c.ne.ensures c.if-ne.false c.as_slice.ensures) (omega arith) refl refl,
+  seen-up c.loop-part.yielded c.in-Some.part c.loop-part.climb _ c.loop-part.invariant.2 (up-dots c.in-Some.part.now c.in-Up.ensures) (omega arith) refl refl,
   omega (arith, length_push c.loop-part.yielded c.in-Some.part),
 )
 
