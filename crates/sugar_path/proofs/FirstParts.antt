@@ -7,7 +7,7 @@ use Rattle.sugar_path.proofs.Bools.{and_both}
 use Rattle.sugar_path.proofs.Parts.{parts-name, parts-slash}
 
 -- no slash at any place
-no_slash-everywhere : (t : List ℕ) (n : ℕ) → n ≤ length t → ((k : ℕ) → k < n → (get_or t k 0 == 47) ≡ true → ⊥) → has_no_slash (take n t) ≡ true
+pub no_slash-everywhere : (t : List ℕ) (n : ℕ) → n ≤ length t → ((k : ℕ) → k < n → (get_or t k 0 == 47) ≡ true → ⊥) → has_no_slash (take n t) ≡ true
 no_slash-everywhere [] zero le none = refl
 no_slash-everywhere [] (suc n) le none = refl
 no_slash-everywhere (c ∷ t) zero le none = refl

@@ -5,6 +5,7 @@ pub mod Parts
 pub mod Below
 pub mod CleanTexts
 pub mod FirstParts
+pub mod Rooms
 pub mod RouteTexts
 pub mod Placed
 pub mod ParentEnds

@@ -1,9 +1,8 @@
 -- The text of a path that is read part by part.
-use Rattle.std.proofs.Common.{◌≡◌, ◌≢◌, ◌==◌, ◌||◌, ◌⊎◌, inl, inr, ℕ, zero, suc, ◌+◌, ◌-◌, ◌<◌, ◌≤◌, Bool, true, false, not, cond, List, [], ◌∷◌, ◌++◌, length, get_or, take, max, map, bytes_eq, refl, sym, ap, ◌∙◌, subst, append_assoc, append-nil, arith, length-append, add-one, reverse, replicate}
+use Rattle.std.proofs.Common.{◌≡◌, ◌≢◌, ◌==◌, ◌||◌, ◌⊎◌, inl, inr, ℕ, zero, suc, ◌+◌, ◌-◌, ◌<◌, ◌≤◌, Bool, true, false, not, cond, List, [], ◌∷◌, ◌++◌, length, get_or, take, max, bytes_eq, refl, sym, ap, ◌∙◌, subst, append_assoc, append-nil, arith, length-append, add-one, reverse, replicate}
 use Rattle.std.specs.List.{join_with_byte, AllByRecursion}
-use denote.Ref.{Bor}
-use Rattle.std.proofs.lemmas.List.{map-append}
-use Rattle.std.specs.Prelude.{vec_len, Option, Some, None, unwrap_or}
+use Rattle.std.proofs.lemmas.List.{length-take}
+use Rattle.std.specs.Prelude.{Option, Some, None, unwrap_or}
 use Rattle.std.proofs.lemmas.Bool.Decides.{Decides-eqb}
 use Rattle.std.proofs.lemmas.Slice.Eq.{bytes_eq-Decides}
 use Rattle.std.proofs.lemmas.Grind.{reverse_onto}
@@ -13,7 +12,7 @@ use Rattle.memchr.specs.Find.{IsLastByte, is_byte}
 use Rattle.sugar_path.specs.declared.reading.Reading.{Reading}
 use Rattle.sugar_path.specs.Path.{Path, IsName, IsPath, has_no_slash, ends_in_slash, with_slash, is_absolute, parts, join}
 use Rattle.sugar_path.specs.Route.{Route, Rooted, Relative, route_up, route_by_part, route_by_parts, route_start, route_of, route_names, route_text, or_dot}
-use Rattle.sugar_path.specs.Reading.{text_on, dots_text, base_text, IsPart, HasRead, StandsOn}
+use Rattle.sugar_path.specs.Reading.{text_on, dots_text, base_text, IsPart, HasRead, StandsOn, read_text}
 use Rattle.sugar_path.proofs.Bools.{and_left, and_right}
 use Rattle.sugar_path.proofs.Paths.{no_slash-name}
 use Rattle.sugar_path.proofs.Parts.{parts-slash}
@@ -42,7 +41,7 @@ ends-append [] c t = refl
 ends-append (a ∷ []) c t = refl
 ends-append (a ∷ b ∷ s) c t = ends-append (b ∷ s) c t
 
-no_slash-ends : (n : List ℕ) → has_no_slash n ≡ true → ends_in_slash n ≡ false
+pub no_slash-ends : (n : List ℕ) → has_no_slash n ≡ true → ends_in_slash n ≡ false
 no_slash-ends [] h = refl
 no_slash-ends (c ∷ []) h = by_test (c == 47) (and_left (not (c == 47)) true h)
   where
@@ -117,7 +116,7 @@ with_slash-longer s = by_test (bytes_eq s [] || ends_in_slash s)
     by_test true = omega arith
     by_test false = omega (arith, length-append s (47 ∷ []))
 
-text_on-longer : (base : List ℕ) (p : Path) → length base ≤ length (text_on base p)
+pub text_on-longer : (base : List ℕ) (p : Path) → length base ≤ length (text_on base p)
 text_on-longer base [] = omega arith
 text_on-longer base (n ∷ p) = omega (arith, text_on-longer base p, with_slash-longer (text_on base p), length-append (with_slash (text_on base p)) n)
 
@@ -138,36 +137,42 @@ text_on-name : (base : List ℕ) (n : List ℕ) (p : Path) → IsName n → leng
 text_on-name base [] p h = cc
 text_on-name base (c ∷ n) p h = omega (arith, text_on-longer base p, with_slash-longer (text_on base p), length-append (with_slash (text_on base p)) (c ∷ n))
 
+-- as much was read as stands there
+pub read-length : (r : Route) (s : Reading) → HasRead r s → length (read_text s) ≡ s.len
+read-length r s h = omega (arith, length-take s.len s.text.items, h.within)
+
 -- `..` where names stand takes the last one away
-pub HasRead-up : (r : Route) (s t : Reading) → HasRead r s → s.base < length s.text.items → ((front n : List ℕ) → StandsOn s.base front → IsName n → s.text.items ≡ with_slash front ++ n → t.text.items ≡ front) → t.base ≡ s.base → t.rooted ≡ s.rooted → HasRead (route_up r) t
-HasRead-up (Rooted []) s t h lt pops base rooted = absurd (omega (arith, ap length h.text, h.base))
-HasRead-up (Rooted (n ∷ p)) s t h lt pops base rooted = record {
+pub HasRead-up : (r : Route) (s t : Reading) → HasRead r s → s.base < s.len → ((front n : List ℕ) → StandsOn s.base front → IsName n → read_text s ≡ with_slash front ++ n → read_text t ≡ front) → t.len ≤ length t.text.items → t.base ≡ s.base → t.rooted ≡ s.rooted → HasRead (route_up r) t
+HasRead-up (Rooted []) s t h lt pops within base rooted = absurd (omega (arith, ap length h.text, read-length (Rooted []) s h, h.base))
+HasRead-up (Rooted (n ∷ p)) s t h lt pops within base rooted = record {
   text = pops (text_on (47 ∷ []) p) n (rw h.base (StandsOn-text_on (47 ∷ []) p h.names.1)) h.names.0 h.text;
+  within = within;
   base = base ∙ h.base;
   rooted = rooted ∙ h.rooted;
   names = h.names.1;
 }
-HasRead-up (Relative k []) s t h lt pops base rooted = absurd (omega (arith, ap length h.text, h.base))
-HasRead-up (Relative k (n ∷ p)) s t h lt pops base rooted = record {
+HasRead-up (Relative k []) s t h lt pops within base rooted = absurd (omega (arith, ap length h.text, read-length (Relative k []) s h, h.base))
+HasRead-up (Relative k (n ∷ p)) s t h lt pops within base rooted = record {
   text = pops (text_on (dots_text k) p) n (rw h.base (StandsOn-text_on (dots_text k) p h.names.1)) h.names.0 h.text;
+  within = within;
   base = base ∙ h.base;
   rooted = rooted ∙ h.rooted;
   names = h.names.1;
 }
 
 -- `..` where no name stands: `/` stays
-pub HasRead-root : (r : Route) (s : Reading) → HasRead r s → length s.text.items ≤ s.base → s.rooted ≡ true → HasRead (route_up r) s
+pub HasRead-root : (r : Route) (s : Reading) → HasRead r s → s.len ≤ s.base → s.rooted ≡ true → HasRead (route_up r) s
 HasRead-root (Rooted []) s h le root = h
-HasRead-root (Rooted (n ∷ p)) s h le root = absurd (omega (arith, ap length h.text, h.base, text_on-name (47 ∷ []) n p h.names.0))
+HasRead-root (Rooted (n ∷ p)) s h le root = absurd (omega (arith, ap length h.text, read-length (Rooted (n ∷ p)) s h, h.base, text_on-name (47 ∷ []) n p h.names.0))
 HasRead-root (Relative k p) s h le root = absurd (let e : true ≡ false = sym root ∙ h.rooted in cc)
 
 -- and a relative path goes up once more
-pub HasRead-above : (r : Route) (s t : Reading) → HasRead r s → length s.text.items ≤ s.base → s.rooted ≡ false → t.text.items ≡ with_slash s.text.items ++ 46 ∷ 46 ∷ [] → t.base ≡ vec_len t.text → t.rooted ≡ s.rooted → HasRead (route_up r) t
-HasRead-above (Rooted p) s t h le loose text base rooted = absurd (let e : true ≡ false = sym h.rooted ∙ loose in cc)
-HasRead-above (Relative k (n ∷ p)) s t h le loose text base rooted = absurd (omega (arith, ap length h.text, h.base, text_on-name (dots_text k) n p h.names.0))
-HasRead-above (Relative k []) s t h le loose text base rooted =
-    let dots : t.text.items ≡ dots_text (k + 1) = text ∙ ap (λ s. with_slash s ++ 46 ∷ 46 ∷ []) h.text ∙ ap dots_text (sym (add-one k)) in
-    record { text = dots; base = base ∙ t.text.ok.0 ∙ ap length dots; rooted = rooted ∙ h.rooted; names = tt }
+pub HasRead-above : (r : Route) (s t : Reading) → HasRead r s → s.len ≤ s.base → s.rooted ≡ false → read_text t ≡ with_slash (read_text s) ++ 46 ∷ 46 ∷ [] → t.len ≤ length t.text.items → t.base ≡ t.len → t.rooted ≡ s.rooted → HasRead (route_up r) t
+HasRead-above (Rooted p) s t h le loose text within base rooted = absurd (let e : true ≡ false = sym h.rooted ∙ loose in cc)
+HasRead-above (Relative k (n ∷ p)) s t h le loose text within base rooted = absurd (omega (arith, ap length h.text, read-length (Relative k (n ∷ p)) s h, h.base, text_on-name (dots_text k) n p h.names.0))
+HasRead-above (Relative k []) s t h le loose text within base rooted =
+    let dots : read_text t ≡ dots_text (k + 1) = text ∙ ap (λ s. with_slash s ++ 46 ∷ 46 ∷ []) h.text ∙ ap dots_text (sym (add-one k)) in
+    record { text = dots; within = within; base = omega (arith, base, ap length dots, length-take t.len t.text.items); rooted = rooted ∙ h.rooted; names = tt }
 
 -- what a test for a word tells
 pub told-same : (part word literal : List ℕ) (b : Bool) → b ≡ not (bytes_eq part word) → b ≡ false → word ≡ literal → part ≡ literal
@@ -247,12 +252,12 @@ route_text-on (Rooted p) h = sym (text_on-joined (47 ∷ []) (47 ∷ []) [] p h 
 route_text-on (Relative k p) h = sym (text_on-joined [] (dots_text k) (replicate k (46 ∷ 46 ∷ [])) p h (replicate-dots k) refl (dots_text-joined k))
 
 -- a text that was read, with `.` where it is empty
-pub place-read : (r : Route) (s : Reading) (t : List ℕ) → HasRead r s → ((s.text.items ≡ []) × (t ≡ 46 ∷ [])) ⊎ ((length s.text.items ≢ 0) × (t ≡ s.text.items)) → t ≡ or_dot (route_text r)
+pub place-read : (r : Route) (s : Reading) (t : List ℕ) → HasRead r s → ((read_text s ≡ []) × (t ≡ 46 ∷ [])) ⊎ ((length (read_text s) ≢ 0) × (t ≡ read_text s)) → t ≡ or_dot (route_text r)
 place-read r s t h cases = rw (route_text-on r h.names) (by_case cases h.text)
   where
-    by_case : ((s.text.items ≡ []) × (t ≡ 46 ∷ [])) ⊎ ((length s.text.items ≢ 0) × (t ≡ s.text.items)) → s.text.items ≡ text_on (base_text r) (route_names r) → t ≡ or_dot (text_on (base_text r) (route_names r))
+    by_case : ((read_text s ≡ []) × (t ≡ 46 ∷ [])) ⊎ ((length (read_text s) ≢ 0) × (t ≡ read_text s)) → read_text s ≡ text_on (base_text r) (route_names r) → t ≡ or_dot (text_on (base_text r) (route_names r))
     by_case (inl w) is = w.1 ∙ ap or_dot (sym w.0 ∙ is)
-    by_case (inr w) is = w.1 ∙ some s.text.items w.0 ∙ ap or_dot is
+    by_case (inr w) is = w.1 ∙ some (read_text s) w.0 ∙ ap or_dot is
       where
         some : (u : List ℕ) → length u ≢ 0 → u ≡ or_dot u
         some [] e = absurd (e refl)
@@ -261,14 +266,6 @@ place-read r s t h cases = rw (route_text-on r h.names) (by_case cases h.text)
 pub route_by_parts-append : (r : Route) (xs ys : List (List ℕ)) → route_by_parts r (xs ++ ys) ≡ route_by_parts (route_by_parts r xs) ys
 route_by_parts-append r [] ys = refl
 route_by_parts-append r (x ∷ xs) ys = route_by_parts-append (route_by_part r x) xs ys
-
--- one more part that was read
-pub HasRead-more : (r : Route) (seen : List (Bor (List ℕ))) (part : Bor (List ℕ)) (t : Reading) → HasRead (route_by_part (route_by_parts r (map (λ x. x.now) seen)) part.now) t → HasRead (route_by_parts r (map (λ x. x.now) (seen ++ part ∷ []))) t
-HasRead-more r seen part t h = rw (map-append (λ x. x.now) seen (part ∷ []), route_by_parts-append) h
-
--- where a text begins
-pub begins-absolute : (t : List ℕ) (b : Bool) → b ≡ is_absolute t → cond b (Rooted []) (Relative 0 []) ≡ route_start t
-begins-absolute t b is = ap (λ a. cond a (Rooted []) (Relative 0 [])) is
 
 pub ends-split : (b : List ℕ) → ends_in_slash b ≡ true → (s : List ℕ) × (b ≡ s ++ 47 ∷ [])
 ends-split [] h = cc

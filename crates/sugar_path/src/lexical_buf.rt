@@ -5,8 +5,8 @@ ghost use Rattle.std.specs.Str.Lossy.{utf8_lossy};
 ghost use Rattle.sugar_path.specs.Route.{normal};
 
 use crate::normal::is_normal;
-use crate::path::PathBuf;
-use crate::reading::normal_of;
+use crate::path::{Path, PathBuf};
+use crate::places::normal_in;
 use crate::sealed::Sealed;
 use std::alloc::{AllocError, Global};
 
@@ -49,10 +49,13 @@ impl SugarPathBuf for PathBuf {
         if is_normal(bytes) {
             return Ok(self);
         }
-        match normal_of(alloc, bytes) {
-            Ok(normal) => Ok(PathBuf::from(normal)),
-            Err(fault) => Err((self, fault)),
+        if bytes.is_empty() {
+            return match PathBuf::of(alloc, Path::of_bytes(b".")) {
+                Ok(here) => Ok(here),
+                Err(fault) => Err((self, fault)),
+            };
         }
+        Ok(PathBuf::from(normal_in(Vec::from(self))))
     }
 
     fn into_slash(self) -> String {

@@ -12,8 +12,9 @@ ghost use Rattle.sugar_path.specs.Route.{Route, route_parts, place, from_folder}
 use crate::component::split_first_part;
 use crate::normal::{is_place, needs_folder};
 use crate::path::{Path, PathBuf, PathCow};
+use crate::places::{place_below, place_of};
 use crate::prefix::common_prefix_len;
-use crate::reading::{is_absolute, place_below, place_of, push_part};
+use crate::reading::{is_absolute, push_part};
 use memchr::memrchr;
 use std::alloc::{AllocError, Global};
 

@@ -1,30 +1,41 @@
-use Rattle.std.proofs.Common.{◌==◌, List, ℕ, map, length, subst, rules}
-use Rattle.std.proofs.lemmas.Iterator.Consumers.{YieldsList-turn, YieldsList-end, YieldsList-at}
-use Rattle.std.proofs.lemmas.Iterator.Splits.{YieldsList-from_slice_split}
-use Rattle.sugar_path.specs.Route.{route_by_parts}
-use Rattle.sugar_path.specs.Reading.{HasRead}
-use Rattle.sugar_path.proofs.Parts.{part-no_slash}
-use Rattle.sugar_path.proofs.RouteTexts.{HasRead-more}
+use Rattle.std.proofs.Common.{◌≡◌, ◌+◌, ◌<◌, List, ℕ, drop, length, sym, ap, ◌∙◌, subst, arith, length-take}
+use Rattle.sugar_path.specs.Path.{ends_in_slash, parts}
+use Rattle.sugar_path.specs.Route.{route_by_part, route_by_parts}
+use Rattle.sugar_path.specs.Reading.{IsPartEnd, part_in, read_text}
+use Rattle.sugar_path.proofs.Rooms.{drop-later, ends-behind, with_slash-most}
 use Rattle.sugar_path.proofs.reading.Reading.follow_all.Goals as goal
 
-pub follow-requires : goal.follow-requires
-follow-requires c =
-    part-no_slash c.args.path.now (length c.loop-part.yielded) c.in-Some.part.now
-    (YieldsList-turn (YieldsList-at c.into_iter-part-iterator.ensures.into_iter_gives (YieldsList-from_slice_split _ (λ b. b == 47) c.args.path.now c.split-part-items.ensures.rest c.split-part-items.ensures.done c.split-part-items.ensures.closure (λ x b q k. search rules)))
-    c.loop-part.yielded _ c.loop-part.yielded_by _ _ c.in-Some.part c.in-Some.is c.next.ensures.steps)
-
-pub loop-part-preserved : goal.loop-part-preserved
-loop-part-preserved c = (
-  search rules,
-  search rules,
-  λ r h.
-      HasRead-more r c.loop-part.yielded c.in-Some.part c.follow.new.self
-      (c.in_ok-follow.ensures (route_by_parts r (map (λ x. x.now) c.loop-part.yielded)) (c.loop-part.invariant.2 r h)),
-)
-
-pub returns : goal.returns
-returns c = λ r h.
-    let all = YieldsList-end (YieldsList-at c.into_iter-part-iterator.ensures.into_iter_gives (YieldsList-from_slice_split _ (λ b. b == 47) c.args.path.now c.split-part-items.ensures.rest c.split-part-items.ensures.done c.split-part-items.ensures.closure (λ x b q k. search rules)))
-    c.loop-part.yielded _ c.loop-part.yielded_by _ _ c.in-None.is c.next.ensures.steps in
-    let P : List (List ℕ) → Type 0 = λ xs. HasRead (route_by_parts r xs) c.loop-part.self in
-    subst P all.0 (c.loop-part.invariant.2 r h)
+pub loop-at-preserved : goal.loop-at-preserved
+loop-at-preserved c =
+    let s = c.loop-at.self in
+    let t = c.args.self.now.text.items in
+    let at = c.loop-at.at in
+    let end = c.part_end-end.result in
+    let inv = c.loop-at.invariant in
+    let P : List ℕ → Type 0 = λ u. IsPartEnd u at end in
+    let ends : IsPartEnd s.text.items at end = subst P c.as_slice.ensures.value c.part_end-end.ensures in
+    let part = part_in at end s.text.items in
+    let passed = c.follow.ensures.passed in
+    let inside : at < length s.text.items = omega (arith, s.text.ok.0) in
+    let later : drop (end + 1) s.text.items ≡ drop (end + 1) t = drop-later s.text.items t at (end + 1) (omega (arith, ends.order)) inv.rest in
+    record {
+      read = λ r h.
+          let before = inv.read r h in (
+            route_by_part before.0 part,
+            c.follow.ensures.read before.0 before.1,
+            ap (λ u. route_by_parts (route_by_part before.0 part) (parts u)) (sym later)
+                ∙ sym (ends.next before.0)
+                ∙ ap (λ u. route_by_parts before.0 (parts u)) inv.rest
+                ∙ before.2,
+          );
+      rest = drop-later c.follow.new.self.text.items s.text.items end (end + 1) (omega arith) passed.rest ∙ later;
+      room = omega (arith, with_slash-most (read_text c.follow.new.self), length-take c.follow.new.self.len c.follow.new.self.text.items, passed.read);
+      passed = omega (arith, passed.read);
+      within = omega (arith, ends.within, s.text.ok.0, inv.size);
+      size = passed.size ∙ inv.size;
+      last = λ e.
+          ends-behind t at (omega (arith, inside, s.text.ok.0, inv.size, c.args.self.now.text.ok.0))
+          ∙ ap ends_in_slash (sym inv.rest)
+          ∙ sym (ends-behind s.text.items at inside)
+          ∙ ends.last (omega (arith, s.text.ok.0, inv.size));
+    }
