@@ -3,7 +3,7 @@ use mathlib.Core.Bool.{beq}
 use Rattle.std.proofs.Common.{eqb, ◌≡◌, ◌≢◌, ◌==◌, ◌⊎◌, inl, inr, ℕ, zero, suc, ◌+◌, ◌-◌, Bool, true, false, not, cond, List, [], ◌∷◌, ◌++◌, length, map, bytes_eq, refl, sym, ap, ◌∙◌, subst, reverse, replicate, arith, length-append}
 use denote.Ref.{Bor}
 use Rattle.std.specs.List.{join_with_byte, AllByRecursion}
-use Rattle.std.proofs.lemmas.Bool.Decides.{eqb_tells}
+use Rattle.std.proofs.lemmas.Bool.Decides.{Decides-eqb, eqb_tells}
 use Rattle.std.proofs.lemmas.List.{map-append}
 use Rattle.std.proofs.lemmas.Slice.Eq.{bytes_eq-Decides}
 use Rattle.sugar_path.specs.declared.normal.Climb.{Climb}
@@ -188,3 +188,15 @@ folder-roots base target a b e f differ = differ ∙ sym (routes-differ (route_o
 pub folder-ups : (base target : List ℕ) (a b : Bool) (k m : ℕ) → a ≡ is_absolute target → b ≡ is_absolute base → not (beq a b) ≡ false → k ≡ ups_of (route_of target) → m ≡ ups_of (route_of base) → not (eqb k m) ≡ needs_folder base target
 folder-ups base target a b k m e f alike up down =
     ap (λ x. not (eqb x m)) up ∙ ap (λ x. not (eqb (ups_of (route_of target)) x)) down ∙ routes-alike (route_of target) (route_of base) (roots base target a b e f ∙ alike)
+
+pub folder-alone : (base target : List ℕ) (a b : Bool) (k m : ℕ) → a ≡ is_absolute target → b ≡ is_absolute base → beq a b ≡ true → k ≡ ups_of (route_of target) → m ≡ ups_of (route_of base) → k ≡ m → needs_folder base target ≡ false
+folder-alone base target a b k m e f alike up down same =
+    sym (folder-ups base target a b k m e f (ap not alike) up down) ∙ ap not ((Decides-eqb k m).1 same)
+
+pub folder-apart : (base target : List ℕ) (a b : Bool) (k m : ℕ) → a ≡ is_absolute target → b ≡ is_absolute base → beq a b ≡ true → k ≡ ups_of (route_of target) → m ≡ ups_of (route_of base) → k ≢ m → needs_folder base target ≡ true
+folder-apart base target a b k m e f alike up down differ =
+    sym (folder-ups base target a b k m e f (ap not alike) up down) ∙ by_test (eqb_tells k m)
+  where
+    by_test : (((k == m) ≡ true) × (k ≡ m)) ⊎ (((k == m) ≡ false) × (k ≢ m)) → not (k == m) ≡ true
+    by_test (inl w) = absurd (differ w.1)
+    by_test (inr w) = ap not w.0

@@ -1,12 +1,13 @@
 -- The parts of a place are those of the route that leads there.
-use Rattle.std.proofs.Common.{◌≡◌, ◌≢◌, ◌==◌, ℕ, zero, suc, Bool, true, false, not, List, [], ◌∷◌, length, reverse, refl, sym, ap, ◌∙◌}
-use Rattle.std.specs.List.{join_with_byte, AllByRecursion}
+use Rattle.std.proofs.Common.{◌≡◌, ◌≢◌, ◌==◌, ℕ, zero, suc, Bool, true, false, not, cond, ◌+◌, arith, List, [], ◌∷◌, ◌++◌, length, bytes_eq, replicate, reverse, refl, sym, ap, ◌∙◌, subst}
+use Rattle.std.specs.List.{join_with_byte, prefix_len, AllByRecursion}
 use Rattle.std.proofs.lemmas.List.{nil_from_length}
 use Rattle.std.proofs.lemmas.Slice.Eq.{bytes_eq-Decides}
-use Rattle.sugar_path.specs.Path.{has_no_slash, is_absolute, parts}
+use Rattle.sugar_path.specs.Path.{IsName, has_no_slash, is_absolute, parts}
 use Rattle.sugar_path.specs.Route.{Route, Rooted, Relative, route_parts, route_text, or_dot}
-use Rattle.sugar_path.specs.Reading.{IsPart, IsPlaceOf, is_start}
+use Rattle.sugar_path.specs.Reading.{IsPart, IsPlaceOf, is_start, ups_of}
 use Rattle.sugar_path.proofs.Bools.{and_left}
+use Rattle.sugar_path.proofs.Placed.{AllByRecursion-reverse}
 use Rattle.sugar_path.proofs.Heres.{here-route}
 use Rattle.sugar_path.proofs.WayParts.{parts-of_route, joined-parts, joined-none}
 
@@ -59,3 +60,39 @@ loose-parts (Relative k p) t h other else = by_text (join_with_byte 47 (route_pa
     by_text (c ∷ u) e is =
         ap parts (is ∙ sym e)
         ∙ joined-parts (route_parts (Relative k p)) (parts-of_route (Relative k p) h.names) (λ none. let f : c ∷ u ≡ [] = sym e ∙ nil_from_length (join_with_byte 47 (route_parts (Relative k p))) none in cc)
+
+-- ---- the `..` that a place begins with
+abbrev pub is_dots : List ℕ → Bool
+is_dots part = bytes_eq part (46 ∷ 46 ∷ [])
+
+names-told : (xs : List (List ℕ)) → AllByRecursion IsName xs → prefix_len is_dots xs ≡ 0
+names-told [] h = refl
+names-told (x ∷ xs) h = by_test (bytes_eq x (46 ∷ 46 ∷ [])) refl
+  where
+    by_test : (b : Bool) → bytes_eq x (46 ∷ 46 ∷ []) ≡ b → cond b (1 + prefix_len is_dots xs) 0 ≡ 0
+    by_test true e = let P : List ℕ → Type 0 = IsName in let f : false ≡ true = subst P ((bytes_eq-Decides x (46 ∷ 46 ∷ [])).0 e) h.0 in cc
+    by_test false e = refl
+
+dots-told : (k : ℕ) (xs : List (List ℕ)) → AllByRecursion IsName xs → prefix_len is_dots (replicate k (46 ∷ 46 ∷ []) ++ xs) ≡ k
+dots-told zero xs h = names-told xs h
+dots-told (suc k) xs h = ap (λ n. 1 + n) (dots-told k xs h) ∙ omega arith
+
+pub ups-told : (r : Route) (t : List ℕ) → IsPlaceOf r t → prefix_len is_dots (parts t) ≡ ups_of r
+unfolding route_text
+ups-told (Rooted p) t h = ap (λ u. prefix_len is_dots (parts u)) h.text
+ups-told (Relative k p) t h = by_text (join_with_byte 47 (route_parts (Relative k p))) refl h.text
+  where
+    names : AllByRecursion IsName (reverse p)
+    names = AllByRecursion-reverse IsName p h.names
+
+    all : AllByRecursion IsPart (route_parts (Relative k p))
+    all = parts-of_route (Relative k p) h.names
+
+    by_text : (u : List ℕ) → join_with_byte 47 (route_parts (Relative k p)) ≡ u → t ≡ or_dot u → prefix_len is_dots (parts t) ≡ k
+    by_text [] e is =
+        let none : route_parts (Relative k p) ≡ [] = joined-none (route_parts (Relative k p)) all (ap length e) in
+        ap (λ u. prefix_len is_dots (parts u)) is ∙ sym (ap (prefix_len is_dots) none) ∙ dots-told k (reverse p) names
+    by_text (c ∷ u) e is =
+        ap (λ u. prefix_len is_dots (parts u)) (is ∙ sym e)
+        ∙ ap (prefix_len is_dots) (joined-parts (route_parts (Relative k p)) all (λ none. let f : c ∷ u ≡ [] = sym e ∙ nil_from_length (join_with_byte 47 (route_parts (Relative k p))) none in cc))
+        ∙ dots-told k (reverse p) names

@@ -4,13 +4,13 @@ ghost use Rattle.std.specs.List.{common_prefix_len, join_with_byte};
 ghost use Rattle.sugar_path.specs.ComponentTypes.{parts_if};
 ghost use Rattle.sugar_path.specs.Path.{is_absolute, parts};
 ghost use Rattle.sugar_path.specs.PathTypes.{cow_bytes};
-ghost use Rattle.sugar_path.specs.Reading.{IsPlaceOf};
+ghost use Rattle.sugar_path.specs.Reading.{IsPlaceOf, ups_of};
 ghost use Rattle.sugar_path.specs.Relative.{between, needs_folder, relative_from};
 ghost use Rattle.sugar_path.specs.SharedTexts.{SharesSlash};
 ghost use Rattle.sugar_path.specs.Route.{Route, route_parts, place, from_folder};
 
 use crate::component::split_first_part;
-use crate::normal::{is_place, needs_folder};
+use crate::normal::is_place;
 use crate::path::{Path, PathBuf, PathCow};
 use crate::places::{place_below, place_of};
 use crate::prefix::common_prefix_len;
@@ -29,14 +29,28 @@ pub(crate) fn relative_of(
     requires { IsTrue (not (needs_folder base.now target.now) || is_absolute cwd.now) }
     ensures { IfOk result (λ v. v.items ≡ relative_from cwd.now base.now target.now) }
 {
-    if needs_folder(base, target) {
-        let from = place_from(alloc, cwd, base)?;
-        let to = place_from(alloc, cwd, target)?;
-        return way_between(alloc, from.as_path().bytes(), to.as_path().bytes());
+    if is_absolute(target) == is_absolute(base) {
+        let from = place_alone(alloc, base)?;
+        let to = place_alone(alloc, target)?;
+        let (from, to) = (from.as_path().bytes(), to.as_path().bytes());
+        // the places tell how far both go up, so that neither path is walked for it
+        if ups_of_place(to) == ups_of_place(from) {
+            return way_between(alloc, from, to);
+        }
     }
-    let from = place_alone(alloc, base)?;
-    let to = place_alone(alloc, target)?;
+    let from = place_from(alloc, cwd, base)?;
+    let to = place_from(alloc, cwd, target)?;
     way_between(alloc, from.as_path().bytes(), to.as_path().bytes())
+}
+
+// How many folders a place goes up.
+fn ups_of_place(place: &[u8]) -> usize
+    ensures { (r : Route) → IsPlaceOf r place.now → result ≡ ups_of r }
+{
+    place
+        .split(|b| *b == b'/')
+        .take_while(|part| *part == b"..".as_slice())
+        .count()
 }
 
 // The place of a path that is read from a folder.
