@@ -28,11 +28,11 @@ has-key t q h = sym (finite.contains_key-keys t q) ∙ h
 pub key-has : (t : Files) (q : List ℕ) → Has (finite.keys t) q → is_file t q ≡ true
 key-has t q h = finite.contains_key-keys t q ∙ h
 
-or_right : (a b : Bool) → b ≡ true → (a || b) ≡ true
+pub or_right : (a b : Bool) → b ≡ true → (a || b) ≡ true
 or_right true b h = refl
 or_right false b h = h
 
-or_left : (a b : Bool) → a ≡ true → (a || b) ≡ true
+pub or_left : (a b : Bool) → a ≡ true → (a || b) ≡ true
 or_left true b h = refl
 or_left false b h = cc
 
@@ -130,6 +130,21 @@ conflict-is t p None valid below there above none = sym (conflict-below t p none
 
 pub no-conflict : (t : Files) (p q : List ℕ) → conflict t p ≡ None → is_file t q ≡ true → conflicts p q ≡ false
 no-conflict t p q none there = none-found (conflicts p) (finite.keys t) none q (has-key t q there)
+
+-- whether a file is in the way, of one that is and where none is
+pub is-conflict : (t : Files) (p q : List ℕ) → is_file t q ≡ true → conflicts p q ≡ true → is_some (conflict t p) ≡ true
+is-conflict t p q there in_way = by_result (conflict t p) refl
+  where
+    by_result : (o : Option (List ℕ)) → conflict t p ≡ o → is_some o ≡ true
+    by_result (Some k) e = refl
+    by_result None e = let free = no-conflict t p q e there in cc
+
+pub is-no_conflict : (t : Files) (p : List ℕ) → ((q : List ℕ) → is_file t q ≡ true → stands_above p q ≡ false) → NoneAbove t p → is_some (conflict t p) ≡ false
+is-no_conflict t p below above =
+    sym (any-found (conflicts p) (finite.keys t)) ∙ none-passes (conflicts p) (finite.keys t) (λ q has. neither (below q (key-has t q has)) (above q (key-has t q has)))
+  where
+    neither : {a b : Bool} → a ≡ false → b ≡ false → (a || b) ≡ false
+    neither e f = rw (e, f) refl
 
 -- what has as many bytes as the longest path of a file stands above none
 none-below_longest : (t : Files) (p : List ℕ) (longest : ℕ) → IsStore t longest → longest ≤ length p → list_any (stands_above p) (finite.keys t) ≡ false

@@ -1,5 +1,5 @@
 -- Texts that begin with a text, in byte order.
-use Rattle.std.proofs.Common.{◌≡◌, ◌<◌, ℕ, true, List, [], ◌∷◌, nat_eq, refl, arith}
+use Rattle.std.proofs.Common.{◌≡◌, ◌<◌, ◌&&◌, ℕ, Bool, true, false, List, [], ◌∷◌, ◌++◌, drop, length, nat_eq, refl, arith}
 use Rattle.std.specs.List.{starts_with}
 use Rattle.std.specs.Ordering.{nat_cmp, is_le, ordering_then}
 use Rattle.std.specs.Cmp.{ranked}
@@ -40,3 +40,14 @@ starts_with-between (x ∷ pre) (z ∷ k) (y ∷ q) le lt h =
     by_ranks Equal Equal e f same rest le lt = let a : x ≡ z = ranked x z Equal e in rw ((Decides-eqb x z).1 a) (rest le lt)
     by_ranks Equal Greater e f same rest le lt = cc
     by_ranks Greater s e f same rest le lt = cc
+
+-- what begins with two texts in a row begins with the first, and goes on with the second
+pub starts_with-append : (pre more k : List ℕ) → starts_with nat_eq k (pre ++ more) ≡ (starts_with nat_eq k pre && starts_with nat_eq (drop (length pre) k) more)
+starts_with-append [] more k = refl
+starts_with-append (x ∷ pre) more [] = refl
+starts_with-append (x ∷ pre) more (z ∷ k) = by_test (nat_eq x z) (starts_with-append pre more k)
+  where
+    by_test : (b : Bool) → starts_with nat_eq k (pre ++ more) ≡ (starts_with nat_eq k pre && starts_with nat_eq (drop (length pre) k) more)
+        → (b && starts_with nat_eq k (pre ++ more)) ≡ ((b && starts_with nat_eq k pre) && starts_with nat_eq (drop (length pre) k) more)
+    by_test true rest = rest
+    by_test false rest = refl

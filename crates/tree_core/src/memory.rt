@@ -6,9 +6,9 @@ ghost use Rattle.std.specs.Ordering.{nat_cmp};
 ghost use Rattle.std.specs.Cmp.Lexicographic.{slice_cmp};
 ghost use Rattle.sugar_path.specs.Path.{IsCleanPath};
 ghost use Rattle.std.specs.declared.cmp.Ordering.TheVariants.{Less};
-ghost use Rattle.tree_core.specs.Before.{HasNoLater};
+ghost use Rattle.tree_core.specs.Before.{HasNoLater, SharesNoFile};
 ghost use Rattle.tree_core.specs.Memory.{files_of, conflict, refusal, with_file, NoneAbove, HasBelow, IsReplied};
-ghost use Rattle.tree_core.specs.declared.memory.PutError.TheVariants.{NoMemory};
+ghost use Rattle.tree_core.specs.declared.memory.PutError.TheVariants.{Conflict, NoMemory};
 ghost use Rattle.tree_core.specs.Tree.{IsValidTree, one_more, is_file, is_folder, is_file_path, stands_above};
 ghost use Rattle.tree_core.specs.declared.question.Question.TheVariants.{File, Dir, Exists, Read, Canon};
 ghost use Rattle.tree_core.specs.declared.question.Reply.TheVariants.{Flag, Bytes as BytesReply, Name};
@@ -161,12 +161,7 @@ impl MemoryTree {
             return Err(PutError::Unclean);
         }
         let key = String::from_str(self.alloc, path)?;
-        fill(&mut self.prefix, path)?;
-        if let Some(other) = conflicting(&self.files, path, &self.prefix) {
-            return Err(PutError::Conflict {
-                other: Text::of(self.alloc, other)?,
-            });
-        }
+        ensure_no_conflict(self.alloc, &self.files, path, &mut self.prefix)?;
         put_at(&mut self.files, key, file)
     }
 
@@ -292,16 +287,16 @@ fn is_file_path(text: &str) -> bool
     text != "/" && is_clean(text)
 }
 
-// Makes a text that of the paths below a path: the path and a `/`.
-fn fill(prefix: &mut String, path: &str) -> Result<(), AllocError>
-    ensures ok { OnOk result (string_bytes prefix.new ≡ path.now ++ 47 ∷ []) }
-    ensures room { OnOk result (length path.now < string_capacity prefix.new) }
-    ensures full { OnErr result (string_capacity prefix.old ≤ length path.now) }
+// Makes a text that of a path with an ending behind it.
+fn fill(prefix: &mut String, path: &str, end: &str) -> Result<(), AllocError>
+    ensures ok { OnOk result (string_bytes prefix.new ≡ path.now ++ end.now) }
+    ensures room { OnOk result (length path.now + length end.now ≤ string_capacity prefix.new) }
+    ensures full { OnErr result (string_capacity prefix.old < length path.now + length end.now) }
     ensures grows { string_capacity prefix.old ≤ string_capacity prefix.new }
 {
     prefix.clear();
     prefix.push_str(path)?;
-    prefix.push('/')?;
+    prefix.push_str(end)?;
     Ok(())
 }
 
@@ -348,7 +343,7 @@ fn finds_below(files: &BTreeMap<String, TreeFile>, path: &str, prefix: &mut Stri
         → string_capacity prefix.old ≤ length path.now }
     ensures room { string_capacity prefix.old ≤ string_capacity prefix.new }
 {
-    if fill(prefix, path).is_err() {
+    if fill(prefix, path, "/").is_err() {
         return false;
     }
     first_with_prefix(files, prefix).is_some()
@@ -384,7 +379,20 @@ fn nearest_above<'a>(
     ensures none { IfNone result (NoneAbove (files_of files.now.entries) path.now) }
 {
     let before = last_before(files, prefix)?;
-    let shared = common_prefix_len(path.as_bytes(), before.as_bytes());
+    shared_file(files, path, before)
+}
+
+// The file above a path that is what the path shares with another path, where that is one.
+fn shared_file<'a>(
+    files: &BTreeMap<String, TreeFile>,
+    path: &'a str,
+    other: &str,
+) -> Option<&'a str>
+    ensures file { IfSome result (λ p. IsTrue (is_file (files_of files.now.entries) p.now)) }
+    ensures above { IfSome result (λ p. IsTrue (stands_above p.now path.now)) }
+    ensures none { IfNone result (SharesNoFile (files_of files.now.entries) path.now other.now) }
+{
+    let shared = common_prefix_len(path.as_bytes(), other.as_bytes());
     match path.as_bytes().get(shared) {
         Some(byte) if *byte == b'/' => file_at(files, &path[..shared]),
         _ => None,
@@ -415,5 +423,54 @@ fn conflicting<'a>(
     match first_with_prefix(files, prefix) {
         Some(below) => Some(below),
         None => nearest_above(files, path, prefix),
+    }
+}
+
+// Whether a path stands above another: that begins with it and a `/`.
+fn stands_above(path: &str, other: &str) -> bool
+    ensures { result ≡ stands_above path.now other.now }
+{
+    let above = path.as_bytes();
+    let below = other.as_bytes();
+    below.starts_with(above) && below[above.len()..].starts_with(b"/")
+}
+
+// Whether a file stands above or below a path, by one search. The text past those below is given: the path and a `0`, the byte that
+// follows `/`. In byte order, the last file in front of that text is below if any is; else it shares with the path the file above.
+fn has_conflict(files: &BTreeMap<String, TreeFile>, path: &str, past: &String) -> bool
+    requires valid { IsValidTree (files_of files.now.entries) }
+    requires past { string_bytes past.now ≡ path.now ++ 48 ∷ [] }
+    ensures { result ≡ is_some (conflict (files_of files.now.entries) path.now) }
+{
+    match last_before(files, past) {
+        None => false,
+        Some(before) => stands_above(path, before) || shared_file(files, path, before).is_some(),
+    }
+}
+
+// Refuses a path that a file stands above or below. The buffer takes the texts that stand past and before those below.
+fn ensure_no_conflict(
+    alloc: Global,
+    files: &BTreeMap<String, TreeFile>,
+    path: &str,
+    buffer: &mut String,
+) -> Result<(), PutError>
+    requires { IsValidTree (files_of files.now.entries) }
+    ensures free { OnOk result (conflict (files_of files.now.entries) path.now ≡ None) }
+    ensures room { OnOk result (length path.now < string_capacity buffer.new) }
+    ensures grows { string_capacity buffer.old ≤ string_capacity buffer.new }
+    ensures refused { IfErr result (λ e. e ≢ NoMemory
+        → option_map Conflict (conflict (files_of files.now.entries) path.now) ≡ Some e) }
+{
+    fill(buffer, path, "0")?;
+    if !has_conflict(files, path, buffer) {
+        return Ok(());
+    }
+    fill(buffer, path, "/")?;
+    match conflicting(files, path, buffer) {
+        None => unreachable!(),
+        Some(other) => Err(PutError::Conflict {
+            other: Text::of(alloc, other)?,
+        }),
     }
 }

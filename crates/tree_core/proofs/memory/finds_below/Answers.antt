@@ -1,4 +1,4 @@
-use Rattle.std.proofs.Common.{◌≡◌, ◌≤◌, ◌++◌, ◌∷◌, [], List, ℕ, is_some, nat_eq, length, string_bytes, string_capacity, sym, ap, ◌∙◌}
+use Rattle.std.proofs.Common.{◌≡◌, ◌<◌, ◌+◌, ◌++◌, ◌∷◌, [], List, ℕ, is_some, nat_eq, length, string_bytes, string_capacity, sym, ap, ◌∙◌, arith}
 use Rattle.std.specs.FinMap as map
 use Rattle.std.specs.List.{find, list_any, starts_with}
 use Rattle.tree_core.specs.Memory.{files_of}
@@ -7,7 +7,9 @@ use Rattle.tree_core.proofs.Conflicts.{any-found, is_some-option_map, when_err, 
 use Rattle.tree_core.proofs.memory.finds_below.Goals as goal
 
 pub returns-then-is_err-clause-missed : goal.returns-then-is_err-clause-missed
-returns-then-is_err-clause-missed c = λ _ _. when_err (string_capacity c.args.prefix.now ≤ length c.args.path.now) c.fill.result (sym c.is_err.ensures.value ∙ c.if-is_err.true) c.fill.ensures.full
+returns-then-is_err-clause-missed c = λ _ _.
+    let full = when_err (string_capacity c.args.prefix.now < length c.args.path.now + 1) c.fill.result (sym c.is_err.ensures.value ∙ c.if-is_err.true) c.fill.ensures.full in
+    omega arith
 
 -- with room the answer is exact
 below : (c : goal.After-is_some) → list_any (stands_above c.args.path.now) (map.keys (files_of c.args.files.now.entries)) ≡ c.is_some.result
