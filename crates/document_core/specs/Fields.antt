@@ -1,7 +1,7 @@
 -- The fields of a document, as members of its JSON value, each with its kind and its default.
-use Rattle.std.specs.Prelude.{◌≡◌, ℕ, true, false, List, [], bytes_eq, codes, Option, Some, None, option_and_then, ok_or, Result, Ok, if◌then◌else◌}
+use Rattle.std.specs.Prelude.{ℕ, true, false, List, [], bytes_eq, codes, Option, Some, None, option_and_then, ok_or, Result, Ok, if◌then◌else◌}
 use Rattle.serde_json.specs.Data.{Data}
-use Rattle.serde_json.specs.Find.{as_str, as_bool, get}
+use Rattle.serde_json.specs.Find.{as_str, as_bool}
 use Rattle.json_reading.specs.Reading.{field_by, field_or, list_by, nullable_by, object_by}
 use Rattle.swc_loader.specs.declared.target.TargetEnv.{TargetEnv}
 use Rattle.swc_loader.specs.declared.target.TargetEnv.TheVariants.{Browser, Node}
@@ -28,10 +28,6 @@ target_of d = option_and_then target_named (as_str d)
 -- a field that must be readable
 abbrev pub required : {X : Type 0} → Field → Option X → Result X Cause
 required f o = ok_or o (BadField f)
-
--- each member of another name is as before
-abbrev pub KeepsOthers : List ℕ → Data → Data → Type 0
-KeepsOthers name old new = (key : List ℕ) → bytes_eq name key ≡ false → get key new ≡ get key old
 
 -- the settings that a JSON value gives but for its lock, or the first cause against them
 unfoldable pub settings_of : Data → Result GivenSettings Cause

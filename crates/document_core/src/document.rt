@@ -9,7 +9,9 @@ ghost use Rattle.document_core.specs.Document.{fields_in, project_in, put_file, 
 use crate::cause::{Cause, DocumentError};
 use crate::fields::{Document, GivenSettings, read_fields};
 use crate::given::GivenFile;
-use crate::json_text::read_json;
+use crate::json_text::read_bytes;
+use json::Scratch;
+use json_reading::ReadJson;
 use resolve_stack::{Project, Settings};
 use std::alloc::Global;
 use sugar_path::Text;
@@ -20,8 +22,11 @@ use tree_core::{MemoryTree, PutError};
 pub fn read_document(alloc: Global, bytes: &[u8]) -> Result<Document, DocumentError>
     ensures { Meets result (fields_in bytes.now) }
 {
-    let mut value = read_json(alloc, bytes)?;
-    read_fields(alloc, &mut value)
+    let mut scratch = Scratch::new(alloc);
+    match read_bytes(alloc, bytes, &mut scratch)? {
+        ReadJson::Borrowed(value) => read_fields(alloc, &value),
+        ReadJson::Owned(value) => read_fields(alloc, &value),
+    }
 }
 
 // The text that is there, lent.

@@ -1,22 +1,19 @@
 // Reads the fields of a document from its JSON value.
-ghost use Rattle.std.specs.Prelude.{◌≡◌, OnOk, codes, option_map};
-ghost use Rattle.serde_json.specs.View.{view};
+ghost use Rattle.std.specs.Prelude.{◌≡◌, codes, option_map};
 ghost use Rattle.json_reading.specs.Reading.{field_by};
 ghost use Rattle.json_reading.specs.Reading as reading;
 ghost use Rattle.resolve_stack.specs.Settings.{given};
 ghost use Rattle.document_core.specs.Cause.{Meets, name_of};
 ghost use Rattle.document_core.specs.Document.{settings_in};
-ghost use Rattle.document_core.specs.Fields.{KeepsOthers, fields_of, project_fields_of, required, settings_of, target_of};
+ghost use Rattle.document_core.specs.Fields.{fields_of, project_fields_of, required, settings_of, target_of};
 ghost use Rattle.document_core.specs.declared.cause.Field.TheVariants.{Target};
 ghost use Rattle.swc_loader.specs.declared.target.TargetEnv.TheVariants.{Browser};
 
 use crate::cause::{Cause, DocumentError, Field};
 use crate::given::{GivenFile, GivenMapping, Request};
-use json_reading::{FromJson, FromJsonError, Object, into_members};
+use json_reading::{FromJson, FromJsonError, JsonValue, Object};
 use resolve_stack::{Settings, TargetEnv, TsSettings};
-use serde_json::Value;
 use std::alloc::Global;
-use std::mem;
 use sugar_path::{List, Text};
 
 /// What a document of any kind has: the settings of a project, its lock and its files.
@@ -85,16 +82,16 @@ impl GivenSettings {
     }
 }
 
-// The document that a JSON value gives, whose files and requests are taken out.
-pub(crate) fn read_fields(alloc: Global, value: &mut Value) -> Result<Document, DocumentError>
-    ensures { Meets result (fields_of (view value.old)) }
+// The document that a JSON value gives.
+pub(crate) fn read_fields<J: JsonValue>(alloc: Global, value: &J) -> Result<Document, DocumentError>
+    ensures { Meets result (fields_of (J.stands_for value.now)) }
 {
     let GivenProject {
         settings,
         lock,
         files,
     } = read_project(alloc, value)?;
-    let requests: List<Request> = take_field(alloc, value, Field::Requests)?;
+    let requests: List<Request> = required_field(alloc, value, Field::Requests)?;
     Ok(Document {
         settings,
         lock,
@@ -103,15 +100,13 @@ pub(crate) fn read_fields(alloc: Global, value: &mut Value) -> Result<Document, 
     })
 }
 
-/// The project that a JSON value gives, or the first cause against its fields. The files are taken out; the other members stay,
-/// unless a field is refused.
-pub fn read_project(alloc: Global, value: &mut Value) -> Result<GivenProject, DocumentError>
-    ensures project { Meets result (project_fields_of (view value.old)) }
-    ensures others { OnOk result (KeepsOthers (codes "files") (view value.old) (view value.new)) }
+/// The project that a JSON value gives, or the first cause against its fields.
+pub fn read_project<J: JsonValue>(alloc: Global, value: &J) -> Result<GivenProject, DocumentError>
+    ensures { Meets result (project_fields_of (J.stands_for value.now)) }
 {
     let settings = read_settings(alloc, value)?;
     let lock: Option<Text> = field_or(alloc, value, Field::Lock, None)?;
-    let files: List<GivenFile> = take_field(alloc, value, Field::Files)?;
+    let files: List<GivenFile> = required_field(alloc, value, Field::Files)?;
     Ok(GivenProject {
         settings,
         lock,
@@ -121,10 +116,10 @@ pub fn read_project(alloc: Global, value: &mut Value) -> Result<GivenProject, Do
 
 // The settings that a JSON value gives.
 #[tactic(auto, unfolding(crate::specs::Fields::settings_of))]
-fn read_settings(alloc: Global, value: &Value) -> Result<GivenSettings, DocumentError>
-    ensures { Meets result (settings_of (view value.now)) }
+fn read_settings<J: JsonValue>(alloc: Global, value: &J) -> Result<GivenSettings, DocumentError>
+    ensures { Meets result (settings_of (J.stands_for value.now)) }
 {
-    let cwd: Text = field(alloc, value, Field::Cwd)?;
+    let cwd: Text = required_field(alloc, value, Field::Cwd)?;
     let target = target_in(value)?;
     let preserve_symlinks = field_or(alloc, value, Field::PreserveSymlinks, false)?;
     let node_modules = field_or(alloc, value, Field::NodeModules, true)?;
@@ -140,9 +135,13 @@ fn read_settings(alloc: Global, value: &Value) -> Result<GivenSettings, Document
     })
 }
 
-// A field that has to be there.
-fn field<T: FromJson>(alloc: Global, value: &Value, name: Field) -> Result<T, DocumentError>
-    ensures { Meets result (required name (field_by (name_of name) T.reads (view value.now))) }
+/// A field that has to be there, or `BadField`.
+pub fn required_field<T: FromJson, J: JsonValue>(
+    alloc: Global,
+    value: &J,
+    name: Field,
+) -> Result<T, DocumentError>
+    ensures { Meets result (required name (field_by (name_of name) T.reads (J.stands_for value.now))) }
 {
     match json_reading::field(alloc, value, name.name()) {
         Ok(read) => Ok(read),
@@ -151,37 +150,15 @@ fn field<T: FromJson>(alloc: Global, value: &Value, name: Field) -> Result<T, Do
     }
 }
 
-/// A field that has to be there, taken out of its object. The other members stay, unless the field is refused.
-pub fn take_field<T: FromJson>(
-    alloc: Global,
-    value: &mut Value,
-    name: Field,
-) -> Result<T, DocumentError>
-    ensures field { Meets result (required name (field_by (name_of name) T.reads (view value.old))) }
-    ensures others { OnOk result (KeepsOthers (name_of name) (view value.old) (view value.new)) }
-{
-    let Some(mut members) = into_members(mem::replace(value, Value::Null)) else {
-        return Err(DocumentError::Refused(Cause::BadField(name)));
-    };
-    match json_reading::take_field(alloc, &mut members, name.name()) {
-        Ok(read) => {
-            *value = Value::Object(members);
-            Ok(read)
-        }
-        Err(FromJsonError::OtherKind) => Err(DocumentError::Refused(Cause::BadField(name))),
-        Err(FromJsonError::NoMemory) => Err(DocumentError::NoMemory),
-    }
-}
-
 // A field, or what stands for it where it is absent.
-fn field_or<T: FromJson>(
+fn field_or<T: FromJson, J: JsonValue>(
     alloc: Global,
-    value: &Value,
+    value: &J,
     name: Field,
     absent: T,
 ) -> Result<T, DocumentError>
     ensures { Meets result (required name
-        (reading.field_or (name_of name) absent T.reads (view value.now))) }
+        (reading.field_or (name_of name) absent T.reads (J.stands_for value.now))) }
 {
     match json_reading::field_or(alloc, value, name.name(), absent) {
         Ok(read) => Ok(read),
@@ -191,11 +168,11 @@ fn field_or<T: FromJson>(
 }
 
 // For what modules are resolved, by default for browsers.
-fn target_in(value: &Value) -> Result<TargetEnv, DocumentError>
+fn target_in<J: JsonValue>(value: &J) -> Result<TargetEnv, DocumentError>
     ensures { Meets result (required Target
-        (reading.field_or (codes "target") Browser target_of (view value.now))) }
+        (reading.field_or (codes "target") Browser target_of (J.stands_for value.now))) }
 {
-    let Some(target) = value.get("target") else {
+    let Some(target) = value.member("target") else {
         return Ok(TargetEnv::Browser);
     };
     match target.as_str() {

@@ -1,15 +1,13 @@
 // Reads the files, the mapping and the requests of a document from their JSON values.
-ghost use Rattle.std.specs.Prelude.{◌≡◌, codes, IfOk, Option, Some, option_map, unwrap_or};
+ghost use Rattle.std.specs.Prelude.{◌≡◌, codes, option_and_then, option_map};
 ghost use Rattle.std.specs.List.{list_all};
-ghost use Rattle.serde_json.specs.Data.{object, string};
-ghost use Rattle.serde_json.specs.View.{members_view, view};
-ghost use Rattle.json_reading.specs.Reading.{ReadsAs, field_by};
-ghost use Rattle.document_core.specs.Given.{content_of, file_of, hex_bytes, importer_of, is_lower_hex_digit};
+ghost use Rattle.serde_json.specs.Find.{as_str};
+ghost use Rattle.json_reading.specs.Reading.{ReadsAs, field_by, present_or};
+ghost use Rattle.document_core.specs.Given.{content_of, hex_bytes, importer_of, is_lower_hex_digit};
 
-use json_reading::{FromJson, FromJsonError, field, into_members, take_field, take_optional};
+use json_reading::{FromJson, FromJsonError, JsonValue, field};
 use resolve_stack::{FileName, TsSettings};
-use serde_json::{Map, Value};
-use std::alloc::{AllocError, Global};
+use std::alloc::Global;
 use sugar_path::{Bytes, List, Text};
 
 /// A file as a document gives it.
@@ -39,78 +37,68 @@ impl FromJson for GivenFile {
 
     ghost reads = { file_of };
 
-    fn from_json(alloc: Global, value: &Value) -> Result<Self, FromJsonError> {
-        let copy = value.clone()?;
-        Self::from_owned(alloc, copy)
+    // Copies share the path and the bytes.
+    fn from_json<J: JsonValue>(alloc: Global, value: &J) -> Result<Self, FromJsonError> {
+        let given: Text = field(alloc, value, "path")?;
+        let path = given.into_shared()?;
+        let content = content_in(alloc, value.member("text"), value.member("hex"))?;
+        let canonical = canonical_in(alloc, value.member("canonical"), &path)?;
+        Ok(GivenFile {
+            path,
+            content,
+            canonical,
+        })
     }
-
-    fn from_owned(alloc: Global, value: Value) -> Result<Self, FromJsonError> {
-        match into_members(value) {
-            Some(members) => file_of_members(alloc, members),
-            None => Err(FromJsonError::OtherKind),
-        }
-    }
-}
-
-// A file, by the members of an object that is given up. Copies share its path and its bytes.
-fn file_of_members(
-    alloc: Global,
-    mut members: Map<String, Value>,
-) -> Result<GivenFile, FromJsonError>
-    ensures { ReadsAs result (file_of (object (members_view members.entries))) }
-{
-    let path: Text = take_field(alloc, &mut members, "path")?;
-    let text: Option<Text> = take_optional(alloc, &mut members, "text")?;
-    let hex: Option<Text> = take_optional(alloc, &mut members, "hex")?;
-    let canonical: Option<Text> = take_optional(alloc, &mut members, "canonical")?;
-    let content = content_of(alloc, text, hex)?;
-    file_with(alloc, path, content, canonical)
-}
-
-// A file, with its path as its canonical name where it has no other.
-fn file_with(
-    alloc: Global,
-    path: Text,
-    content: Bytes,
-    canonical: Option<Text>,
-) -> Result<GivenFile, FromJsonError>
-    ensures { ReadsAs result (Some (record { path = path; content = content; canonical = unwrap_or canonical path })) }
-{
-    let path = path.into_shared()?;
-    let canonical = match canonical {
-        Some(canonical) => canonical,
-        None => path.try_clone(alloc)?,
-    };
-    Ok(GivenFile {
-        path,
-        content,
-        canonical,
-    })
 }
 
 // The bytes that exactly one of a text and a hex text gives.
-fn content_of(alloc: Global, text: Option<Text>, hex: Option<Text>) -> Result<Bytes, FromJsonError>
-    ensures { ReadsAs result (content_of (option_map string text) (option_map string hex)) }
+fn content_in<J: JsonValue>(
+    alloc: Global,
+    text: Option<&J>,
+    hex: Option<&J>,
+) -> Result<Bytes, FromJsonError>
+    ensures { ReadsAs result (content_of (option_map (λ v. J.stands_for v.now) text.entry)
+        (option_map (λ v. J.stands_for v.now) hex.entry)) }
 {
     match (text, hex) {
-        (Some(text), None) => Ok(bytes_of_text(alloc, text)?),
+        (Some(text), None) => bytes_of_text(alloc, text.as_str()),
         (None, Some(hex)) => bytes_of_hex(alloc, hex.as_str()),
         _ => Err(FromJsonError::OtherKind),
     }
 }
 
-// The bytes of a text, which aren't copied.
-fn bytes_of_text(alloc: Global, text: Text) -> Result<Bytes, AllocError>
-    ensures { IfOk result (λ b. b ≡ text) }
+// A canonical name, or the path where there is none.
+fn canonical_in<J: JsonValue>(
+    alloc: Global,
+    canonical: Option<&J>,
+    path: &Text,
+) -> Result<Text, FromJsonError>
+    ensures { ReadsAs result (present_or path.now as_str
+        (option_map (λ v. J.stands_for v.now) canonical.entry)) }
 {
-    let text = text.into_string(alloc)?;
-    Bytes::from_vec(text.into_bytes())
+    match canonical {
+        Some(name) => Text::from_json(alloc, name),
+        None => Ok(path.try_clone(alloc)?),
+    }
+}
+
+// The bytes of a text.
+fn bytes_of_text(alloc: Global, text: Option<&str>) -> Result<Bytes, FromJsonError>
+    ensures { ReadsAs result (option_map (λ t. t.now) text.entry) }
+{
+    match text {
+        Some(text) => Ok(Bytes::of(alloc, text.as_bytes())?),
+        None => Err(FromJsonError::OtherKind),
+    }
 }
 
 // The bytes of a hex text in lower case.
-fn bytes_of_hex(alloc: Global, text: &str) -> Result<Bytes, FromJsonError>
-    ensures { ReadsAs result (hex_bytes text.now) }
+fn bytes_of_hex(alloc: Global, text: Option<&str>) -> Result<Bytes, FromJsonError>
+    ensures { ReadsAs result (option_and_then hex_bytes (option_map (λ t. t.now) text.entry)) }
 {
+    let Some(text) = text else {
+        return Err(FromJsonError::OtherKind);
+    };
     if !is_lower_hex(text.as_bytes()) {
         return Err(FromJsonError::OtherKind);
     }
@@ -139,7 +127,7 @@ impl FromJson for Request {
 
     ghost reads = { request_of };
 
-    fn from_json(alloc: Global, value: &Value) -> Result<Self, FromJsonError> {
+    fn from_json<J: JsonValue>(alloc: Global, value: &J) -> Result<Self, FromJsonError> {
         let from = importer_in(alloc, value)?;
         let specifier: Text = field(alloc, value, "specifier")?;
         Ok(Request { from, specifier })
@@ -147,24 +135,26 @@ impl FromJson for Request {
 }
 
 // From where a request is asked.
-fn importer_in(alloc: Global, request: &Value) -> Result<FileName, FromJsonError>
-    ensures { ReadsAs result (field_by (codes "from") importer_of (view request.now)) }
+fn importer_in<J: JsonValue>(alloc: Global, request: &J) -> Result<FileName, FromJsonError>
+    ensures { ReadsAs result
+        (field_by (codes "from") importer_of (J.stands_for request.now)) }
 {
-    match request.get("from") {
+    match request.member("from") {
         Some(from) => importer(alloc, from),
         None => Err(FromJsonError::OtherKind),
     }
 }
 
-fn importer(alloc: Global, value: &Value) -> Result<FileName, FromJsonError>
-    ensures { ReadsAs result (importer_of (view value.now)) }
+fn importer<J: JsonValue>(alloc: Global, value: &J) -> Result<FileName, FromJsonError>
+    ensures { ReadsAs result (importer_of (J.stands_for value.now)) }
 {
-    match value {
-        Value::Null => Ok(FileName::Anon),
-        Value::String(name) => Ok(FileName::Real(Text::of(alloc, name.as_str())?)),
-        Value::Object(_) => Ok(FileName::Custom(field(alloc, value, "custom")?)),
-        _ => Err(FromJsonError::OtherKind),
+    if value.is_null() {
+        return Ok(FileName::Anon);
     }
+    if let Some(name) = value.as_str() {
+        return Ok(FileName::Real(Text::of(alloc, name)?));
+    }
+    Ok(FileName::Custom(field(alloc, value, "custom")?))
 }
 
 impl FromJson for GivenMapping {
@@ -172,7 +162,7 @@ impl FromJson for GivenMapping {
 
     ghost reads = { mapping_of };
 
-    fn from_json(alloc: Global, value: &Value) -> Result<Self, FromJsonError> {
+    fn from_json<J: JsonValue>(alloc: Global, value: &J) -> Result<Self, FromJsonError> {
         let base_url: Text = field(alloc, value, "base_url")?;
         let paths: List<(Text, List<Text>)> = field(alloc, value, "paths")?;
         Ok(GivenMapping { base_url, paths })

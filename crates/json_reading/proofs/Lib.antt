@@ -1,5 +1,7 @@
+pub mod BorrowedData
 pub mod JsonBytes
+pub mod ListedMembers
 pub mod MemberReadings
+pub mod Numberless
 pub mod Readings
 pub mod RisingNames
-pub mod TakenMembers

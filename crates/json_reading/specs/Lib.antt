@@ -1,3 +1,5 @@
+pub mod Borrowed
+pub mod Kinds
 pub mod Reading
 pub mod Bytes
-pub mod Members
+pub mod Texts

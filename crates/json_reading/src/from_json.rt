@@ -1,12 +1,12 @@
 // Values read from JSON, one reader for each shape.
-ghost use Rattle.std.specs.Prelude.{◌≡◌, Option, Some, None, IfOk, IsErrOf};
+ghost use Rattle.std.specs.Prelude.{◌≡◌, Option, Some, None, IfOk, IsErrOf, map};
 ghost use Rattle.serde_json.specs.Data.{Data};
-ghost use Rattle.serde_json.specs.View.{view, items_view};
+ghost use Rattle.serde_json.specs.View.{items_of};
 ghost use Rattle.json_reading.specs.Reading.{ReadsAs, two_by, items_by};
 ghost use Rattle.json_reading.specs.declared.error.FromJsonError.TheVariants.{OtherKind};
 
 use crate::error::FromJsonError;
-use serde_json::Value;
+use crate::json_value::JsonValue;
 use std::alloc::Global;
 use sugar_path::{List, Text};
 
@@ -16,15 +16,8 @@ pub trait FromJson: Drop {
     ghost reads: { Data → Option Self };
 
     /// What the value is read as. `OtherKind` comes exactly where nothing is read, unless memory runs out before that is told.
-    fn from_json(alloc: Global, value: &Value) -> Result<Self, FromJsonError>
-        ensures { ReadsAs result (reads (view value.now)) };
-
-    /// The same from a value that is given up: what is read may keep its texts.
-    fn from_owned(alloc: Global, value: Value) -> Result<Self, FromJsonError>
-        ensures { ReadsAs result (reads (view value)) }
-    {
-        Self::from_json(alloc, &value)
-    }
+    fn from_json<J: JsonValue>(alloc: Global, value: &J) -> Result<Self, FromJsonError>
+        ensures { ReadsAs result (reads (J.stands_for value.now)) };
 }
 
 /// The text of a string.
@@ -33,17 +26,10 @@ impl FromJson for Text {
 
     ghost reads = { as_str };
 
-    fn from_json(alloc: Global, value: &Value) -> Result<Self, FromJsonError> {
+    fn from_json<J: JsonValue>(alloc: Global, value: &J) -> Result<Self, FromJsonError> {
         match value.as_str() {
             Some(text) => Ok(Text::of(alloc, text)?),
             None => Err(FromJsonError::OtherKind),
-        }
-    }
-
-    fn from_owned(_alloc: Global, value: Value) -> Result<Self, FromJsonError> {
-        match value {
-            Value::String(text) => Ok(Text::from(text)),
-            _ => Err(FromJsonError::OtherKind),
         }
     }
 }
@@ -54,7 +40,7 @@ impl FromJson for bool {
 
     ghost reads = { as_bool };
 
-    fn from_json(_alloc: Global, value: &Value) -> Result<Self, FromJsonError> {
+    fn from_json<J: JsonValue>(_alloc: Global, value: &J) -> Result<Self, FromJsonError> {
         match value.as_bool() {
             Some(flag) => Ok(flag),
             None => Err(FromJsonError::OtherKind),
@@ -68,18 +54,11 @@ impl<T: FromJson> FromJson for Option<T> {
 
     ghost reads = { nullable_by T.reads };
 
-    fn from_json(alloc: Global, value: &Value) -> Result<Self, FromJsonError> {
-        match value {
-            Value::Null => Ok(None),
-            _ => Ok(Some(T::from_json(alloc, value)?)),
-        }
-    }
-
-    fn from_owned(alloc: Global, value: Value) -> Result<Self, FromJsonError> {
+    fn from_json<J: JsonValue>(alloc: Global, value: &J) -> Result<Self, FromJsonError> {
         if value.is_null() {
             return Ok(None);
         }
-        Ok(Some(T::from_owned(alloc, value)?))
+        Ok(Some(T::from_json(alloc, value)?))
     }
 }
 
@@ -89,27 +68,20 @@ impl<A: FromJson, B: FromJson> FromJson for (A, B) {
 
     ghost reads = { pair_by A.reads B.reads };
 
-    fn from_json(alloc: Global, value: &Value) -> Result<Self, FromJsonError> {
-        match value {
-            Value::Array(items) => pair_of(alloc, items),
-            _ => Err(FromJsonError::OtherKind),
-        }
-    }
-
-    fn from_owned(alloc: Global, value: Value) -> Result<Self, FromJsonError> {
-        match value {
-            Value::Array(items) => owned_pair(alloc, items),
-            _ => Err(FromJsonError::OtherKind),
+    fn from_json<J: JsonValue>(alloc: Global, value: &J) -> Result<Self, FromJsonError> {
+        match value.as_items() {
+            Some(items) => pair_of(alloc, items),
+            None => Err(FromJsonError::OtherKind),
         }
     }
 }
 
 // Exactly two items.
-fn pair_of<A: FromJson, B: FromJson>(
+fn pair_of<A: FromJson, B: FromJson, J: JsonValue>(
     alloc: Global,
-    items: &[Value],
+    items: &[J],
 ) -> Result<(A, B), FromJsonError>
-    ensures { ReadsAs result (two_by A.reads B.reads (items_view items.now)) }
+    ensures { ReadsAs result (two_by A.reads B.reads (items_of (map J.stands_for items.now))) }
 {
     if items.len() != 2 {
         return Err(FromJsonError::OtherKind);
@@ -119,65 +91,30 @@ fn pair_of<A: FromJson, B: FromJson>(
     Ok((first, second))
 }
 
-// Exactly two items, given up.
-fn owned_pair<A: FromJson, B: FromJson>(
-    alloc: Global,
-    mut items: Vec<Value>,
-) -> Result<(A, B), FromJsonError>
-    ensures { ReadsAs result (two_by A.reads B.reads (items_view items.items)) }
-{
-    if items.len() > 2 {
-        return Err(FromJsonError::OtherKind);
-    }
-    let (Some(second), Some(first)) = (items.pop(), items.pop()) else {
-        return Err(FromJsonError::OtherKind);
-    };
-    let first = A::from_owned(alloc, first)?;
-    let second = B::from_owned(alloc, second)?;
-    Ok((first, second))
-}
-
 /// An array of any length.
 impl<T: FromJson> FromJson for List<T> {
     ghost use Rattle.json_reading.specs.Reading.{list_by};
 
     ghost reads = { list_by T.reads };
 
-    fn from_json(alloc: Global, value: &Value) -> Result<Self, FromJsonError> {
-        match value {
-            Value::Array(items) => Ok(List::from(each(alloc, items)?)),
-            _ => Err(FromJsonError::OtherKind),
-        }
-    }
-
-    fn from_owned(alloc: Global, value: Value) -> Result<Self, FromJsonError> {
-        match value {
-            Value::Array(items) => Ok(List::from(each_owned(alloc, items)?)),
-            _ => Err(FromJsonError::OtherKind),
+    fn from_json<J: JsonValue>(alloc: Global, value: &J) -> Result<Self, FromJsonError> {
+        match value.as_items() {
+            Some(items) => Ok(List::from(each(alloc, items)?)),
+            None => Err(FromJsonError::OtherKind),
         }
     }
 }
 
 // Each item, in order.
-fn each<T: FromJson>(alloc: Global, items: &[Value]) -> Result<Vec<T>, FromJsonError>
-    ensures ok { IfOk result (λ read. items_by T.reads (items_view items.now) ≡ Some read.items) }
-    ensures refused { IsErrOf result OtherKind → items_by T.reads (items_view items.now) ≡ None }
-{
-    let mut read = Vec::new(alloc);
-    for item in items {
-        read.push(T::from_json(alloc, item)?)?;
-    }
-    Ok(read)
-}
-
-// Each item, in order, given up.
-fn each_owned<T: FromJson>(alloc: Global, items: Vec<Value>) -> Result<Vec<T>, FromJsonError>
-    ensures ok { IfOk result (λ read. items_by T.reads (items_view items.items) ≡ Some read.items) }
-    ensures refused { IsErrOf result OtherKind → items_by T.reads (items_view items.items) ≡ None }
+fn each<T: FromJson, J: JsonValue>(alloc: Global, items: &[J]) -> Result<Vec<T>, FromJsonError>
+    ensures ok { IfOk result (λ read.
+        items_by T.reads (items_of (map J.stands_for items.now)) ≡ Some read.items) }
+    ensures refused { IsErrOf result OtherKind
+        → items_by T.reads (items_of (map J.stands_for items.now)) ≡ None }
 {
     let mut read = Vec::with_capacity(alloc, items.len())?;
     for item in items {
-        read.push(T::from_owned(alloc, item)?)?;
+        read.push(T::from_json(alloc, item)?)?;
     }
     Ok(read)
 }

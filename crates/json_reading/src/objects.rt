@@ -1,13 +1,13 @@
 // Objects whose members are all of one kind.
 ghost use Rattle.std.specs.Prelude.{◌≡◌, Some, None, IfOk, IsErrOf};
-ghost use Rattle.serde_json.specs.View.{members_view};
+ghost use Rattle.json_reading.specs.Kinds.{NamesRise, listed};
 ghost use Rattle.json_reading.specs.Reading.{members_by};
 ghost use Rattle.json_reading.specs.declared.error.FromJsonError.TheVariants.{OtherKind};
 
 use crate::error::FromJsonError;
 use crate::from_json::FromJson;
+use crate::json_value::JsonValue;
 use indexmap::IndexMap;
-use serde_json::{Map, Value};
 use std::alloc::Global;
 use std::marker::Model;
 use sugar_path::Text;
@@ -47,30 +47,31 @@ impl<T: FromJson> FromJson for Object<T> {
 
     ghost reads = { object_by T.reads };
 
-    fn from_json(alloc: Global, value: &Value) -> Result<Self, FromJsonError> {
-        match value {
-            Value::Object(members) => Ok(Object {
+    fn from_json<J: JsonValue>(alloc: Global, value: &J) -> Result<Self, FromJsonError> {
+        match value.members(alloc)? {
+            Some(members) => Ok(Object {
                 map: each_member(alloc, members)?,
             }),
-            _ => Err(FromJsonError::OtherKind),
+            None => Err(FromJsonError::OtherKind),
         }
     }
 }
 
 // Each member, in order.
-fn each_member<T: FromJson>(
+fn each_member<T: FromJson, J: JsonValue>(
     alloc: Global,
-    members: &Map<String, Value>,
+    members: Vec<(&str, &J)>,
 ) -> Result<IndexMap<Text, T>, FromJsonError>
+    requires { NamesRise members.items }
     ensures ok { IfOk result (λ read.
-        members_by T.reads (members_view members.now.entries) ≡ Some read.entries) }
+        members_by T.reads (listed J.stands_for members.entry.items) ≡ Some read.entries) }
     ensures refused { IsErrOf result OtherKind
-        → members_by T.reads (members_view members.now.entries) ≡ None }
+        → members_by T.reads (listed J.stands_for members.entry.items) ≡ None }
 {
     let mut read = IndexMap::with_capacity(alloc, members.len())?;
-    for (name, member) in members.iter() {
+    for (name, member) in members {
         let value = T::from_json(alloc, member)?;
-        read.insert(Text::of(alloc, name.as_str())?, value)?;
+        read.insert(Text::of(alloc, name)?, value)?;
     }
     Ok(read)
 }

@@ -18,7 +18,6 @@ pub mod PlainLocations
 pub mod Relocations
 pub mod Copying
 pub mod Hydrations
-pub mod FieldReadings
 pub mod PairReadings
 pub mod PathForms
 pub mod OnTrees

@@ -6,7 +6,6 @@ pub mod Payload
 pub mod Manifest
 pub mod Copying
 pub mod ManifestReading
-pub mod FieldsWith
 pub mod Owner
 pub mod Ownership
 pub mod Trie

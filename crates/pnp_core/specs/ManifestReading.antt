@@ -121,6 +121,11 @@ from_fields (Some read) = with_pattern_text read.0 read.1
 abbrev pub manifest_in : Data → Result Contents HydrationCause
 manifest_in d = if has_float d then Err BadJson else from_fields (fields_in d)
 
+-- the same of a text's value, where it is JSON
+abbrev pub from_data : Option Data → Result Contents HydrationCause
+from_data None = Err BadJson
+from_data (Some d) = manifest_in d
+
 -- what a call tells that reads a manifest, by what a reader of its fields tells, and one of its pattern
 abbrev pub of_reading : FromJsonError → ReadManifestError
 of_reading OtherKind = refusal.BadJson
@@ -173,13 +178,9 @@ abbrev pub placed_at : Path → Result Contents HydrationCause → Result Conten
 placed_at p (Ok m) = with_top_level p m
 placed_at p (Err cause) = Err cause
 
-abbrev pub from_json : Path → Option Data → Result Contents HydrationCause
-from_json p None = Err BadJson
-from_json p (Some d) = placed_at p (manifest_in d)
-
 abbrev pub from_payload : Path → Option (List ℕ) → Result Contents HydrationCause
 from_payload p None = Err NoPayload
-from_payload p (Some text) = from_json p (read text)
+from_payload p (Some text) = placed_at p (from_data (read text))
 
 -- the manifest of a text
 abbrev pub from_text : Path → List ℕ → Result Contents HydrationCause

@@ -1,14 +1,13 @@
 // A payload's lists of pairs as maps, and its lists of names as sets: a repeated name keeps its place, and takes the last value.
 ghost use Rattle.std.specs.Prelude.{◌≡◌, IfOk, map, option_map, unwrap_or, []};
 ghost use Rattle.serde_json.specs.Find.{as_str};
-ghost use Rattle.serde_json.specs.View.{items_view};
+ghost use Rattle.serde_json.specs.View.{items_of};
 ghost use Rattle.json_reading.specs.Reading.{ReadsAs, items_by, nullable_by, pair_by};
 ghost use Rattle.pnp_core.specs.ManifestReading.{entries_of, named};
 ghost use Rattle.indexmap.specs.IndexSet as set;
 
 use indexmap::{IndexMap, IndexSet};
-use json_reading::{FromJson, FromJsonError};
-use serde_json::Value;
+use json_reading::{FromJson, FromJsonError, JsonValue};
 use std::alloc::{AllocError, Global};
 use std::hash::Hash;
 use std::marker::Model;
@@ -36,16 +35,10 @@ impl<V: FromJson> FromJson for Entries<V> {
 
     ghost reads = { λ d. option_map entries_of (list_by (pair_by as_str V.reads) d) };
 
-    fn from_json(alloc: Global, value: &Value) -> Result<Self, FromJsonError> {
-        let pairs = List::<(Text, V)>::from_json(alloc, value)?;
-        let entries = collected(alloc, pairs.into())?;
-        Ok(entries)
-    }
-
-    fn from_owned(alloc: Global, value: Value) -> Result<Self, FromJsonError> {
-        match value {
-            Value::Array(items) => entries_of_items(alloc, items),
-            _ => Err(FromJsonError::OtherKind),
+    fn from_json<J: JsonValue>(alloc: Global, value: &J) -> Result<Self, FromJsonError> {
+        match value.as_items() {
+            Some(items) => entries_of_items(alloc, items),
+            None => Err(FromJsonError::OtherKind),
         }
     }
 }
@@ -74,16 +67,10 @@ impl<V: FromJson> FromJson for NullableEntries<V> {
         option_map (λ pairs. entries_of (map named pairs))
         (list_by (pair_by (nullable_by as_str) V.reads) d) };
 
-    fn from_json(alloc: Global, value: &Value) -> Result<Self, FromJsonError> {
-        let pairs = List::<(Option<Text>, V)>::from_json(alloc, value)?;
-        let entries = collected_named(alloc, pairs.into())?;
-        Ok(entries)
-    }
-
-    fn from_owned(alloc: Global, value: Value) -> Result<Self, FromJsonError> {
-        match value {
-            Value::Array(items) => named_entries_of_items(alloc, items),
-            _ => Err(FromJsonError::OtherKind),
+    fn from_json<J: JsonValue>(alloc: Global, value: &J) -> Result<Self, FromJsonError> {
+        match value.as_items() {
+            Some(items) => named_entries_of_items(alloc, items),
+            None => Err(FromJsonError::OtherKind),
         }
     }
 }
@@ -109,72 +96,40 @@ impl<T: FromJson + Eq + Hash> FromJson for Members<T> {
 
     ghost reads = { λ d. option_map (set.insert_all T.eq []) (list_by T.reads d) };
 
-    fn from_json(alloc: Global, value: &Value) -> Result<Self, FromJsonError> {
+    fn from_json<J: JsonValue>(alloc: Global, value: &J) -> Result<Self, FromJsonError> {
         let members = List::<T>::from_json(alloc, value)?;
         let members = distinct(alloc, members.into())?;
         Ok(members)
     }
-
-    fn from_owned(alloc: Global, value: Value) -> Result<Self, FromJsonError> {
-        let members = List::<T>::from_owned(alloc, value)?;
-        let members = distinct(alloc, members.into())?;
-        Ok(members)
-    }
 }
 
-// The map of a list of pairs.
-fn collected<V: Drop>(alloc: Global, pairs: Vec<(Text, V)>) -> Result<Entries<V>, AllocError>
-    ensures { IfOk result (λ entries. entries ≡ entries_of pairs.items) }
-{
-    let mut map = IndexMap::with_capacity(alloc, pairs.len())?;
-    for (name, value) in pairs {
-        map.insert(name, value)?;
-    }
-    Ok(Entries { map })
-}
-
-// The map of a list of pairs, with the empty text for a null name.
-fn collected_named<V: Drop>(
+// The map of an array's pairs: each is put in as it is read.
+fn entries_of_items<V: FromJson, J: JsonValue>(
     alloc: Global,
-    pairs: Vec<(Option<Text>, V)>,
-) -> Result<NullableEntries<V>, AllocError>
-    ensures { IfOk result (λ entries. entries ≡ entries_of (map named pairs.items)) }
-{
-    let mut map = IndexMap::with_capacity(alloc, pairs.len())?;
-    for (name, value) in pairs {
-        map.insert(name_or_empty(alloc, name), value)?;
-    }
-    Ok(NullableEntries { map })
-}
-
-// The map of an array's pairs, given up: each is put in as it is read.
-fn entries_of_items<V: FromJson>(
-    alloc: Global,
-    items: Vec<Value>,
+    items: &[J],
 ) -> Result<Entries<V>, FromJsonError>
-    ensures { ReadsAs result
-        (option_map entries_of (items_by (pair_by as_str V.reads) (items_view items.items))) }
+    ensures { ReadsAs result (option_map entries_of
+        (items_by (pair_by as_str V.reads) (items_of (map J.stands_for items.now)))) }
 {
     let mut map = IndexMap::with_capacity(alloc, items.len())?;
     for item in items {
-        let (name, member) = <(Text, V)>::from_owned(alloc, item)?;
+        let (name, member) = <(Text, V)>::from_json(alloc, item)?;
         map.insert(name, member)?;
     }
     Ok(Entries { map })
 }
 
 // The same with the empty text for a null name.
-fn named_entries_of_items<V: FromJson>(
+fn named_entries_of_items<V: FromJson, J: JsonValue>(
     alloc: Global,
-    items: Vec<Value>,
+    items: &[J],
 ) -> Result<NullableEntries<V>, FromJsonError>
-    ensures { ReadsAs result
-        (option_map (λ pairs. entries_of (map named pairs))
-        (items_by (pair_by (nullable_by as_str) V.reads) (items_view items.items))) }
+    ensures { ReadsAs result (option_map (λ pairs. entries_of (map named pairs))
+        (items_by (pair_by (nullable_by as_str) V.reads) (items_of (map J.stands_for items.now)))) }
 {
     let mut map = IndexMap::with_capacity(alloc, items.len())?;
     for item in items {
-        let (name, member) = <(Option<Text>, V)>::from_owned(alloc, item)?;
+        let (name, member) = <(Option<Text>, V)>::from_json(alloc, item)?;
         map.insert(name_or_empty(alloc, name), member)?;
     }
     Ok(NullableEntries { map })

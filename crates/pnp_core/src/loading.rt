@@ -1,23 +1,21 @@
 // The manifest that a file of a tree is.
 ghost use Rattle.std.specs.Prelude.{◌≡◌, Some, IfOk, IfErr};
-ghost use Rattle.serde_json.specs.View.{view};
 ghost use Rattle.sugar_path.specs.Path.{IsCleanPath, path_in};
 ghost use Rattle.tree_core.specs.Asks.{Asks, seen};
 ghost use Rattle.tree_core.specs.Resolving.{Resolves, IsDecided};
 ghost use Rattle.pnp_core.specs.Loading.{loading, told_loading};
 ghost use Rattle.pnp_core.specs.Manifest.{top_level};
-ghost use Rattle.pnp_core.specs.ManifestReading.{reading, from_text, from_payload, placed_at, with_top_level, manifest_in};
+ghost use Rattle.pnp_core.specs.ManifestReading.{reading, from_text, from_payload, with_top_level};
 ghost use Rattle.pnp_core.specs.Owner.{IsReady};
 ghost use Rattle.pnp_core.specs.Refusal.{pnp, IsOfManifest};
 ghost use Rattle.pnp_core.specs.Wording.{cause_message};
 ghost use Rattle.pnp_core.specs.Wording as wording;
 
-use crate::readers::read_owned_manifest;
+use crate::readers::manifest_of_json;
 use crate::{
     Error, FailedManifestHydration, HydrationCause, Manifest, PackageLocator, ReadManifestError,
     has_package, init_pnp_manifest, payload_of,
 };
-use serde_json::Value;
 use std::alloc::{AllocError, Global};
 use sugar_path::{Bytes, CleanPath, Text};
 use tree_core::{Asker, Recorder, ResolveError, Tree};
@@ -114,27 +112,7 @@ fn manifest_of_payload(
     ensures decided { IsDecided result (from_payload path.now (Some payload.now)) }
     ensures ready { IfOk result IsReady }
 {
-    match Value::from_str(alloc, payload) {
-        Ok(value) => manifest_of_value(alloc, value, path),
-        Err(e) => {
-            if e.is_memory() {
-                return Err(ResolveError::NoMemory);
-            }
-            Err(ResolveError::Refused(HydrationCause::BadJson))
-        }
-    }
-}
-
-// The manifest that a JSON value says.
-fn manifest_of_value(
-    alloc: Global,
-    value: Value,
-    path: &CleanPath,
-) -> Result<Manifest, ResolveError<HydrationCause>>
-    ensures decided { IsDecided result (placed_at path.now (manifest_in (view value))) }
-    ensures ready { IfOk result IsReady }
-{
-    match read_owned_manifest(alloc, value) {
+    match manifest_of_json(alloc, payload) {
         Ok(manifest) => initialized(alloc, manifest, path),
         Err(ReadManifestError::BadJson) => Err(ResolveError::Refused(HydrationCause::BadJson)),
         Err(ReadManifestError::BadPattern) => Err(ResolveError::Refused(

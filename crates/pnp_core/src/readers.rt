@@ -1,10 +1,9 @@
 // A manifest read from the value of its payload.
 ghost use Rattle.std.specs.Prelude.{◌≡◌, IfOk, map, option_map};
-ghost use Rattle.serde_json.specs.Data.{object};
-ghost use Rattle.serde_json.specs.View.{view, members_view};
+ghost use Rattle.serde_json.specs.Read.{read};
+ghost use Rattle.serde_json.specs.View.{view};
 ghost use Rattle.json_reading.specs.Reading.{ReadsAs};
-ghost use Rattle.pnp_core.specs.ManifestReading.{entries_of, named, package_in, manifest_in, fields_in, with_pattern_text, IsReadAs};
-ghost use Rattle.pnp_core.specs.FieldsWith.{fields_with};
+ghost use Rattle.pnp_core.specs.ManifestReading.{IsReadAs, entries_of, fields_in, from_data, from_fields, manifest_in, named, with_pattern_text};
 
 use crate::entries::{Entries, Members, NullableEntries, name_or_empty};
 use crate::{
@@ -13,10 +12,11 @@ use crate::{
 };
 use es_pattern::Pattern;
 use indexmap::{IndexMap, IndexSet};
+use json::Scratch;
 use json_reading::{
-    FromJson, FromJsonError, field, field_or, holds_float, into_members, take_field, take_field_or,
+    FromJson, FromJsonError, JsonValue, ReadJson, field, field_or, holds_float, read_text,
 };
-use serde_json::{Map, Value};
+use serde_json::Value;
 use std::alloc::{AllocError, Global};
 use std::marker::Model;
 use sugar_path::{List, Text};
@@ -29,21 +29,25 @@ pub fn read_manifest(alloc: Global, value: &Value) -> Result<Manifest, ReadManif
     if holds_float(value) {
         return Err(ReadManifestError::BadJson);
     }
-    let (manifest, pattern) = fields(alloc, value)?;
-    with_pattern(alloc, manifest, pattern)
+    manifest_of_fields(alloc, value)
 }
 
-/// The same of a value that is given up: its texts become the manifest's.
-pub(crate) fn read_owned_manifest(
-    alloc: Global,
-    value: Value,
-) -> Result<Manifest, ReadManifestError>
-    ensures { IsReadAs result (manifest_in (view value)) }
+/// The same of a text that is JSON.
+pub(crate) fn manifest_of_json(alloc: Global, text: &str) -> Result<Manifest, ReadManifestError>
+    ensures { IsReadAs result (from_data (read text.now)) }
 {
-    if holds_float(&value) {
-        return Err(ReadManifestError::BadJson);
+    let mut scratch = Scratch::new(alloc);
+    match read_text(alloc, text, &mut scratch)? {
+        ReadJson::Borrowed(value) => manifest_of_fields(alloc, &value),
+        ReadJson::Owned(value) => read_manifest(alloc, &value),
     }
-    let (manifest, pattern) = owned_fields(alloc, value)?;
+}
+
+// The manifest that the fields of a value say.
+fn manifest_of_fields<J: JsonValue>(alloc: Global, value: &J) -> Result<Manifest, ReadManifestError>
+    ensures { IsReadAs result (from_fields (fields_in (J.stands_for value.now))) }
+{
+    let (manifest, pattern) = fields(alloc, value)?;
     with_pattern(alloc, manifest, pattern)
 }
 
@@ -64,38 +68,15 @@ fn with_pattern(
 }
 
 // The fields of a manifest, and the text of its ignore pattern; others are passed over.
-fn fields(alloc: Global, value: &Value) -> Result<(Manifest, Option<Text>), FromJsonError>
-    ensures { ReadsAs result (fields_in (view value.now)) }
-{
-    let registry: Registry = field(alloc, value, "packageRegistryData")?;
-    fields_with(alloc, value, registry)
-}
-
-// The same of a value that is given up.
-fn owned_fields(alloc: Global, value: Value) -> Result<(Manifest, Option<Text>), FromJsonError>
-    ensures { ReadsAs result (fields_in (view value)) }
-{
-    let Some(mut members) = into_members(value) else {
-        return Err(FromJsonError::OtherKind);
-    };
-    let registry: Registry = take_field(alloc, &mut members, "packageRegistryData")?;
-    let rest = Value::Object(members);
-    fields_with(alloc, &rest, registry)
-}
-
-// The same with a registry that was read.
-fn fields_with(
-    alloc: Global,
-    value: &Value,
-    registry: Registry,
-) -> Result<(Manifest, Option<Text>), FromJsonError>
-    ensures { ReadsAs result (fields_with (view value.now) registry) }
+fn fields<J: JsonValue>(alloc: Global, value: &J) -> Result<(Manifest, Option<Text>), FromJsonError>
+    ensures { ReadsAs result (fields_in (J.stands_for value.now)) }
 {
     let enable_top_level_fallback: bool = field(alloc, value, "enableTopLevelFallback")?;
     let pattern: Option<Text> = field_or(alloc, value, "ignorePatternData", None)?;
     let roots: Members<PackageLocator> = field(alloc, value, "dependencyTreeRoots")?;
     let pool: Entries<Option<PackageDependency>> = field(alloc, value, "fallbackPool")?;
     let exclusions: Exclusions = field(alloc, value, "fallbackExclusionList")?;
+    let registry: Registry = field(alloc, value, "packageRegistryData")?;
     let manifest = Manifest {
         manifest_dir: Text::from(String::new(alloc)),
         manifest_path: Text::from(String::new(alloc)),
@@ -115,7 +96,7 @@ impl FromJson for PackageLocator {
 
     ghost reads = { locator_in };
 
-    fn from_json(alloc: Global, value: &Value) -> Result<Self, FromJsonError> {
+    fn from_json<J: JsonValue>(alloc: Global, value: &J) -> Result<Self, FromJsonError> {
         let name: Text = field(alloc, value, "name")?;
         let reference: Text = field(alloc, value, "reference")?;
         Ok(PackageLocator { name, reference })
@@ -127,27 +108,12 @@ impl FromJson for PackageDependency {
 
     ghost reads = { dependency_in };
 
-    fn from_json(alloc: Global, value: &Value) -> Result<Self, FromJsonError> {
-        match value {
-            Value::String(reference) => Ok(PackageDependency::Reference(Text::of(
-                alloc,
-                reference.as_str(),
-            )?)),
-            _ => {
-                let (name, reference) = <(Text, Text)>::from_json(alloc, value)?;
-                Ok(PackageDependency::Alias(name, reference))
-            }
+    fn from_json<J: JsonValue>(alloc: Global, value: &J) -> Result<Self, FromJsonError> {
+        if let Some(reference) = value.as_str() {
+            return Ok(PackageDependency::Reference(Text::of(alloc, reference)?));
         }
-    }
-
-    fn from_owned(alloc: Global, value: Value) -> Result<Self, FromJsonError> {
-        match value {
-            Value::String(reference) => Ok(PackageDependency::Reference(Text::from(reference))),
-            other => {
-                let (name, reference) = <(Text, Text)>::from_owned(alloc, other)?;
-                Ok(PackageDependency::Alias(name, reference))
-            }
-        }
+        let (name, reference) = <(Text, Text)>::from_json(alloc, value)?;
+        Ok(PackageDependency::Alias(name, reference))
     }
 }
 
@@ -156,7 +122,7 @@ impl FromJson for PackageInformation {
 
     ghost reads = { package_in };
 
-    fn from_json(alloc: Global, value: &Value) -> Result<Self, FromJsonError> {
+    fn from_json<J: JsonValue>(alloc: Global, value: &J) -> Result<Self, FromJsonError> {
         let package_location: Text = field(alloc, value, "packageLocation")?;
         let discard_from_lookup: bool = field_or(alloc, value, "discardFromLookup", false)?;
         let dependencies: Entries<Option<PackageDependency>> = field(
@@ -170,34 +136,6 @@ impl FromJson for PackageInformation {
             package_dependencies: dependencies.map,
         })
     }
-
-    fn from_owned(alloc: Global, value: Value) -> Result<Self, FromJsonError> {
-        match into_members(value) {
-            Some(members) => package_of_members(alloc, members),
-            None => Err(FromJsonError::OtherKind),
-        }
-    }
-}
-
-// What a row says of its package, by the members of an object that is given up.
-fn package_of_members(
-    alloc: Global,
-    mut members: Map<String, Value>,
-) -> Result<PackageInformation, FromJsonError>
-    ensures { ReadsAs result (package_in (object (members_view members.entries))) }
-{
-    let package_location: Text = take_field(alloc, &mut members, "packageLocation")?;
-    let discarded: bool = take_field_or(alloc, &mut members, "discardFromLookup", false)?;
-    let dependencies: Entries<Option<PackageDependency>> = take_field(
-        alloc,
-        &mut members,
-        "packageDependencies",
-    )?;
-    Ok(PackageInformation {
-        package_location,
-        discard_from_lookup: discarded,
-        package_dependencies: dependencies.map,
-    })
 }
 
 // References by name, seen as lists.
@@ -219,14 +157,8 @@ impl FromJson for Exclusions {
 
     ghost reads = { exclusions_in };
 
-    fn from_json(alloc: Global, value: &Value) -> Result<Self, FromJsonError> {
+    fn from_json<J: JsonValue>(alloc: Global, value: &J) -> Result<Self, FromJsonError> {
         let pairs = List::<(Text, Members<Text>)>::from_json(alloc, value)?;
-        let exclusions = collect_exclusions(alloc, pairs.into())?;
-        Ok(exclusions)
-    }
-
-    fn from_owned(alloc: Global, value: Value) -> Result<Self, FromJsonError> {
-        let pairs = List::<(Text, Members<Text>)>::from_owned(alloc, value)?;
         let exclusions = collect_exclusions(alloc, pairs.into())?;
         Ok(exclusions)
     }
@@ -266,16 +198,8 @@ impl FromJson for Registry {
 
     ghost reads = { registry_in };
 
-    fn from_json(alloc: Global, value: &Value) -> Result<Self, FromJsonError> {
+    fn from_json<J: JsonValue>(alloc: Global, value: &J) -> Result<Self, FromJsonError> {
         let pairs = List::<(Option<Text>, NullableEntries<PackageInformation>)>::from_json(
-            alloc, value,
-        )?;
-        let registry = collect_registry(alloc, pairs.into())?;
-        Ok(registry)
-    }
-
-    fn from_owned(alloc: Global, value: Value) -> Result<Self, FromJsonError> {
-        let pairs = List::<(Option<Text>, NullableEntries<PackageInformation>)>::from_owned(
             alloc, value,
         )?;
         let registry = collect_registry(alloc, pairs.into())?;

@@ -10,7 +10,7 @@ ghost use Rattle.session_report.specs.Given.{capacity_of, fields_in, fields_of};
 
 use crate::step::Step;
 use document_core::{
-    Cause, DocumentError, Field, GivenProject, read_json, read_project, take_field,
+    Cause, DocumentError, Field, GivenProject, read_json, read_project, required_field,
 };
 use serde_json::Value;
 use std::alloc::Global;
@@ -34,18 +34,18 @@ pub fn read_session_document(alloc: Global, bytes: &[u8]) -> Result<SessionDocum
     ensures fields { Meets result (fields_in bytes.now) }
     ensures some { IfOk result (λ d. 0 < d.capacity) }
 {
-    let mut value = read_json(alloc, bytes)?;
-    read_fields(alloc, &mut value)
+    let value = read_json(alloc, bytes)?;
+    read_fields(alloc, &value)
 }
 
-// The session document that a JSON value gives, whose files and steps are taken out.
-fn read_fields(alloc: Global, value: &mut Value) -> Result<SessionDocument, DocumentError>
-    ensures fields { Meets result (fields_of (view value.old)) }
+// The session document that a JSON value gives.
+fn read_fields(alloc: Global, value: &Value) -> Result<SessionDocument, DocumentError>
+    ensures fields { Meets result (fields_of (view value.now)) }
     ensures some { IfOk result (λ d. 0 < d.capacity) }
 {
     let project = read_project(alloc, value)?;
     let capacity = capacity_in(value)?;
-    let steps: List<Step> = take_field(alloc, value, Field::Steps)?;
+    let steps: List<Step> = required_field(alloc, value, Field::Steps)?;
     Ok(SessionDocument {
         project,
         capacity,

@@ -1,15 +1,13 @@
 // The steps of a session document.
 ghost use Rattle.std.specs.Prelude.{option_map};
 ghost use Rattle.serde_json.specs.Find.{as_str};
-ghost use Rattle.serde_json.specs.View.{view};
 ghost use Rattle.document_core.specs.Given.{file_of, request_of};
 ghost use Rattle.json_reading.specs.Reading.{ReadsAs};
 ghost use Rattle.session_report.specs.Given.{step_in};
 ghost use Rattle.session_report.specs.declared.step.Step.TheVariants as step;
 
 use document_core::{GivenFile, Request};
-use json_reading::{FromJson, FromJsonError};
-use serde_json::Value;
+use json_reading::{FromJson, FromJsonError, JsonValue};
 use std::alloc::Global;
 use sugar_path::Text;
 
@@ -29,25 +27,26 @@ impl FromJson for Step {
 
     ghost reads = { step_of };
 
-    fn from_json(alloc: Global, value: &Value) -> Result<Self, FromJsonError> {
+    fn from_json<J: JsonValue>(alloc: Global, value: &J) -> Result<Self, FromJsonError> {
         step_in(
             alloc,
-            value.get("ask"),
-            value.get("put"),
-            value.get("remove"),
+            value.member("ask"),
+            value.member("put"),
+            value.member("remove"),
         )
     }
 }
 
 // The step that exactly one of its fields gives.
-fn step_in(
+fn step_in<J: JsonValue>(
     alloc: Global,
-    ask: Option<&Value>,
-    put: Option<&Value>,
-    remove: Option<&Value>,
+    ask: Option<&J>,
+    put: Option<&J>,
+    remove: Option<&J>,
 ) -> Result<Step, FromJsonError>
-    ensures { ReadsAs result (step_in (option_map (λ v. view v.now) ask.entry)
-        (option_map (λ v. view v.now) put.entry) (option_map (λ v. view v.now) remove.entry)) }
+    ensures { ReadsAs result (step_in (option_map (λ v. J.stands_for v.now) ask.entry)
+        (option_map (λ v. J.stands_for v.now) put.entry)
+        (option_map (λ v. J.stands_for v.now) remove.entry)) }
 {
     match (ask, put, remove) {
         (Some(request), None, None) => ask_in(alloc, request),
@@ -57,20 +56,20 @@ fn step_in(
     }
 }
 
-fn ask_in(alloc: Global, request: &Value) -> Result<Step, FromJsonError>
-    ensures { ReadsAs result (option_map step.Ask (request_of (view request.now))) }
+fn ask_in<J: JsonValue>(alloc: Global, request: &J) -> Result<Step, FromJsonError>
+    ensures { ReadsAs result (option_map step.Ask (request_of (J.stands_for request.now))) }
 {
     Ok(Step::Ask(Request::from_json(alloc, request)?))
 }
 
-fn put_in(alloc: Global, file: &Value) -> Result<Step, FromJsonError>
-    ensures { ReadsAs result (option_map step.Put (file_of (view file.now))) }
+fn put_in<J: JsonValue>(alloc: Global, file: &J) -> Result<Step, FromJsonError>
+    ensures { ReadsAs result (option_map step.Put (file_of (J.stands_for file.now))) }
 {
     Ok(Step::Put(GivenFile::from_json(alloc, file)?))
 }
 
-fn removal_in(alloc: Global, path: &Value) -> Result<Step, FromJsonError>
-    ensures { ReadsAs result (option_map step.Remove (as_str (view path.now))) }
+fn removal_in<J: JsonValue>(alloc: Global, path: &J) -> Result<Step, FromJsonError>
+    ensures { ReadsAs result (option_map step.Remove (as_str (J.stands_for path.now))) }
 {
     Ok(Step::Remove(Text::from_json(alloc, path)?))
 }

@@ -6,5 +6,5 @@ use Rattle.document_core.proofs.given.bytes_of_hex.Goals as goal
 
 pub returns-in_ok-from_vec-in-Ok : goal.returns-in_ok-from_vec-in-Ok
 returns-in_ok-from_vec-in-Ok c =
-    let lower : list_all is_lower_hex_digit c.args.text.now ≡ true = search rules in
-    hex_read _ _ lower c.in-Ok.ensures.ok ∙ ap Some (sym c.in_ok-from_vec-in-Ok.ensures)
+    let lower : list_all is_lower_hex_digit c.in-Some.text.now ≡ true = search rules in
+    rw c.in-Some.is (hex_read _ _ lower c.in-Ok.ensures.ok ∙ ap Some (sym c.in_ok-from_vec-in-Ok.ensures))

@@ -1,5 +1,8 @@
-use Rattle.json_reading.proofs.JsonBytes.{json_of-read}
+use Rattle.std.proofs.Common.{sym, subst}
+use Rattle.std.specs.Result.{result_map_both}
+use Rattle.json_reading.specs.Reading.{ReadsAs}
+use Rattle.json_reading.proofs.JsonBytes.{json_of-text}
 use Rattle.json_reading.proofs.bytes.read_json.Goals as goal
 
-pub returns-in-Ok-from_str : goal.returns-in-Ok-from_str
-returns-in-Ok-from_str c = json_of-read _ _ _ c.in-Ok.ensures.cases.0 c.in-Ok.ensures.cases.1 c.in-Ok-from_str.ensures.ok
+pub returns-in-Ok : goal.returns-in-Ok
+returns-in-Ok c = subst (ReadsAs _) (sym (json_of-text _ _ c.in-Ok.ensures.cases.0 c.in-Ok.ensures.cases.1)) c.read_owned.ensures

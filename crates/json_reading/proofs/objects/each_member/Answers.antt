@@ -5,5 +5,5 @@ use Rattle.json_reading.proofs.objects.each_member.Goals as goal
 
 pub loop-name-init : goal.loop-name-init
 loop-name-init g c =
-    let all = read_into-nil g.T.FromJson.reads c.args.members.now.entries c.len.ensures.ordered in
+    let all = read_into-nil g.T.FromJson.reads g.J.JsonValue.stands_for c.args.members.items c.requires in
     grind (arith, common_steps)

@@ -5,14 +5,14 @@ use Rattle.document_core.proofs.given.GivenMappingFromJson.from_json.Goals as go
 
 pub returns-in_err-base_url : goal.returns-in_err-base_url
 unfolding mapping_of
-returns-in_err-base_url c = reads_stops _ _ _ _ c.from_residual.ensures.1 c.in_err-base_url.ensures
+returns-in_err-base_url g c = reads_stops _ _ _ _ c.from_residual.ensures.1 c.in_err-base_url.ensures
 
 pub returns-in_err-paths : goal.returns-in_err-paths
 unfolding mapping_of
-returns-in_err-paths c =
+returns-in_err-paths g c =
     reads_then _ _ _ c.in_ok-base_url.ensures
     (reads_stops _ _ _ _ c.from_residual-in_err-paths.ensures.1 c.in_err-paths.ensures)
 
 pub returns : goal.returns
 unfolding mapping_of
-returns c = some_then _ _ c.in_ok-base_url.ensures (some_then _ _ c.in_ok-paths.ensures refl)
+returns g c = some_then _ _ c.in_ok-base_url.ensures (some_then _ _ c.in_ok-paths.ensures refl)

@@ -5,14 +5,14 @@ use Rattle.document_core.proofs.given.RequestFromJson.from_json.Goals as goal
 
 pub returns-in_err-from : goal.returns-in_err-from
 unfolding request_of
-returns-in_err-from c = reads_stops _ _ _ _ c.from_residual.ensures.1 c.in_err-from.ensures
+returns-in_err-from g c = reads_stops _ _ _ _ c.from_residual.ensures.1 c.in_err-from.ensures
 
 pub returns-in_err-specifier : goal.returns-in_err-specifier
 unfolding request_of
-returns-in_err-specifier c =
+returns-in_err-specifier g c =
     reads_then _ _ _ c.in_ok-from.ensures
     (reads_stops _ _ _ _ c.from_residual-in_err-specifier.ensures.1 c.in_err-specifier.ensures)
 
 pub returns : goal.returns
 unfolding request_of
-returns c = some_then _ _ c.in_ok-from.ensures (some_then _ _ c.in_ok-specifier.ensures refl)
+returns g c = some_then _ _ c.in_ok-from.ensures (some_then _ _ c.in_ok-specifier.ensures refl)
