@@ -40,6 +40,8 @@ pub fn read_text<'a>(
     if !holds_number(&value) {
         return Ok(ReadJson::Borrowed(value));
     }
+    // The tree goes before another one is made.
+    drop(value);
     Ok(ReadJson::Owned(read_owned(alloc, text)?))
 }
 
