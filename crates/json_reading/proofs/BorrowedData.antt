@@ -14,7 +14,7 @@ use Rattle.json.specs.Json as json
 use Rattle.json.specs.Find as found
 use Rattle.json.specs.Value.{value_view, items_view, members_view}
 use Rattle.json.specs.declared.value.Value.{Value}
-use Rattle.serde_json.specs.Data.{Num, Data, Members, no_members, member, put, item}
+use Rattle.serde_json.specs.Data.{Num, Data, Members, no_members, put, item}
 use Rattle.serde_json.specs.Find.{get, get_member, as_array}
 use Rattle.serde_json.specs.Read.{number_of}
 use Rattle.serde_json.specs.View.{items_of}
@@ -97,6 +97,14 @@ told-member (Some v) = refl
 
 pub member-told : (name : List ℕ) (v : Value Global) (r : Option (Bor (Value Global))) → option_map (λ v. value_view v.now) r ≡ found.get name (value_view v) → option_map (λ v. told v.now) r ≡ get name (told v)
 member-told name v r is = told-member r ∙ ap (option_map data_of) is ∙ sym (get-data_of name (value_view v))
+
+told-given : (r : Option (Value Global)) → option_map told r ≡ option_map data_of (option_map value_view r)
+told-given None = refl
+told-given (Some v) = refl
+
+-- the same of a member that is given up
+pub member-given : (name : List ℕ) (v : Value Global) (r : Option (Value Global)) → option_map value_view r ≡ found.get name (value_view v) → option_map told r ≡ get name (told v)
+member-given name v r is = told-given r ∙ ap (option_map data_of) is ∙ sym (get-data_of name (value_view v))
 
 listed-match_ordering : (o : Ordering) (a b c : List (Bor (List ℕ) × Bor (Value Global))) → listed told (match_ordering o a b c) ≡ match_ordering o (listed told a) (listed told b) (listed told c)
 listed-match_ordering Less a b c = refl

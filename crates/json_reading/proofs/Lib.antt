@@ -1,5 +1,6 @@
 pub mod BorrowedData
 pub mod JsonBytes
+pub mod LastMembers
 pub mod ListedMembers
 pub mod MemberReadings
 pub mod Numberless

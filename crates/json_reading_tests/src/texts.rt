@@ -1,6 +1,8 @@
 // Texts read as values that borrow or own their texts.
 use json::Scratch;
-use json_reading::{FromJson, FromJsonError, Object, ReadJson, read_bytes, read_text};
+use json_reading::{
+    FromJson, FromJsonError, Object, ReadJson, into_items, into_member, read_bytes, read_text,
+};
 use std::test::Fail;
 use sugar_path::Text;
 
@@ -52,5 +54,20 @@ fn borrowed_members_stand_by_name(rt: HostRuntime) -> Result<(), Fail> {
     assert_eq!(rt; (name.as_str(), text.as_str()), ("a", "\n"));
     let (name, text) = texts.map.get_index(1).ok_or("a second member")?;
     assert_eq!(rt; (name.as_str(), text.as_str()), ("b", "3"));
+    Ok(())
+}
+
+// A value gives up its last member of a name, and that its items.
+#[test]
+fn a_borrowed_value_gives_up_its_parts(rt: HostRuntime) -> Result<(), Fail> {
+    let mut scratch = Scratch::new(rt.alloc());
+    let text = r#"{"rows": [], "rows": ["a", null], "other": "b"}"#;
+    let ReadJson::Borrowed(value) = read_text(rt.alloc(), text, &mut scratch)? else {
+        return Err(Fail::from("a value that owns its texts"));
+    };
+    let rows = into_member(value, "rows").ok_or("a member")?;
+    let items = into_items(rows).ok_or("items")?;
+    assert_eq!(rt; items.len(), 2);
+    assert!(rt; items[1].is_null());
     Ok(())
 }

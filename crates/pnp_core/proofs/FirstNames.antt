@@ -1,8 +1,9 @@
 -- The first name on the way from a folder to a path, as it stands in the path's text.
-use Rattle.std.proofs.Common.{◌≡◌, ◌≢◌, ◌+◌, ◌==◌, ℕ, suc, Bool, true, false, not, cond, List, [], ◌∷◌, ◌++◌, length, take, drop, refl, sym, ap, subst, ◌∙◌, arith}
+use Rattle.std.proofs.Common.{◌≡◌, ◌≢◌, ◌+◌, ◌==◌, ◌<◌, ℕ, zero, suc, Some, None, Bool, true, false, not, cond, List, [], ◌∷◌, ◌++◌, length, get_or, take, drop, refl, sym, ap, subst, ◌∙◌, arith}
 use Rattle.std.specs.List.{position_or_len, before_first}
 use Rattle.std.proofs.lemmas.List.{append_cancel_left, take_all}
 use Rattle.std.proofs.lemmas.Bool.Decides.{Decides-eqb}
+use Rattle.memchr.specs.Find.{IsFirstByte, is_byte}
 use Rattle.sugar_path.specs.Path.{Path, IsPath, has_no_slash, is_root, is_absolute, below, steps, text_of}
 use Rattle.sugar_path.proofs.Below.{below-tells, below-append, below-child, steps-append}
 use Rattle.sugar_path.proofs.Bools.{and_left, and_right}
@@ -33,8 +34,32 @@ before_first-append (c ∷ xs) ys = by_test (c == 47) (before_first-append xs ys
         rw (one, two) (ap (λ s. c ∷ s) rest)
 
 -- where there is no slash, all stands before the first one
-pub before_first-whole : (n : List ℕ) → position_or_len is_slash n ≡ length n → before_first is_slash n ≡ n
+before_first-whole : (n : List ℕ) → position_or_len is_slash n ≡ length n → before_first is_slash n ≡ n
 before_first-whole n e = rw e (take_all (length n) n (omega arith))
+
+-- the first slash that is found ends what stands before it
+position-found : (t : List ℕ) (n : ℕ) → n < length t → ((k : ℕ) → k < n → is_slash (get_or t k 0) ≡ true → ⊥) → is_slash (get_or t n 0) ≡ true → position_or_len is_slash t ≡ n
+position-found [] n less lacks hit = absurd (omega arith)
+position-found (x ∷ t) zero less lacks hit = rw hit refl
+position-found (x ∷ t) (suc n) less lacks hit = by_test (x == 47) refl (position-found t n (omega arith) (λ k l. lacks (suc k) (omega arith)) hit)
+  where
+    by_test : (b : Bool) → (x == 47) ≡ b → position_or_len is_slash t ≡ n → cond (not b) (1 + position_or_len is_slash t) 0 ≡ suc n
+    by_test true e rest = absurd (lacks 0 (omega arith) e)
+    by_test false e rest = omega (arith, rest)
+
+position-none : (t : List ℕ) → ((k : ℕ) → k < length t → is_slash (get_or t k 0) ≡ true → ⊥) → position_or_len is_slash t ≡ length t
+position-none [] lacks = refl
+position-none (x ∷ t) lacks = by_test (x == 47) refl (position-none t (λ k l. lacks (suc k) (omega arith)))
+  where
+    by_test : (b : Bool) → (x == 47) ≡ b → position_or_len is_slash t ≡ length t → cond (not b) (1 + position_or_len is_slash t) 0 ≡ suc (length t)
+    by_test true e rest = absurd (lacks 0 (omega arith) e)
+    by_test false e rest = omega (arith, rest)
+
+pub before_first-found : (t : List ℕ) (n : ℕ) → IsFirstByte (is_byte 47) t (Some n) → before_first is_slash t ≡ take n t
+before_first-found t n first = ap (λ k. take k t) (position-found t n first.0.high (λ k less. first.0.before k (omega arith) less) first.1)
+
+pub before_first-none : (t : List ℕ) → IsFirstByte (is_byte 47) t None → before_first is_slash t ≡ t
+before_first-none t none = before_first-whole t (position-none t (λ k less. none k (omega arith) less))
 
 -- the name behind the first slash of some steps leads on
 leading : (q l : Path) (names : List ℕ) → IsPath q → steps q ≡ 47 ∷ names → below (q ++ l) (before_first is_slash names ∷ l) ≡ true

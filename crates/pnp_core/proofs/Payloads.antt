@@ -1,5 +1,5 @@
 -- What is read of a manifest's text, one character at a time.
-use Rattle.std.proofs.Common.{◌≡◌, ◌≢◌, ◌<◌, ◌≤◌, ◌+◌, ◌/◌, ◌==◌, ◌⊎◌, ℕ, zero, suc, take, get_or, Bool, true, false, cond, List, [], ◌∷◌, ◌++◌, length, drop, append_assoc, refl, sym, ap, ◌∙◌, Option, Some, None, Bor, arith, inl, inr}
+use Rattle.std.proofs.Common.{◌≡◌, ◌≢◌, ◌<◌, ◌≤◌, ◌+◌, ◌-◌, ◌/◌, ◌==◌, ◌⊎◌, ℕ, zero, suc, take, get_or, Bool, true, false, cond, List, [], ◌∷◌, ◌++◌, length, drop, append_assoc, refl, sym, ap, ◌∙◌, Option, Some, None, Bor, arith, inl, inr}
 use Rattle.std.specs.Prelude.{option_map, MatchOption, nat_lt, nat_le}
 use Rattle.std.specs.List.{AllByRecursion}
 use Rattle.std.specs.Str.Pattern.{FindsTextPrefix, StripsPrefix, LacksTextAt}
@@ -141,6 +141,10 @@ quoted-run (x ∷ t) (suc n) h none =
     by_tests true b e f = absurd (none 0 (omega arith) (rw e refl))
     by_tests false true e f = absurd (none 0 (omega arith) (rw (e, f) refl))
     by_tests false false e f = rw (e, f) refl
+
+-- where a range from the start ends
+pub from_start : (n : ℕ) → n - 0 ≡ n
+from_start n = omega arith
 
 pub quoted-cut : (t : List ℕ) (n : ℕ) → IsFirstByte (is_byte2 39 92) t (Some n) → quoted t ≡ take n t ++ quoted (drop n t)
 quoted-cut t n first = quoted-run t n (omega (arith, first.0.high)) (λ k less. first.0.before k (omega arith) less)

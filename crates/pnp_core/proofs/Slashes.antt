@@ -1,7 +1,9 @@
 -- A text with `/` in place of `\`, and names in the order of a text.
-use Rattle.std.proofs.Common.{sym, bytes_eq, inr, inl, ◌⊎◌, ◌≢◌, ◌≡◌, ℕ, suc, ◌+◌, ◌-◌, ◌<◌, ◌==◌, ◌||◌, Bool, true, false, not, cond, List, [], ◌∷◌, ◌++◌, length, get_or, take, drop, map, reverse, refl, ap, subst, ◌∙◌, arith}
+use Rattle.std.proofs.Common.{sym, bytes_eq, inr, inl, Option, Some, None, ◌⊎◌, ◌≢◌, ◌≡◌, ℕ, suc, ◌+◌, ◌-◌, ◌<◌, ◌==◌, ◌||◌, Bool, true, false, not, cond, List, [], ◌∷◌, ◌++◌, length, get_or, take, drop, map, reverse, refl, ap, subst, ◌∙◌, arith}
+use Rattle.std.specs.Prelude.{is_some}
 use Rattle.std.specs.List.{onto_first, position_or_len, before_first, after_first}
 use Rattle.std.proofs.lemmas.List.{map-append, reverse-append}
+use Rattle.memchr.specs.Find.{IsFirstByte, is_byte}
 use Rattle.sugar_path.specs.Path.{Path, IsPath, IsCleanPath, parts, is_absolute, ends_in_slash, by_parts, clean}
 use Rattle.pnp_core.specs.NormalizePath.{pieces, location_path, by_relative_part, by_relative_parts, relative_names}
 use Rattle.pnp_core.specs.Slashed.{slashed, names_of}
@@ -17,6 +19,19 @@ slashed-none (x ∷ xs) e = by_test (x == 92) e (slashed-none xs)
     by_test : (b : Bool) → cond (not b) (1 + position_or_len (λ c. c == 92) xs) 0 ≡ suc (length xs) → (position_or_len (λ c. c == 92) xs ≡ length xs → slashed xs ≡ xs) → cond b 47 x ∷ slashed xs ≡ x ∷ xs
     by_test true e rest = absurd (omega arith)
     by_test false e rest = ap (λ s. x ∷ s) (rest (omega arith))
+
+-- the same, where no byte is found that is a `\`
+pub slashed-lacks : (t : List ℕ) (r : Option ℕ) → IsFirstByte (is_byte 92) t r → is_some r ≡ false → slashed t ≡ t
+slashed-lacks t (Some n) first is = absurd (cc)
+slashed-lacks t None none is = by_bytes t (λ k less. none k (omega arith) less)
+  where
+    by_bytes : (t : List ℕ) → ((k : ℕ) → k < length t → is_byte 92 (get_or t k 0) ≡ true → ⊥) → slashed t ≡ t
+    by_bytes [] lacks = refl
+    by_bytes (x ∷ xs) lacks = by_test (x == 92) refl (by_bytes xs (λ k less. lacks (suc k) (omega arith)))
+      where
+        by_test : (b : Bool) → (x == 92) ≡ b → slashed xs ≡ xs → cond b 47 x ∷ slashed xs ≡ x ∷ xs
+        by_test true e rest = absurd (lacks 0 (omega arith) e)
+        by_test false e rest = ap (λ s. x ∷ s) rest
 
 -- the first `\` becomes a `/`, and the rest goes on
 pub slashed-first : (t : List ℕ) → position_or_len (λ c. c == 92) t < length t → slashed t ≡ before_first (λ c. c == 92) t ++ 47 ∷ slashed (after_first (λ c. c == 92) t)

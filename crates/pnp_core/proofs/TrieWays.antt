@@ -7,7 +7,7 @@ use Rattle.sugar_path.specs.PathEq.{path_eq-Decides}
 use Rattle.sugar_path.proofs.Below.{below-tells, below-append, below-through, below-same, below-child, below-root}
 use Rattle.pnp_core.specs.declared.trie_nodes.Node.{Node}
 use Rattle.pnp_core.specs.Trie.{Locations, value_at, nearest_value}
-use Rattle.pnp_core.specs.Nodes.{location_at, value_in, child_at, stored, IsTrie, AreTrie, IsDeepest}
+use Rattle.pnp_core.specs.Nodes.{location_at, value_in, child_at, stored, IsTrie, AreTrie, IsNext, IsEnd}
 use Rattle.pnp_core.proofs.Belows.{below-length, below-child_of_it, below-parent, below-next, below-one_name}
 use Rattle.pnp_core.proofs.Tries.{bytes_eq-text_of}
 
@@ -74,6 +74,26 @@ no_node ns p t hp none = value_at-none ns p hp t.paths none
 pub at_node : {T : Type 0} (ns : List (Node T)) (i : ℕ) → AreTrie ns → i < length ns → value_at (stored ns) (location_at ns i) ≡ value_in ns i
 at_node ns i t lt = value_at-node ns i lt t.paths t.distinct
 
+-- ---- the next child
+
+-- the child of a name by which a path leaves a node is the next one
+pub next_child_of : {T : Type 0} (ns : List (Node T)) (i : ℕ) (p : Path) (name : List ℕ) (o : Option ℕ) → below p (name ∷ location_at ns i) ≡ true → o ≡ child_at ns i name → IsNext ns i p o
+next_child_of ns i p name None h is = λ k g. let one : k ≡ name = below-one_name p (location_at ns i) k name g h in rw one (sym is)
+next_child_of ns i p name (Some c) h is = (name, h, sym is)
+
+-- and the next one is the child of each such name
+pub next_child_at : {T : Type 0} (ns : List (Node T)) (i : ℕ) (p : Path) (name : List ℕ) (o : Option ℕ) → IsNext ns i p o → below p (name ∷ location_at ns i) ≡ true → child_at ns i name ≡ o
+next_child_at ns i p name None next h = next name h
+next_child_at ns i p name (Some c) next h = let one : name ≡ next.0 = below-one_name p (location_at ns i) name next.0 h next.1 in rw one next.2
+
+-- where the way to a path ends, no child is on it
+not_further : {T : Type 0} (ns : List (Node T)) (i : ℕ) (p : Path) (name : List ℕ) (c : ℕ) (o : Option ℕ) → IsEnd ns i p o → below p (name ∷ location_at ns i) ≡ true → child_at ns i name ≡ Some c → below p (location_at ns c) ≡ false
+not_further ns i p name c None end h is = absurd (let no : None ≡ Some c = sym (end.0 name h) ∙ is in cc)
+not_further ns i p name c (Some d) end h is =
+    let both : Some d ≡ Some c = sym (next_child_at ns i p name (Some d) end.0 h) ∙ is in
+    let same : c ≡ d = cc in
+    rw same end.1
+
 -- ---- the nearest value
 
 IsPath-folder : (q l : Path) → IsPath (q ++ l) → IsPath l
@@ -91,9 +111,9 @@ nearest_value-passed t (n ∷ q) l none =
     longer : (n : List ℕ) (q l : Path) → (n ∷ q) ++ l ≢ l
     longer n q l e = below-child_of_it (q ++ l) n (rw e (below-append q l))
 
--- at the deepest node on the way to a path
-pub nearest_value-deepest : {T : Type 0} (ns : List (Node T)) (at : ℕ) (p : Path) → AreTrie ns → at < length ns → IsPath p → below p (location_at ns at) ≡ true → IsDeepest ns at p → nearest_value (stored ns) p ≡ nearest_value (stored ns) (location_at ns at)
-nearest_value-deepest {T} ns at p t lt hp h deepest =
+-- at the node where the way to a path ends
+pub nearest_value-end : {T : Type 0} (ns : List (Node T)) (at : ℕ) (p : Path) (o : Option ℕ) → AreTrie ns → at < length ns → IsPath p → below p (location_at ns at) ≡ true → IsEnd ns at p o → nearest_value (stored ns) p ≡ nearest_value (stored ns) (location_at ns at)
+nearest_value-end {T} ns at p o t lt hp h end =
     let w = below-tells p (location_at ns at) h in
     ap (nearest_value (stored ns)) w.1 ∙ nearest_value-passed (stored ns) w.0 (location_at ns at) (λ x g k other. empty x (rw (← w.1) at g) k other)
   where
@@ -108,7 +128,7 @@ nearest_value-deepest {T} ns at p t lt hp h deepest =
         not_there j ltj e (inr m) =
             let way = t.routed at j m.0 lt ltj (rw e m.1) in
             let through : below p (location_at ns way.0) ≡ true = below-through p x (location_at ns way.0) g (rw e at way.2) in
-            let no : true ≡ false = sym through ∙ deepest m.0 way.0 (below-through p x (m.0 ∷ location_at ns at) g m.1) way.1 in
+            let no : true ≡ false = sym through ∙ not_further ns at p m.0 way.0 o end (below-through p x (m.0 ∷ location_at ns at) g m.1) way.1 in
             cc
 
 -- at a child on the way

@@ -81,15 +81,14 @@ texts_in d = option_map (set.insert_all bytes_eq []) (list_by as_str d)
 abbrev pub exclusions_in : Data → Option (List (List ℕ × List (List ℕ)))
 exclusions_in d = option_map entries_of (list_by (pair_by as_str texts_in) d)
 
--- the fields of a manifest, and the text of its ignore pattern; others are passed over. It has no folder, no path and no pattern yet
-unfoldable pub fields_in : Data → Option (Contents × Option (List ℕ))
-fields_in d = do
+-- the fields of a manifest but its registry, and the text of its ignore pattern; others are passed over. It has no folder, no path and no pattern yet
+unfoldable pub fields_but_registry : Data → Option (Contents × Option (List ℕ))
+fields_but_registry d = do
   fallback ← field_by (codes "enableTopLevelFallback") as_bool d
   pattern ← field_or (codes "ignorePatternData") None (nullable_by as_str) d
   roots ← field_by (codes "dependencyTreeRoots") roots_in d
   pool ← field_by (codes "fallbackPool") dependencies_in d
   exclusions ← field_by (codes "fallbackExclusionList") exclusions_in d
-  registry ← field_by (codes "packageRegistryData") registry_in d
   Some (
     record {
       manifest_dir = [];
@@ -99,10 +98,20 @@ fields_in d = do
       dependency_tree_roots = roots;
       fallback_pool = pool;
       fallback_exclusion_list = exclusions;
-      package_registry_data = registry;
+      package_registry_data = [];
     },
     pattern,
   )
+
+abbrev pub with_registry : Contents → Registry → Contents
+with_registry m registry = record m { package_registry_data = registry }
+
+-- the fields of a manifest, and the text of its ignore pattern
+unfoldable pub fields_in : Data → Option (Contents × Option (List ℕ))
+fields_in d = do
+  read ← fields_but_registry d
+  registry ← field_by (codes "packageRegistryData") registry_in d
+  Some (with_registry read.0 registry, read.1)
 
 -- a manifest gets its ignore pattern, where its text is one
 abbrev pub with_pattern : Contents → Option Tree → Result Contents HydrationCause

@@ -1,5 +1,5 @@
 -- What the nodes of a trie hold, and how they lead to one another. No public clause names these.
-use Rattle.std.specs.Prelude.{◌≡◌, ◌≢◌, ◌<◌, ℕ, suc, true, false, if◌then◌else◌, IsSome, List, [], ◌∷◌, length, map, get_or, Option, Some, None, option_map, bytes_eq, string_bytes, String}
+use Rattle.std.specs.Prelude.{◌≡◌, ◌≢◌, ◌<◌, ℕ, suc, true, false, if◌then◌else◌, IsSome, IfSome, List, [], ◌∷◌, length, map, get_or, Option, Some, None, option_map, bytes_eq, string_bytes, String}
 use Rattle.std.specs.List.{filter_map}
 use Rattle.std.specs.Map.{lookup}
 use Rattle.std.specs.BTreeMap.{BTreeMap}
@@ -72,15 +72,16 @@ abbrev pub AreNeeded : {T : Type 0} → List (Node T) → ℕ → Type 0
 AreNeeded ns but =
     (i : ℕ) → i < length ns → i ≢ 0 → i ≢ but → value_in ns i ≡ None → Parts ns i
 
--- a child of a node, on the way to a path
-abbrev pub IsWay : {T : Type 0} → List (Node T) → ℕ → Path → ℕ → Type 0
-IsWay ns i p c =
-    (name : List ℕ) × (child_at ns i name ≡ Some c) × (below p (location_at ns c) ≡ true)
+-- the child of the name by which the way to a path leaves a node, if there is one
+abbrev pub IsNext : {T : Type 0} → List (Node T) → ℕ → Path → Option ℕ → Type 0
+IsNext ns i p None = (name : List ℕ) → below p (name ∷ location_at ns i) ≡ true → child_at ns i name ≡ None
+IsNext ns i p (Some c) =
+    (name : List ℕ) × (below p (name ∷ location_at ns i) ≡ true) × (child_at ns i name ≡ Some c)
 
--- no child of a node is on the way to a path
-abbrev pub IsDeepest : {T : Type 0} → List (Node T) → ℕ → Path → Type 0
-IsDeepest ns i p =
-    (name : List ℕ) (c : ℕ) → below p (name ∷ location_at ns i) ≡ true → child_at ns i name ≡ Some c → below p (location_at ns c) ≡ false
+-- the way to a path ends at a node: its child of that name isn't above the path
+abbrev pub IsEnd : {T : Type 0} → List (Node T) → ℕ → Path → Option ℕ → Type 0
+IsEnd ns i p o =
+    IsNext ns i p o × IfSome o (λ c. below p (location_at ns c) ≡ false)
 
 -- the nodes are as before, as far as a trie goes
 pub record AreSame {T : Type 0} (old new : List (Node T)) : Type 0 where

@@ -103,7 +103,8 @@ impl<T: FromJson + Eq + Hash> FromJson for Members<T> {
     }
 }
 
-// The map of an array's pairs: each is put in as it is read.
+// The map of an array's pairs: each is put in as it is read. A manifest has many maps, most of one or a few pairs, so each gives back
+// the room that it doesn't use.
 fn entries_of_items<V: FromJson, J: JsonValue>(
     alloc: Global,
     items: &[J],
@@ -116,6 +117,7 @@ fn entries_of_items<V: FromJson, J: JsonValue>(
         let (name, member) = <(Text, V)>::from_json(alloc, item)?;
         map.insert(name, member)?;
     }
+    map.shrink_to_fit();
     Ok(Entries { map })
 }
 
@@ -132,6 +134,7 @@ fn named_entries_of_items<V: FromJson, J: JsonValue>(
         let (name, member) = <(Option<Text>, V)>::from_json(alloc, item)?;
         map.insert(name_or_empty(alloc, name), member)?;
     }
+    map.shrink_to_fit();
     Ok(NullableEntries { map })
 }
 

@@ -14,6 +14,7 @@ use crate::normalize::{location, text_with_end, with_room};
 use crate::registry::package_of;
 use crate::{Manifest, PackageDependency, PackageInformation, PackageLocator, Trie};
 use indexmap::IndexMap;
+use memchr::memchr;
 use std::alloc::{AllocError, Global};
 use sugar_path::{CleanPath, Text, is_clean};
 
@@ -169,10 +170,7 @@ fn is_plain(text: &str) -> bool
 fn has_no_backslash(text: &str) -> bool
     ensures { IsTrue result → slashed text.now ≡ text.now }
 {
-    match text.split_once('\\') {
-        None => true,
-        Some(_) => false,
-    }
+    memchr(b'\\', text.as_bytes()).is_none()
 }
 
 // A text without the `/` at its end.

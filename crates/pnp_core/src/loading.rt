@@ -11,10 +11,11 @@ ghost use Rattle.pnp_core.specs.Refusal.{pnp, IsOfManifest};
 ghost use Rattle.pnp_core.specs.Wording.{cause_message};
 ghost use Rattle.pnp_core.specs.Wording as wording;
 
+use crate::payload::payload_in;
 use crate::readers::manifest_of_json;
 use crate::{
     Error, FailedManifestHydration, HydrationCause, Manifest, PackageLocator, ReadManifestError,
-    has_package, init_pnp_manifest, payload_of,
+    has_package, init_pnp_manifest,
 };
 use std::alloc::{AllocError, Global};
 use sugar_path::{Bytes, CleanPath, Text};
@@ -82,7 +83,7 @@ pub fn manifest_of_bytes(
     ensures decided { IsDecided result (reading (Some bytes.now) path.now) }
     ensures ready { IfOk result IsReady }
 {
-    match str::from_utf8(bytes.as_slice()) {
+    match simdutf8::basic::from_utf8(bytes.as_slice()) {
         Ok(text) => manifest_of_text(alloc, text, path),
         Err(_) => Err(ResolveError::Refused(HydrationCause::NotText)),
     }
@@ -97,7 +98,7 @@ fn manifest_of_text(
     ensures decided { IsDecided result (from_text path.now text.now) }
     ensures ready { IfOk result IsReady }
 {
-    match payload_of(alloc, text)? {
+    match payload_in(alloc, text)? {
         Some(payload) => manifest_of_payload(alloc, payload.as_str(), path),
         None => Err(ResolveError::Refused(HydrationCause::NoPayload)),
     }

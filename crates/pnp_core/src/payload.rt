@@ -1,19 +1,31 @@
 // The JSON text inside a manifest's program file.
 ghost use Rattle.std.specs.Prelude.{◌≡◌, IfOk, option_map, string_bytes};
+ghost use Rattle.std.specs.Cow.{cow_str_bytes};
 ghost use Rattle.sugar_path.specs.Front.{after};
 ghost use Rattle.pnp_core.specs.Payload.{payload, quoted, after_leftmost, after_opening, after_constant, after_call, is_blank, after_blank, after_blanks};
 
 use memchr::memchr2;
 use std::alloc::{AllocError, Global};
+use std::borrow::CowStr;
 use sugar_path::Text;
 
 /// The payload of a manifest's text: what stands between the quotes behind the leftmost of the two openings that Yarn writes.
 pub fn payload_of(alloc: Global, text: &str) -> Result<Option<Text>, AllocError>
     ensures { IfOk result (λ found. found ≡ payload text.now) }
 {
+    match payload_in(alloc, text)? {
+        None => Ok(None),
+        Some(payload) => Ok(Some(Text::from(payload.into_owned(alloc)?))),
+    }
+}
+
+/// The same, lent where no character of it is escaped.
+pub(crate) fn payload_in(alloc: Global, text: &str) -> Result<Option<CowStr<'_>>, AllocError>
+    ensures { IfOk result (λ found. option_map cow_str_bytes found ≡ payload text.now) }
+{
     match after_leftmost(text) {
         None => Ok(None),
-        Some(rest) => Ok(Some(Text::from(quoted(alloc, rest)?))),
+        Some(rest) => Ok(Some(quoted(alloc, rest)?)),
     }
 }
 
@@ -96,8 +108,20 @@ fn is_blank(c: char) -> bool
     c == ' ' || c == '\r' || c == '\n'
 }
 
-// What stands up to the closing quote, with each escaped character in place of its escape. It is taken in runs between the escapes.
-fn quoted(alloc: Global, text: &str) -> Result<String, AllocError>
+// What stands up to the closing quote, with each escaped character in place of its escape.
+fn quoted(alloc: Global, text: &str) -> Result<CowStr<'_>, AllocError>
+    ensures { IfOk result (λ s. cow_str_bytes s ≡ quoted text.now) }
+{
+    let bytes = text.as_bytes();
+    match memchr2(b'\'', b'\\', bytes) {
+        None => Ok(CowStr::Borrowed(text)),
+        Some(end) if bytes[end] == b'\'' => Ok(CowStr::Borrowed(&text[..end])),
+        Some(_) => Ok(CowStr::Owned(unescaped(alloc, text)?)),
+    }
+}
+
+// The same in a string of its own. It is taken in runs between the escapes.
+fn unescaped(alloc: Global, text: &str) -> Result<String, AllocError>
     ensures { IfOk result (λ s. string_bytes s ≡ quoted text.now) }
 {
     let mut made = String::with_capacity(alloc, text.len())?;

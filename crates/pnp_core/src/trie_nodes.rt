@@ -1,10 +1,12 @@
 // The nodes of a trie of locations.
-ghost use Rattle.std.specs.Prelude.{◌≡◌, ◌<◌, ◌∷◌, false, length, IsTrue, IfOk, IfSome, OnOk, OnErr, MatchOption, IsSome, suc, None, Some, string_bytes, vec_capacity};
+ghost use Rattle.std.specs.Prelude.{◌≡◌, ◌<◌, ◌==◌, ◌∷◌, false, length, IsTrue, IfOk, IfSome, OnOk, OnErr, MatchOption, IsSome, suc, None, Some, string_bytes, vec_capacity};
+ghost use Rattle.std.specs.List.{before_first};
 ghost use Rattle.std.specs.Option.{option_or};
 ghost use Rattle.sugar_path.specs.Path.{IsPath, below, steps};
 ghost use Rattle.pnp_core.specs.Trie.{nearest_value, IsShared};
-ghost use Rattle.pnp_core.specs.Nodes.{location_at, child_at, value_in, stored, value_of, AreTrie, AreNeeded, AreSame, IsWay, IsDeepest, IsLed, Attaches, IsParting, IsNodeOf, IsLeaf, PutsBetween, PutsBeside, place_of};
+ghost use Rattle.pnp_core.specs.Nodes.{location_at, child_at, value_in, stored, value_of, AreTrie, AreNeeded, AreSame, IsNext, IsEnd, IsLed, Attaches, IsParting, IsNodeOf, IsLeaf, PutsBetween, PutsBeside, place_of};
 
+use memchr::memchr;
 use std::alloc::{AllocError, Global};
 use std::collections::BTreeMap;
 use sugar_path::CleanPath;
@@ -36,9 +38,9 @@ pub(crate) fn nearest<T>(nodes: &[Node<T>], path: &CleanPath) -> Option<NodeId>
     let mut nearest = None;
     loop {
         nearest = own_or(nodes, at, nearest);
-        match child_towards(nodes, at, path) {
-            None => return nearest,
-            Some(child) => at = child,
+        match next_child(nodes, at, path) {
+            Some(child) if is_above(nodes, child, path) => at = child,
+            _ => return nearest,
         }
     }
 }
@@ -57,37 +59,14 @@ fn own_or<T>(nodes: &[Node<T>], at: NodeId, nearest: Option<NodeId>) -> Option<N
     }
 }
 
-// The deepest node whose location a path is or lies below.
-fn deepest<T>(nodes: &[Node<T>], path: &CleanPath) -> NodeId
-    requires trie { AreTrie nodes.now }
-    requires some { 0 < length nodes.now }
-    ensures place { result.0 < length nodes.now }
-    ensures above { IsTrue (below path.now (location_at nodes.now result.0)) }
-    ensures deepest { IsDeepest nodes.now result.0 path.now }
-{
-    let mut at = NodeId(0);
-    while let Some(child) = child_towards(nodes, at, path) {
-        at = child;
-    }
-    at
-}
-
-// The child of a node whose location a path below the node is or lies below.
-fn child_towards<T>(nodes: &[Node<T>], at: NodeId, path: &CleanPath) -> Option<NodeId>
-    requires trie { AreTrie nodes.now }
+// The child of the name by which the way to a path leaves a node whose location the path is or lies below.
+fn next_child<T>(nodes: &[Node<T>], at: NodeId, path: &CleanPath) -> Option<NodeId>
     requires place { at.0 < length nodes.now }
     requires above { IsTrue (below path.now (location_at nodes.now at.0)) }
-    ensures { MatchOption result
-        (IsDeepest nodes.now at.0 path.now)
-        (λ child. IsWay nodes.now at.0 path.now child.0) }
+    ensures { IsNext nodes.now at.0 path.now (place_of result) }
 {
     let name = first_name_below(path, &nodes[at.0].location)?;
-    let child = child_of(nodes, at, name)?;
-    if is_above(nodes, child, path) {
-        Some(child)
-    } else {
-        None
-    }
+    child_of(nodes, at, name)
 }
 
 // Whether a path is the location of a node or lies below it.
@@ -111,9 +90,16 @@ fn first_name_below<'a>(path: &'a CleanPath, folder: &CleanPath) -> Option<&'a s
     }
     let above = steps_of(folder);
     let names = path.as_str().strip_prefix(above)?.strip_prefix('/')?;
-    match names.split_once('/') {
-        Some((name, _)) => Some(name),
-        None => Some(names),
+    Some(first_of(names))
+}
+
+// The first of some names.
+fn first_of(names: &str) -> &str
+    ensures { result.now ≡ before_first (λ c. c == 47) names.now }
+{
+    match memchr(b'/', names.as_bytes()) {
+        Some(end) => &names[..end],
+        None => names,
     }
 }
 
@@ -140,14 +126,14 @@ pub(crate) fn node_at<T: Drop>(
     ensures err { OnErr result (AreNeeded nodes.new.items 0) }
 {
     make_root(alloc, nodes)?;
-    let at = deepest(nodes, &location);
-    let Some(name) = first_name_below(&location, &nodes[at.0].location) else {
-        return Ok(at);
+    let WayEnd { node, beside } = way_end(nodes, &location);
+    let Some(name) = first_name_below(&location, &nodes[node.0].location) else {
+        return Ok(node);
     };
     let name = String::from_str(alloc, name)?;
-    match child_of(nodes, at, name.as_str()) {
-        None => attach(alloc, nodes, at, name, location),
-        Some(child) => part(alloc, nodes, at, name, child, location),
+    match beside {
+        None => attach(alloc, nodes, node, name, location),
+        Some(child) => part(alloc, nodes, node, name, child, location),
     }
 }
 
@@ -164,6 +150,31 @@ fn make_root<T: Drop>(alloc: Global, nodes: &mut Vec<Node<T>>) -> Result<(), All
         nodes.push(leaf(alloc, CleanPath::root(alloc)))?;
     }
     Ok(())
+}
+
+// A node at which the way to a path ends.
+struct WayEnd {
+    // the deepest node whose location the path is or lies below
+    node: NodeId,
+    // its child of the name by which the path goes on, so that it needn't be searched again
+    beside: Option<NodeId>,
+}
+
+// Where the way to a path ends.
+fn way_end<T>(nodes: &[Node<T>], path: &CleanPath) -> WayEnd
+    requires trie { AreTrie nodes.now }
+    requires some { 0 < length nodes.now }
+    ensures place { result.node.0 < length nodes.now }
+    ensures above { IsTrue (below path.now (location_at nodes.now result.node.0)) }
+    ensures end { IsEnd nodes.now result.node.0 path.now (place_of result.beside) }
+{
+    let mut node = NodeId(0);
+    loop {
+        match next_child(nodes, node, path) {
+            Some(child) if is_above(nodes, child, path) => node = child,
+            beside => return WayEnd { node, beside },
+        }
+    }
 }
 
 // A node without value and children.

@@ -1,4 +1,5 @@
 pub mod TextParts
+pub mod Wildcards
 pub mod Patterns
 pub mod MappedOrders
 pub mod KeptAnswers

@@ -18,6 +18,7 @@ pub mod Agreed
 pub mod LentWays
 pub mod Lanes
 pub mod PlaceParts
+pub mod NameWays
 pub mod SharedTexts
 pub mod StdPaths
 pub mod Upwards

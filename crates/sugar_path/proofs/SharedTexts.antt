@@ -1,5 +1,5 @@
 -- The way from a place to another, by what is left of both behind the text that they share.
-use Rattle.std.proofs.Common.{◌≡◌, ◌==◌, ◌+◌, ◌-◌, ◌<◌, ◌≤◌, ℕ, zero, suc, Bool, true, false, cond, List, [], ◌∷◌, ◌++◌, length, take, drop, get_or, bytes_eq, nat_eq, replicate, refl, sym, ap, ◌∙◌, append_assoc, append-nil, arith, length-drop}
+use Rattle.std.proofs.Common.{◌≡◌, ◌==◌, ◌+◌, ◌-◌, ◌<◌, ◌≤◌, ℕ, zero, suc, Bool, true, false, cond, List, [], ◌∷◌, ◌++◌, length, take, drop, get_or, bytes_eq, nat_eq, replicate, reverse, refl, sym, ap, ◌∙◌, append_assoc, append-nil, arith, length-drop}
 use Rattle.std.specs.Prelude.{Option, Some, None, IfSome}
 use denote.Ref.{Bor}
 use Rattle.std.specs.List.{common_prefix_len, join_with_byte}
@@ -8,11 +8,14 @@ use Rattle.std.proofs.lemmas.List.{take-append-drop, take_more, take_all, length
 use Rattle.std.proofs.lemmas.List.Sums.{common_prefix_len-le}
 use Rattle.memchr.specs.Find.{IsLastByte, is_byte}
 use Rattle.sugar_path.specs.ComponentTypes.{parts_if}
-use Rattle.sugar_path.specs.Path.{parts, with_slash}
-use Rattle.sugar_path.specs.Route.{Route, route_of, route_parts, place}
+use Rattle.sugar_path.specs.Names.{closed}
+use Rattle.sugar_path.specs.Path.{is_absolute, parts, path_in}
+use Rattle.sugar_path.specs.Route.{Route, Rooted, route_of, route_parts, place}
 use Rattle.sugar_path.specs.Reading.{IsPlaceOf}
-use Rattle.sugar_path.specs.Relative.{between}
+use Rattle.sugar_path.specs.Relative.{between, way}
 use Rattle.sugar_path.specs.SharedTexts.{SharesSlash}
+use Rattle.sugar_path.proofs.Agreed.{route_of-absolute}
+use Rattle.sugar_path.proofs.NameWays.{closed-popped}
 use Rattle.sugar_path.proofs.Parts.{parts-slash}
 use Rattle.sugar_path.proofs.Placed.{IsPath-route_of}
 use Rattle.sugar_path.proofs.WayParts.{between-shared, between-apart, way-rest}
@@ -75,14 +78,23 @@ way-written base target left rest r s ups u from to way apart count text =
     ∙ ap (λ ps. join_with_byte 47 (between ps (parts_if target))) from
     ∙ ap (λ ps. join_with_byte 47 (between (route_parts r) ps)) to
 
-pub rest-written : (rest : Option (Bor (List ℕ))) (text : Bor (List ℕ)) (ups : ℕ) (t u : List ℕ) → rest ≡ Some text → t ≡ join_with_byte 47 (replicate ups (46 ∷ 46 ∷ [])) → u ≡ with_slash t ++ text.now → u ≡ join_with_byte 47 (replicate ups (46 ∷ 46 ∷ []) ++ parts_if rest)
+pub rest-written : (rest : Option (Bor (List ℕ))) (text : Bor (List ℕ)) (ups : ℕ) (t u : List ℕ) → rest ≡ Some text → t ≡ closed (replicate ups (46 ∷ 46 ∷ [])) → u ≡ t ++ text.now → u ≡ join_with_byte 47 (replicate ups (46 ∷ 46 ∷ []) ++ parts_if rest)
 rest-written rest text ups t u is dots more = way-rest ups t u text.now dots more ∙ ap (λ o. join_with_byte 47 (replicate ups (46 ∷ 46 ∷ []) ++ parts_if o)) (sym is)
 
-pub none-written : (rest : Option (Bor (List ℕ))) (ups : ℕ) (t : List ℕ) → rest ≡ None → t ≡ join_with_byte 47 (replicate ups (46 ∷ 46 ∷ [])) → t ≡ join_with_byte 47 (replicate ups (46 ∷ 46 ∷ []) ++ parts_if rest)
-none-written rest ups t is dots =
-    dots
+pub none-written : (rest : Option (Bor (List ℕ))) (ups n : ℕ) (t u : List ℕ) → rest ≡ None → t ≡ closed (replicate ups (46 ∷ 46 ∷ [])) → n ≡ length t → u ≡ take (n - 1) t → u ≡ join_with_byte 47 (replicate ups (46 ∷ 46 ∷ []) ++ parts_if rest)
+none-written rest ups n t u is dots count cut =
+    closed-popped (replicate ups (46 ∷ 46 ∷ [])) n t u dots count cut
     ∙ ap (join_with_byte 47) (sym (append-nil (replicate ups (46 ∷ 46 ∷ []))))
     ∙ ap (λ o. join_with_byte 47 (replicate ups (46 ∷ 46 ∷ []) ++ parts_if o)) (sym is)
+
+-- ---- two absolute paths, by their names in order
+pub way-rooted : (base target : List ℕ) (from to : List (List ℕ)) → is_absolute base ≡ true → is_absolute target ≡ true → from ≡ reverse (path_in base) → to ≡ reverse (path_in target) → join_with_byte 47 (between from to) ≡ way (route_of base) (route_of target)
+unfolding way
+way-rooted base target from to h k left right =
+    ap (λ ps. join_with_byte 47 (between ps to)) left
+    ∙ ap (λ ps. join_with_byte 47 (between (reverse (path_in base)) ps)) right
+    ∙ ap (λ r. way r (Rooted (path_in target))) (sym (route_of-absolute base h))
+    ∙ ap (way (route_of base)) (sym (route_of-absolute target k))
 
 -- ---- a place is that of its path's route
 pub place-of : (t u : List ℕ) → u ≡ place t → IsPlaceOf (route_of t) u

@@ -1,13 +1,14 @@
 -- The way from one list of parts to another.
 use Rattle.std.proofs.Common.{◌||◌, not, reverse, ◌≡◌, ◌≢◌, ℕ, zero, suc, ◌+◌, ◌-◌, Bool, true, false, cond, List, [], ◌∷◌, ◌++◌, length, drop, bytes_eq, replicate, refl, sym, ap, ◌∙◌, append_assoc, arith}
-use Rattle.std.proofs.lemmas.List.{replicate_more}
 use Rattle.sugar_path.specs.Path.{IsPath, with_slash, ends_in_slash, is_absolute, join, parts}
 use Rattle.sugar_path.specs.Route.{Route, Rooted, Relative, route_names, route_parts, is_rooted, route_of}
+use Rattle.sugar_path.specs.Names.{closed}
 use Rattle.sugar_path.specs.Relative.{between, same_start, way, needs_folder, relative_from}
 use Rattle.sugar_path.specs.Reading.{IsPart}
 use Rattle.std.proofs.lemmas.Bool.Decides.{Decides-eqb}
 use Rattle.std.proofs.lemmas.Slice.Eq.{bytes_eq-Decides}
-use Rattle.sugar_path.proofs.RouteTexts.{joined-push, with_slash-joined, replicate-dots, reverse-names, AllByRecursion-append}
+use Rattle.sugar_path.proofs.NameWays.{closed-joined}
+use Rattle.sugar_path.proofs.RouteTexts.{replicate-dots, reverse-names, AllByRecursion-append}
 use Rattle.sugar_path.proofs.Parts.{HasNoSlash, parts-some}
 use Rattle.sugar_path.proofs.Placed.{route_of-rooted, parts-join}
 use Rattle.std.proofs.lemmas.List.Splits.{join_with_byte-slice_split}
@@ -20,29 +21,21 @@ prefix_len-zip e (x ∷ xs) [] = refl
 prefix_len-zip e (x ∷ xs) (y ∷ ys) = ap (λ n. cond (e x y) (1 + n) 0) (prefix_len-zip e xs ys)
 
 -- ---- the text of a way, as it is written
-pub way-dots : (k : ℕ) (t u : List ℕ) → t ≡ join_with_byte 47 (replicate k (46 ∷ 46 ∷ [])) → u ≡ with_slash t ++ 46 ∷ 46 ∷ [] → u ≡ join_with_byte 47 (replicate (k + 1) (46 ∷ 46 ∷ []))
-way-dots k t u is more =
-    more
-    ∙ ap (λ s. with_slash s ++ 46 ∷ 46 ∷ []) is
-    ∙ sym (joined-push [] (replicate k (46 ∷ 46 ∷ [])) (46 ∷ 46 ∷ []) (replicate-dots k) refl)
-    ∙ ap (join_with_byte 47) (replicate_more k (46 ∷ 46 ∷ []))
-
 -- parts joined by slashes, behind other ones
 join-append : (a : List ℕ) (xs : List (List ℕ)) (b : List ℕ) (ys : List (List ℕ)) → join_with_byte 47 ((a ∷ xs) ++ b ∷ ys) ≡ join_with_byte 47 (a ∷ xs) ++ 47 ∷ join_with_byte 47 (b ∷ ys)
 join-append a [] b ys = refl
 join-append a (x ∷ xs) b ys = ap (λ t. a ++ 47 ∷ t) (join-append x xs b ys) ∙ sym (append_assoc a (47 ∷ join_with_byte 47 (x ∷ xs)) (47 ∷ join_with_byte 47 (b ∷ ys)))
 
 -- every `..`, and what is left of the target behind them
-pub way-rest : (k : ℕ) (t u rest : List ℕ) → t ≡ join_with_byte 47 (replicate k (46 ∷ 46 ∷ [])) → u ≡ with_slash t ++ rest → u ≡ join_with_byte 47 (replicate k (46 ∷ 46 ∷ []) ++ parts rest)
-way-rest zero t u rest is more = more ∙ ap (λ s. with_slash s ++ rest) is ∙ sym (join_with_byte-slice_split 47 rest)
+pub way-rest : (k : ℕ) (t u rest : List ℕ) → t ≡ closed (replicate k (46 ∷ 46 ∷ [])) → u ≡ t ++ rest → u ≡ join_with_byte 47 (replicate k (46 ∷ 46 ∷ []) ++ parts rest)
+way-rest zero t u rest is more = more ∙ ap (λ s. s ++ rest) is ∙ sym (join_with_byte-slice_split 47 rest)
 way-rest (suc k) t u rest is more = by_parts (parts rest) (parts-some rest) (join_with_byte-slice_split 47 rest)
   where
     by_parts : (ps : List (List ℕ)) → ps ≢ [] → join_with_byte 47 ps ≡ rest → u ≡ join_with_byte 47 (replicate (suc k) (46 ∷ 46 ∷ []) ++ ps)
     by_parts [] some joined = absurd (some refl)
     by_parts (p ∷ ps) some joined =
         more
-        ∙ ap (λ s. with_slash s ++ rest) is
-        ∙ ap (λ s. s ++ rest) (with_slash-joined [] (46 ∷ 46 ∷ []) (replicate k (46 ∷ 46 ∷ [])) (replicate-dots (suc k)))
+        ∙ ap (λ s. s ++ rest) (is ∙ closed-joined (46 ∷ 46 ∷ []) (replicate k (46 ∷ 46 ∷ [])))
         ∙ append_assoc (join_with_byte 47 (replicate (suc k) (46 ∷ 46 ∷ []))) (47 ∷ []) rest
         ∙ ap (λ s. join_with_byte 47 (replicate (suc k) (46 ∷ 46 ∷ [])) ++ 47 ∷ s) (sym joined)
         ∙ sym (join-append (46 ∷ 46 ∷ []) (replicate k (46 ∷ 46 ∷ [])) p ps)
@@ -113,9 +106,11 @@ rooted-same (Rooted p) (Rooted q) h k = refl
 rooted-same (Rooted p) (Relative m q) h k = cc
 rooted-same (Relative m p) s h k = cc
 
+pub same-rooted : (base target : List ℕ) → is_absolute base ≡ true → is_absolute target ≡ true → same_start (route_of target) (route_of base) ≡ true
+same-rooted base target h k = rooted-same (route_of base) (route_of target) (route_of-rooted base ∙ h) (route_of-rooted target ∙ k)
+
 pub same-below : (cwd base target : List ℕ) → is_absolute cwd ≡ true → same_start (route_of (join cwd target)) (route_of (join cwd base)) ≡ true
-same-below cwd base target h =
-    rooted-same (route_of (join cwd base)) (route_of (join cwd target)) (route_of-rooted (join cwd base) ∙ join-absolute cwd base h) (route_of-rooted (join cwd target) ∙ join-absolute cwd target h)
+same-below cwd base target h = same-rooted (join cwd base) (join cwd target) (join-absolute cwd base h) (join-absolute cwd target h)
 
 -- ---- the relative path, with and without a folder
 pub relative-below : (cwd base target : List ℕ) → needs_folder base target ≡ true → relative_from cwd base target ≡ way (route_of (join cwd base)) (route_of (join cwd target))

@@ -5,6 +5,7 @@ pub mod Front
 pub mod Laws
 pub mod Lent
 pub mod LentParts
+pub mod Names
 pub mod Parent
 pub mod ParentEnd
 pub mod Part

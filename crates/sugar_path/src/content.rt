@@ -1,8 +1,9 @@
-// What a text holds: a string, or the front of one whose copies share it.
+// What a text holds: a short text in the value itself, a string, or the front of one whose copies share it.
 ghost use Rattle.std.specs.Prelude.{◌≡◌, ◌<◌, ◌∷◌, ◌++◌, [], IfOk, OnOk, OnErr, length, get_or, take, string_bytes};
 ghost use Rattle.std.specs.Rc.{rc_str_bytes};
 ghost use Rattle.std.specs.Str.{IsCharBoundary};
 
+use arrayvec::ArrayString;
 use std::alloc::{AllocError, Global};
 use std::marker::Model;
 use std::rc::RcStr;
@@ -15,8 +16,16 @@ pub(crate) struct Content {
 
 #[derive(Drop)]
 enum Kept {
+    Short(Short),
     Owned(String),
     Shared(Front),
+}
+
+// A text of at most 24 bytes, which lie in the value itself.
+#[derive(Drop)]
+struct Short {
+    alloc: Global,
+    text: ArrayString<24>,
 }
 
 // The front of a shared text.
@@ -47,6 +56,18 @@ impl Content {
         }
     }
 
+    // A copy of a text, which takes no memory where the text is short.
+    pub(crate) fn of(alloc: Global, text: &str) -> Result<Content, AllocError>
+        ensures { IfOk result (λ c. c ≡ text.now) }
+    {
+        match ArrayString::from(text) {
+            Ok(text) => Ok(Content {
+                kept: Kept::Short(Short { alloc, text }),
+            }),
+            Err(_) => Ok(Content::owned(String::from_str(alloc, text)?)),
+        }
+    }
+
     // What a string holds, so that copies share it.
     pub(crate) fn shared(alloc: Global, text: String) -> Result<Content, AllocError>
         ensures { IfOk result (λ c. c ≡ string_bytes text) }
@@ -62,6 +83,7 @@ impl Content {
         ensures { result.now ≡ self.now }
     {
         match &self.kept {
+            Kept::Short(short) => short.text.as_str(),
             Kept::Owned(text) => text.as_str(),
             Kept::Shared(front) => front.as_str(),
         }
@@ -72,10 +94,8 @@ impl Content {
         ensures { IfOk result (λ c. c ≡ self.now) }
     {
         match &self.kept {
-            Kept::Owned(text) => {
-                let copy = String::from_str(alloc, text.as_str())?;
-                Ok(Content::owned(copy))
-            }
+            Kept::Short(short) => Content::of(alloc, short.text.as_str()),
+            Kept::Owned(text) => Content::of(alloc, text.as_str()),
             Kept::Shared(front) => Ok(Content {
                 kept: Kept::Shared(front.try_clone()?),
             }),
@@ -92,9 +112,7 @@ impl Content {
                 let alloc = *text.allocator();
                 Content::shared(alloc, text)
             }
-            Kept::Shared(front) => Ok(Content {
-                kept: Kept::Shared(front),
-            }),
+            kept => Ok(Content { kept }),
         }
     }
 
@@ -104,6 +122,7 @@ impl Content {
     {
         let Content { kept } = self;
         match kept {
+            Kept::Short(short) => String::from_str(alloc, short.text.as_str()),
             Kept::Owned(text) => Ok(text),
             Kept::Shared(front) => String::from_str(alloc, front.as_str()),
         }
@@ -115,9 +134,13 @@ impl Content {
         ensures err { OnErr result (self.new ≡ self.old) }
     {
         match &mut self.kept {
+            Kept::Short(short) => {
+                let grown = with_name(short.alloc, short.text.as_str(), name)?;
+                self.kept = Kept::Owned(grown);
+            }
             Kept::Owned(text) => push_name(text, name)?,
             Kept::Shared(front) => {
-                let grown = front.with_name(name)?;
+                let grown = with_name(front.alloc, front.as_str(), name)?;
                 self.kept = Kept::Owned(grown);
             }
         }
@@ -131,6 +154,7 @@ impl Content {
         ensures { self.new ≡ take at self.old }
     {
         match &mut self.kept {
+            Kept::Short(short) => short.text.truncate(at),
             Kept::Owned(text) => text.truncate(at),
             Kept::Shared(front) => front.end = at,
         }
@@ -155,18 +179,17 @@ impl Front {
             end: self.end,
         })
     }
+}
 
-    // A string with a slash and a name more.
-    fn with_name(&self, name: &str) -> Result<String, AllocError>
-        ensures { IfOk result (λ s. string_bytes s ≡ front_bytes self.now ++ 47 ∷ name.now) }
-    {
-        let front = self.as_str();
-        let room = front.len().saturating_add(name.len()).saturating_add(1);
-        let mut grown = String::with_capacity(self.alloc, room)?;
-        grown.push_str(front)?;
-        push_name(&mut grown, name)?;
-        Ok(grown)
-    }
+// A string of a front with a slash and a name behind it.
+fn with_name(alloc: Global, front: &str, name: &str) -> Result<String, AllocError>
+    ensures { IfOk result (λ s. string_bytes s ≡ front.now ++ 47 ∷ name.now) }
+{
+    let room = front.len().saturating_add(name.len()).saturating_add(1);
+    let mut grown = String::with_capacity(alloc, room)?;
+    grown.push_str(front)?;
+    push_name(&mut grown, name)?;
+    Ok(grown)
 }
 
 // Puts a slash and a name at the end of a string.

@@ -15,7 +15,7 @@ pub(crate) fn lent_way<'a>(base: &[u8], target: &'a [u8]) -> Option<&'a [u8]>
         w.now ≡ relative_from cwd base.now target.now) }
 {
     match rest_behind(without_last_slashes(base), without_last_slashes(target)) {
-        Some(way) if is_in_order(base) && is_in_order(target) => Some(way),
+        Some(way) if is_in_order(target) && is_in_order(base) => Some(way),
         _ => None,
     }
 }

@@ -32,8 +32,8 @@ impl Text {
     pub fn of(alloc: Global, text: &str) -> Result<Text, AllocError>
         ensures { IfOk result (λ t. t ≡ text.now) }
     {
-        let text = String::from_str(alloc, text)?;
-        Ok(Text::from(text))
+        let content = Content::of(alloc, text)?;
+        Ok(Text { content })
     }
 
     /// A text whose copies share its content.

@@ -1,21 +1,24 @@
 // The way from one place to another, by the names that lead there.
-ghost use Rattle.std.specs.Prelude.{◌≡◌, ◌||◌, List, ℕ, length, IfOk, IfSome, IsTrue, not, bytes_eq};
+ghost use Rattle.std.specs.Prelude.{◌≡◌, ◌||◌, List, ℕ, length, IfOk, IfSome, IsTrue, not, bytes_eq, replicate, reverse, ◌≤◌, ◌∷◌, []};
 ghost use Rattle.std.specs.List.{common_prefix_len, join_with_byte};
 ghost use Rattle.sugar_path.specs.ComponentTypes.{parts_if};
-ghost use Rattle.sugar_path.specs.Path.{is_absolute, parts};
+ghost use Rattle.sugar_path.specs.Path.{is_absolute, parts, path_in};
 ghost use Rattle.sugar_path.specs.PathTypes.{cow_bytes};
 ghost use Rattle.sugar_path.specs.Reading.{IsPlaceOf, ups_of};
-ghost use Rattle.sugar_path.specs.Relative.{between, needs_folder, relative_from};
+ghost use Rattle.sugar_path.specs.Relative.{between, needs_folder, relative_from, way};
+ghost use Rattle.sugar_path.specs.Names.{closed, texts};
 ghost use Rattle.sugar_path.specs.SharedTexts.{SharesSlash};
-ghost use Rattle.sugar_path.specs.Route.{Route, route_parts, place, from_folder};
+ghost use Rattle.sugar_path.specs.Route.{Route, route_of, route_parts, place, from_folder};
 
 use crate::component::split_first_part;
 use crate::normal::is_place;
+use crate::part::{Lead, lead_of};
 use crate::path::{Path, PathBuf, PathCow};
 use crate::places::{place_below, place_of};
 use crate::prefix::common_prefix_len;
-use crate::reading::{is_absolute, push_part};
+use crate::reading::is_absolute;
 use memchr::memrchr;
+use smallvec::SmallVec;
 use std::alloc::{AllocError, Global};
 
 /// The relative path from a base to a target, which are read from a folder where they don't begin
@@ -30,6 +33,9 @@ pub(crate) fn relative_of(
     ensures { IfOk result (λ v. v.items ≡ relative_from cwd.now base.now target.now) }
 {
     if is_absolute(target) == is_absolute(base) {
+        if is_absolute(base) {
+            return way_from_root(alloc, base, target);
+        }
         let from = place_alone(alloc, base)?;
         let to = place_alone(alloc, target)?;
         let (from, to) = (from.as_path().bytes(), to.as_path().bytes());
@@ -41,6 +47,71 @@ pub(crate) fn relative_of(
     let from = place_from(alloc, cwd, base)?;
     let to = place_from(alloc, cwd, target)?;
     way_between(alloc, from.as_path().bytes(), to.as_path().bytes())
+}
+
+// The way between two absolute paths. Where one isn't its own place both are read by their names,
+// so that the text of neither place is made.
+fn way_from_root(alloc: Global, base: &[u8], target: &[u8]) -> Result<Vec<u8>, AllocError>
+    requires base { IsTrue (is_absolute base.now) }
+    requires target { IsTrue (is_absolute target.now) }
+    ensures { IfOk result (λ v. v.items ≡ way (route_of base.now) (route_of target.now)) }
+{
+    if is_place(target) && is_place(base) {
+        return way_between(alloc, base, target);
+    }
+    let from = names_of(alloc, base)?;
+    let to = names_of(alloc, target)?;
+    way_by_names(alloc, from.as_slice(), to.as_slice(), target.len())
+}
+
+// The names of an absolute path, in order.
+fn names_of<'a>(alloc: Global, path: &'a [u8]) -> Result<SmallVec<&'a [u8], 8>, AllocError>
+    ensures { IfOk result (λ names. texts names.items ≡ reverse (path_in path.now)) }
+{
+    let mut names = SmallVec::new(alloc);
+    for part in path.split(|b| *b == b'/') {
+        match lead_of(part) {
+            Lead::Nowhere => {}
+            Lead::Up => {
+                let _last = names.pop();
+            }
+            Lead::Down => names.push(part)?,
+        }
+    }
+    Ok(names)
+}
+
+// The way from the names of a base to those of a target, which fit in some room.
+fn way_by_names(
+    alloc: Global,
+    base: &[&[u8]],
+    target: &[&[u8]],
+    room: usize,
+) -> Result<Vec<u8>, AllocError>
+    ensures { IfOk result (λ v. v.items ≡
+        join_with_byte 47 (between (texts base.now) (texts target.now))) }
+{
+    let shared = shared_names(base, target);
+    let mut text = ups_text(alloc, base.len() - shared, room)?;
+    for name in &target[shared..] {
+        text.extend_from_slice(name)?;
+        text.push(b'/')?;
+    }
+    let _slash = text.pop();
+    Ok(text)
+}
+
+// How many names a base and a target both begin with.
+fn shared_names(base: &[&[u8]], target: &[&[u8]]) -> usize
+    ensures shared { result ≡ common_prefix_len bytes_eq (texts target.now) (texts base.now) }
+    ensures base { result ≤ length base.now }
+    ensures target { result ≤ length target.now }
+{
+    target
+        .iter()
+        .zip(base)
+        .take_while(|(a, b)| **a == **b)
+        .count()
 }
 
 // How many folders a place goes up.
@@ -80,13 +151,12 @@ fn way_between(alloc: Global, base: &[u8], target: &[u8]) -> Result<Vec<u8>, All
         IfOk result (λ v. v.items ≡ join_with_byte 47 (between (route_parts r) (route_parts s))) }
 {
     let (left, rest) = past_shared(parts_of_place(base), parts_of_place(target));
-    let ups = parts_left(left);
-    let mut text = Vec::with_capacity(alloc, ups.saturating_mul(3).saturating_add(target.len()))?;
-    for _ in 0..ups {
-        push_part(&mut text, b"..")?;
-    }
-    if let Some(rest) = rest {
-        push_part(&mut text, rest)?;
+    let mut text = ups_text(alloc, parts_left(left), target.len())?;
+    match rest {
+        Some(rest) => text.extend_from_slice(rest)?,
+        None => {
+            let _slash = text.pop();
+        }
     }
     Ok(text)
 }
@@ -155,6 +225,17 @@ fn last_shared_slash(base: &[u8], target: &[u8]) -> Option<usize>
 {
     let shared = common_prefix_len(base, target);
     memrchr(b'/', &base[..shared])
+}
+
+// A text of so many `..`, each with a slash behind it, and with room for what follows.
+fn ups_text(alloc: Global, ups: usize, room: usize) -> Result<Vec<u8>, AllocError>
+    ensures { IfOk result (λ v. v.items ≡ closed (replicate ups (46 ∷ 46 ∷ []))) }
+{
+    let mut text = Vec::with_capacity(alloc, ups.saturating_mul(3).saturating_add(room))?;
+    for _ in 0..ups {
+        text.extend_from_slice(b"../")?;
+    }
+    Ok(text)
 }
 
 // How many parts are left of a path.

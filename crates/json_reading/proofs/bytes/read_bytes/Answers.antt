@@ -1,5 +1,4 @@
 use Rattle.std.proofs.Common.{sym, subst}
-use Rattle.std.specs.Result.{result_map_both}
 use Rattle.json_reading.specs.Reading.{ReadsAs}
 use Rattle.json_reading.proofs.JsonBytes.{json_of-text}
 use Rattle.json_reading.proofs.bytes.read_bytes.Goals as goal

@@ -1,18 +1,13 @@
-use Rattle.std.proofs.Common.{◌≡◌, ap, ◌∙◌, arith}
-use Rattle.sugar_path.proofs.WayParts.{way-dots}
+use Rattle.std.proofs.Common.{ap, ◌∙◌}
 use Rattle.sugar_path.proofs.SharedTexts.{way-written, rest-written, none-written}
 use Rattle.sugar_path.proofs.ways.way_between.Goals as goal
-use Rattle.sugar_path.proofs.ways.way_between.Goals.{in-Some+in_ok-push_part-2, in_default}
-
-pub loop-preserved : goal.loop-preserved
-loop-preserved c = way-dots c.loop.counter c.loop.text.items c.push_part.new.text.items c.loop.invariant c.in_ok-push_part.ensures
+use Rattle.sugar_path.proofs.ways.way_between.Goals.{in-Some+in_ok-extend_from_slice-in-Some, in-None}
 
 pub returns : goal.returns
 returns c = λ r s from to.
-    let count : c.loop.counter ≡ c.parts_left-ups.result = omega (arith, c.loop-test.false, c.loop.auto.counter-end) in
-    way-written c.parts_of_place.result c.parts_of_place-2.result c.past_shared.result.0 c.past_shared.result.1 r s c.loop.counter c.match-rest.text.items
-    (c.parts_of_place.ensures r from) (c.parts_of_place-2.ensures s to) c.past_shared.ensures.way c.past_shared.ensures.apart (count ∙ c.parts_left-ups.ensures)
+    way-written c.parts_of_place.result c.parts_of_place-2.result c.past_shared.result.0 c.past_shared.result.1 r s c.parts_left.result c.match-rest.text.items
+    (c.parts_of_place.ensures r from) (c.parts_of_place-2.ensures s to) c.past_shared.ensures.way c.past_shared.ensures.apart c.parts_left.ensures
     (elim c.match-rest.branch [
-      | in-Some+in_ok-push_part-2 w ↦ rest-written c.past_shared.result.1 w.in-Some.rest c.loop.counter c.loop.text.items c.match-rest.text.items w.in-Some.is c.loop.invariant (ap (λ v. v.items) w.text-is ∙ w.in_ok-push_part-2.ensures)
-      | in_default w ↦ ap (λ v. v.items) w.text-is ∙ none-written c.past_shared.result.1 c.loop.counter c.loop.text.items w.in_default.is c.loop.invariant
+      | in-Some+in_ok-extend_from_slice-in-Some w ↦ rest-written c.past_shared.result.1 w.in-Some.rest c.parts_left.result c.in_ok-text.text.items c.match-rest.text.items w.in-Some.is c.in_ok-text.ensures (ap (λ v. v.items) w.text-is ∙ w.in_ok-extend_from_slice-in-Some.ensures.items)
+      | in-None w ↦ none-written c.past_shared.result.1 c.parts_left.result _ c.in_ok-text.text.items c.match-rest.text.items w.in-None.is c.in_ok-text.ensures c.in_ok-text.text.ok.0 (ap (λ v. v.items) w.text-is ∙ w.pop-slash.ensures.rest)
     ])

@@ -2,7 +2,7 @@ use Rattle.std.proofs.Common.{◌≡◌, ◌++◌, length, string_bytes}
 use denote.Shadow.{shadow}
 use denote.Text.{Utf8}
 use Rattle.pnp_core.specs.Payload.{quoted}
-use Rattle.pnp_core.proofs.payload.quoted.Given as goal
+use Rattle.pnp_core.proofs.payload.unescaped.Given as goal
 
 -- what is made and what is left are the whole
 abbrev pub invariant-loop-at : goal.invariant-loop-at
