@@ -5,6 +5,7 @@ pub mod Parts
 pub mod Below
 pub mod CleanTexts
 pub mod FirstParts
+pub mod FirstSlashes
 pub mod Rooms
 pub mod RouteTexts
 pub mod Placed

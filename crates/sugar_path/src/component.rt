@@ -6,8 +6,8 @@ ghost use Rattle.sugar_path.specs.ComponentTypes.{told_if, parts_if};
 
 use crate::part::{Lead, lead_of};
 use crate::path::Path;
+use crate::path_parts::split_first_part;
 use crate::reading::is_absolute;
-use memchr::memchr;
 use std::marker::Model;
 
 /// A component of a path, as `std::path::Component` has it.
@@ -112,15 +112,5 @@ fn beginning_of(path: &[u8]) -> Option<Component<'_>>
         Some(Component::CurDir)
     } else {
         None
-    }
-}
-
-/// The first part of a path, and what stands behind its slash.
-pub(crate) fn split_first_part(path: &[u8]) -> (&[u8], Option<&[u8]>)
-    ensures { parts path.now ≡ result.0.now ∷ parts_if result.1 }
-{
-    match memchr(b'/', path) {
-        None => (path, None),
-        Some(at) => (&path[..at], Some(&path[at + 1..])),
     }
 }

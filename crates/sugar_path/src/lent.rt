@@ -24,6 +24,10 @@ pub(crate) fn lent_way<'a>(base: &[u8], target: &'a [u8]) -> Option<&'a [u8]>
 fn rest_behind<'a>(front: &[u8], text: &'a [u8]) -> Option<&'a [u8]>
     ensures { IsRestBehind front.now text.now (option_map (λ r. r.now) result) }
 {
+    // most texts go on otherwise behind the front's length, and aren't compared
+    if front.len() < text.len() && text[front.len()] != b'/' {
+        return None;
+    }
     match text.strip_prefix(front) {
         None => None,
         Some(rest) if rest.is_empty() => Some(rest),

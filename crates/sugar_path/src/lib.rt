@@ -17,6 +17,7 @@ mod parents;
 mod part;
 mod path;
 mod path_components;
+mod path_parts;
 mod places;
 mod plain;
 mod plain_traits;

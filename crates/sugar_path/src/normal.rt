@@ -6,6 +6,7 @@ ghost use Rattle.sugar_path.specs.Reading.{HasClimb, are_steps, is_start, ups_of
 ghost use Rattle.sugar_path.specs.Relative.{needs_folder};
 
 use crate::part::{Lead, lead_of};
+use crate::path_parts::Parts;
 use crate::reading::{ends_in_slash, is_absolute};
 
 /// Whether a path is its own normal form.
@@ -90,7 +91,7 @@ pub(crate) fn are_steps(path: &[u8], may_go_up: bool) -> bool
     ensures { result ≡ are_steps may_go_up (parts path.now) }
 {
     let mut up = may_go_up;
-    for part in path.split(|b| *b == b'/') {
+    for part in Parts::of(path) {
         match lead_of(part) {
             Lead::Nowhere => return false,
             Lead::Up if !up => return false,

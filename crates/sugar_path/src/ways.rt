@@ -10,10 +10,10 @@ ghost use Rattle.sugar_path.specs.Names.{closed, texts};
 ghost use Rattle.sugar_path.specs.SharedTexts.{SharesSlash};
 ghost use Rattle.sugar_path.specs.Route.{Route, route_of, route_parts, place, from_folder};
 
-use crate::component::split_first_part;
 use crate::normal::is_place;
 use crate::part::{Lead, lead_of};
 use crate::path::{Path, PathBuf, PathCow};
+use crate::path_parts::{Parts, split_first_part};
 use crate::places::{place_below, place_of};
 use crate::prefix::common_prefix_len;
 use crate::reading::is_absolute;
@@ -69,7 +69,7 @@ fn names_of<'a>(alloc: Global, path: &'a [u8]) -> Result<SmallVec<&'a [u8], 8>, 
     ensures { IfOk result (λ names. texts names.items ≡ reverse (path_in path.now)) }
 {
     let mut names = SmallVec::new(alloc);
-    for part in path.split(|b| *b == b'/') {
+    for part in Parts::of(path) {
         match lead_of(part) {
             Lead::Nowhere => {}
             Lead::Up => {

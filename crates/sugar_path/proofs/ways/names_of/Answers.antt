@@ -1,7 +1,6 @@
-use Rattle.std.proofs.Common.{◌==◌, [], ap, ◌∙◌, reverse, rules}
-use Rattle.std.proofs.lemmas.Iterator.Consumers.{YieldsList-end, YieldsList-at}
-use Rattle.std.proofs.lemmas.Iterator.Splits.{YieldsList-from_slice_split}
-use Rattle.sugar_path.specs.Path.{by_parts, path_in}
+use Rattle.std.proofs.Common.{[], ap, ◌∙◌, reverse, rules}
+use Rattle.std.proofs.lemmas.Iterator.Consumers.{YieldsList-end, YieldsList-at, YieldsList-from_first}
+use Rattle.sugar_path.specs.Path.{by_parts, parts, path_in}
 use Rattle.sugar_path.proofs.NameWays.{names-stay, names-up, names-down}
 use Rattle.sugar_path.proofs.ways.names_of.Goals as goal
 
@@ -29,6 +28,6 @@ loop-part-preserved c = (
 pub returns : goal.returns
 unfolding path_in
 returns c =
-    let all = YieldsList-end (YieldsList-at c.into_iter-part-iterator.ensures.into_iter_gives (YieldsList-from_slice_split _ (λ b. b == 47) c.args.path.now c.split-part-items.ensures.rest c.split-part-items.ensures.done c.split-part-items.ensures.closure (λ x b q k. search rules)))
+    let all = YieldsList-end (YieldsList-at c.into_iter-part-iterator.ensures.into_iter_gives (YieldsList-from_first (λ part. part.now) (λ left. left) (parts c.args.path.now) c.of-part-items.ensures))
     c.loop-part.yielded _ c.loop-part.yielded_by _ _ c.in-None.is c.next.ensures.steps in
     c.loop-part.invariant.2 ∙ ap (λ ps. reverse (by_parts [] ps)) all.0

@@ -3,7 +3,7 @@ use Rattle.std.proofs.lemmas.Bool.Decides.{Decides-eqb}
 use Rattle.std.proofs.lemmas.List.{take_all}
 use Rattle.sugar_path.specs.Path.{parts}
 use Rattle.sugar_path.proofs.FirstParts.{parts-cut, parts-uncut}
-use Rattle.sugar_path.proofs.component.split_first_part.Goals as goal
+use Rattle.sugar_path.proofs.path_parts.split_first_part.Goals as goal
 
 pub returns-in-None : goal.returns-in-None
 returns-in-None c = parts-uncut c.args.path.now (λ k lt is. c.in-None.ensures k (omega arith) lt is)
