@@ -21,7 +21,7 @@ use Rattle.sugar_path.proofs.WayParts.{between-shared, relative-alone}
 use Rattle.sugar_path.proofs.Agreed.{route_of-absolute, route_text-rooted_path, place-absolute}
 
 -- ---- the separators at the end of a text
-abbrev bare : List ℕ → List ℕ
+abbrev pub bare : List ℕ → List ℕ
 bare t = without_last_slashes t
 
 -- one more byte in front is a last separator, or stays
@@ -40,7 +40,7 @@ bare-cons c t = by_tests (bare t) (bytes_eq (bare t) []) (c == 47) refl refl
     by_tests u false b none is = inr (refl, λ e. absurd (let f : true ≡ false = sym (ap (λ v. bytes_eq v []) e) ∙ none in cc))
 
 -- a text is what is left, and so many separators behind it
-bare-split : (t : List ℕ) → (k : ℕ) × (t ≡ bare t ++ replicate k 47)
+pub bare-split : (t : List ℕ) → (k : ℕ) × (t ≡ bare t ++ replicate k 47)
 bare-split [] = (0, refl)
 bare-split (c ∷ t) = by_case (bare-cons c t) (bare-split t)
   where
@@ -49,7 +49,7 @@ bare-split (c ∷ t) = by_case (bare-cons c t) (bare-split t)
     by_case (inr w) h = (h.0, ap (λ s. c ∷ s) h.1 ∙ ap (λ u. u ++ replicate h.0 47) (sym w.0))
 
 -- what is left doesn't end in one
-bare-unended : (t : List ℕ) → ends_in_slash (bare t) ≡ false
+pub bare-unended : (t : List ℕ) → ends_in_slash (bare t) ≡ false
 bare-unended [] = refl
 bare-unended (c ∷ t) = by_case (bare-cons c t) (bare-unended t)
   where
@@ -98,7 +98,7 @@ bare-read t = by_count (bare-split t).0 (bare-split t).1
         ∙ ap (by_parts []) (sym (parts-slash (bare t) (replicate k 47)))
         ∙ ap (λ s. by_parts [] (parts s)) (sym is)
 
-bare-absolute : (t : List ℕ) → is_absolute t ≡ true → bare t ≢ [] → is_absolute (bare t) ≡ true
+pub bare-absolute : (t : List ℕ) → is_absolute t ≡ true → bare t ≢ [] → is_absolute (bare t) ≡ true
 bare-absolute [] h some = absurd (some refl)
 bare-absolute (c ∷ t) h some = by_case (bare-cons c t)
   where

@@ -21,6 +21,8 @@ pub mod Lanes
 pub mod PlaceParts
 pub mod NameWays
 pub mod SharedTexts
+pub mod Fronts
 pub mod StdPaths
+pub mod PlainNames
 pub mod Upwards
 pub mod StdParents

@@ -286,7 +286,7 @@ placed-loose t other = same_from_decides (looks_loose t) (bytes_eq (place t) t) 
     from : place t ≡ t → looks_loose t ≡ true
     from is = ap looks_loose (sym is) ∙ loose-place t (other-start t other)
 
-looks-some : (c : ℕ) (n : List ℕ) → looks_rooted (c ∷ n) ≡ true → are_steps false (parts (c ∷ n)) ≡ true
+pub looks-some : (c : ℕ) (n : List ℕ) → looks_rooted (c ∷ n) ≡ true → are_steps false (parts (c ∷ n)) ≡ true
 looks-some c n h = by_test (eqb_tells (length (c ∷ n)) 0) h
   where
     by_test : (((length (c ∷ n) == 0) ≡ true) × (length (c ∷ n) ≡ 0)) ⊎ (((length (c ∷ n) == 0) ≡ false) × (length (c ∷ n) ≢ 0)) → ((length (c ∷ n) == 0) || are_steps false (parts (c ∷ n))) ≡ true → are_steps false (parts (c ∷ n)) ≡ true

@@ -21,7 +21,7 @@ use Rattle.sugar_path.proofs.Placed.{IsPath-route_of}
 use Rattle.sugar_path.proofs.WayParts.{between-shared, between-apart, way-rest}
 
 -- ---- behind the last slash that two texts share
-shared-take : (n : ℕ) (xs ys : List ℕ) → n ≤ common_prefix_len nat_eq xs ys → take n xs ≡ take n ys
+pub shared-take : (n : ℕ) (xs ys : List ℕ) → n ≤ common_prefix_len nat_eq xs ys → take n xs ≡ take n ys
 shared-take zero xs ys h = refl
 shared-take (suc n) [] ys h = absurd (omega (arith, h))
 shared-take (suc n) (x ∷ xs) [] h = absurd (omega (arith, h))

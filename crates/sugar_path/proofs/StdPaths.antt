@@ -11,7 +11,7 @@ use Rattle.sugar_path.specs.Component.{Root, Here, Above, Name, piece, pieces, s
 use Rattle.sugar_path.specs.Laws.{std_text}
 
 -- ---- parts are std's pieces
-parts-pieces : (t : List ℕ) → parts t ≡ first_piece t ∷ later_pieces t
+pub parts-pieces : (t : List ℕ) → parts t ≡ first_piece t ∷ later_pieces t
 parts-pieces [] = refl
 parts-pieces (c ∷ cs) = by_test (c == 47) (parts-pieces cs)
   where

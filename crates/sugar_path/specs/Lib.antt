@@ -17,3 +17,4 @@ pub mod Relative
 pub mod Results
 pub mod Route
 pub mod SharedTexts
+pub mod Starts

@@ -6,6 +6,7 @@ ghost use Rattle.sugar_path.specs.Lent.{without_last_slashes, IsInOrder, IsWayLe
 ghost use Rattle.sugar_path.specs.LentParts.{IsRestBehind};
 
 use crate::normal::is_place;
+use crate::prefix::common_prefix_len;
 use crate::reading::is_absolute;
 
 /// The relative path from a base to a target, if it stands at the end of the target.
@@ -15,7 +16,8 @@ pub(crate) fn lent_way<'a>(base: &[u8], target: &'a [u8]) -> Option<&'a [u8]>
         w.now ≡ relative_from cwd base.now target.now) }
 {
     match rest_behind(without_last_slashes(base), without_last_slashes(target)) {
-        Some(way) if is_in_order(target) && is_in_order(base) => Some(way),
+        // such a base is in order where its target is
+        Some(way) if is_absolute(base) && is_in_order(target) => Some(way),
         _ => None,
     }
 }
@@ -28,11 +30,10 @@ fn rest_behind<'a>(front: &[u8], text: &'a [u8]) -> Option<&'a [u8]>
     if front.len() < text.len() && text[front.len()] != b'/' {
         return None;
     }
-    match text.strip_prefix(front) {
-        None => None,
-        Some(rest) if rest.is_empty() => Some(rest),
-        Some(rest) => rest.strip_prefix(b"/"),
+    if common_prefix_len(front, text) < front.len() {
+        return None;
     }
+    Some(&text[text.len().min(front.len() + 1)..])
 }
 
 // Whether a path is absolute, UTF-8, and in order but for the separators at its end.

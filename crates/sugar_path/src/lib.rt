@@ -20,6 +20,7 @@ mod path_components;
 mod path_parts;
 mod places;
 mod plain;
+mod plain_names;
 mod plain_traits;
 mod prefix;
 mod reading;

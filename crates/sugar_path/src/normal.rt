@@ -7,6 +7,7 @@ ghost use Rattle.sugar_path.specs.Relative.{needs_folder};
 
 use crate::part::{Lead, lead_of};
 use crate::path_parts::Parts;
+use crate::plain_names::has_plain_names;
 use crate::reading::{ends_in_slash, is_absolute};
 
 /// Whether a path is its own normal form.
@@ -88,6 +89,13 @@ fn climb_of(path: &[u8]) -> Climb
 
 /// Whether the parts of a path are names, behind some `..` where the path may go up.
 pub(crate) fn are_steps(path: &[u8], may_go_up: bool) -> bool
+    ensures { result ≡ are_steps may_go_up (parts path.now) }
+{
+    has_plain_names(path) || are_steps_in_turn(path, may_go_up)
+}
+
+// The same, told by one part after the other.
+fn are_steps_in_turn(path: &[u8], may_go_up: bool) -> bool
     ensures { result ≡ are_steps may_go_up (parts path.now) }
 {
     let mut up = may_go_up;

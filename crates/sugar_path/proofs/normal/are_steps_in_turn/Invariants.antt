@@ -1,7 +1,7 @@
 use Rattle.std.proofs.Common.{◌≡◌, length, drop}
 use Rattle.sugar_path.specs.Path.{parts}
 use Rattle.sugar_path.specs.Reading.{are_steps}
-use Rattle.sugar_path.proofs.normal.are_steps.Given as goal
+use Rattle.sugar_path.proofs.normal.are_steps_in_turn.Given as goal
 
 -- what is left decides
 abbrev pub invariant-loop-part : goal.invariant-loop-part

@@ -5,7 +5,7 @@ use Rattle.std.proofs.lemmas.Slice.Eq.{bytes_eq-Decides}
 use Rattle.sugar_path.specs.Path.{is_plain, parts}
 use Rattle.sugar_path.proofs.Leads.{up-dots, down-plain, nowhere-plain, nowhere-dots}
 use Rattle.sugar_path.proofs.Placed.{turn-plain, turn-dots, turn-stop, turn-end}
-use Rattle.sugar_path.proofs.normal.are_steps.Goals as goal
+use Rattle.sugar_path.proofs.normal.are_steps_in_turn.Goals as goal
 
 pub loop-part-preserved : goal.loop-part-preserved
 loop-part-preserved c =
