@@ -1,11 +1,13 @@
 // The parts of a path, one after the other.
-ghost use Rattle.std.specs.Prelude.{◌≡◌, ◌∷◌};
+ghost use Rattle.std.specs.Prelude.{◌≡◌, ◌==◌, ◌∷◌, ◌≤◌, length, map, take};
+ghost use Rattle.std.specs.Simd.Lanes.{mask_l};
 ghost use Rattle.memchr.specs.Find.{IsFirstByte, is_byte};
 ghost use Rattle.sugar_path.specs.Path.{parts};
 ghost use Rattle.sugar_path.specs.ComponentTypes.{parts_if};
 
 use memchr::memchr;
 use std::marker::Model;
+use std::simd::prelude::*;
 
 /// What stands between the slashes of a path, in order.
 #[derive(Drop)]
@@ -50,6 +52,13 @@ impl<'a> Iterator for Parts<'a> {
     }
 }
 
+/// How many parts a path has.
+pub(crate) fn part_count(path: &[u8]) -> usize
+    ensures { result ≡ length (parts path.now) }
+{
+    Parts::of(path).count()
+}
+
 /// The first part of a path, and what stands behind its slash.
 #[inline]
 pub(crate) fn split_first_part(path: &[u8]) -> (&[u8], Option<&[u8]>)
@@ -61,17 +70,31 @@ pub(crate) fn split_first_part(path: &[u8]) -> (&[u8], Option<&[u8]>)
     }
 }
 
-// How far the first slash is looked for byte by byte: most names end there, and a search by words costs more to begin.
-const NEAR: usize = 16;
+// How many bytes are looked at side by side: most names end within them, and a longer search costs more to begin.
+const BLOCK: usize = 16;
 
 // Where the first slash of a path stands.
 #[inline]
 fn first_slash(path: &[u8]) -> Option<usize>
     ensures { IsFirstByte (is_byte 47) path.now result }
 {
-    let (front, back) = path.split_at(path.len().min(NEAR));
-    match front.iter().position(|b| *b == b'/') {
-        Some(at) => Some(at),
-        None => Some(memchr(b'/', back)? + front.len()),
+    if path.len() < BLOCK {
+        return path.iter().position(|b| *b == b'/');
     }
+    let slashes = slashes_in_block(path);
+    if slashes != 0 {
+        return Some(slashes.trailing_zeros() as usize);
+    }
+    Some(memchr(b'/', &path[BLOCK..])? + BLOCK)
+}
+
+// The slashes in the first block of a path, a bit each.
+#[inline(always)]
+fn slashes_in_block(path: &[u8]) -> u64
+    requires { 16 ≤ length path.now }
+    ensures { result ≡ mask_l (map (λ b. b == 47) (take 16 path.now)) }
+{
+    u8x16::from_slice(path)
+        .simd_eq(u8x16::splat(b'/'))
+        .to_bitmask()
 }

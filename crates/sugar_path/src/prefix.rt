@@ -12,10 +12,10 @@ pub fn common_prefix_len(left: &[u8], right: &[u8]) -> usize
     let mut at = 0;
     while 32 <= end - at {
         let equal = equal_lanes(left, right, at);
-        at += equal;
         if equal < 32 {
-            return at;
+            return at + equal;
         }
+        at += 32;
     }
     at + equal_bytes(&left[at..], &right[at..])
 }

@@ -13,7 +13,7 @@ ghost use Rattle.sugar_path.specs.Route.{Route, route_of, route_parts, place, fr
 use crate::normal::is_place;
 use crate::part::{Lead, lead_of};
 use crate::path::{Path, PathBuf, PathCow};
-use crate::path_parts::{Parts, split_first_part};
+use crate::path_parts::{Parts, part_count, split_first_part};
 use crate::places::{place_below, place_of};
 use crate::prefix::common_prefix_len;
 use crate::reading::is_absolute;
@@ -244,6 +244,6 @@ fn parts_left(path: Option<&[u8]>) -> usize
 {
     match path {
         None => 0,
-        Some(text) => text.split(|b| *b == b'/').count(),
+        Some(text) => part_count(text),
     }
 }
