@@ -31,7 +31,7 @@ where
 #[test]
 fn the_latest_answers_are_kept(rt: HostRuntime) -> Result<(), Fail> {
     let alloc = rt.alloc();
-    let mut inner = table_of(alloc, &[("a", "1"), ("b", "2"), ("c", "3")])?;
+    let mut inner = table_of(alloc, "a:1 b:2 c:3")?;
     let text = match CachingResolver::new(alloc, 2, &mut inner) {
         Ok(mut resolver) => answers(alloc, &mut resolver)?,
         Err(_) => return Err(Fail::from("no memory")),

@@ -2,430 +2,140 @@
 use crate::table::{Table, Unknown, ask, table_of, told};
 use resolver_core::{TsConfigResolver, TsError, TsRefusal};
 use std::alloc::{AllocError, Global};
+use std::process::Abort;
 use std::test::Fail;
 use sugar_path::{List, Text};
 use swc_loader::Resolution;
 
-// Patterns with their targets.
-type Paths = &'static [(&'static str, &'static [&'static str])];
-
-// A request by a mapping over a table: what it comes to, and the table's requests in order.
-#[derive(Drop)]
-struct Row {
-    url: &'static str,
-    paths: Paths,
-    has: &'static [(&'static str, &'static str)],
-    base: &'static str,
-    specifier: &'static str,
-    came: &'static str,
-    noted: &'static str,
+// A request by a mapping over a table. Patterns stand apart by blanks, each with its targets behind a colon.
+#[derive(Clone, Copy)]
+struct Row<'a> {
+    url: &'a str,
+    paths: &'a str,
+    has: &'a str,
+    base: &'a str,
+    specifier: &'a str,
 }
 
-// A nameless base, and the base folder `.`.
-const FROM_NOWHERE: [Row; 10] = [
-    // an exact pattern, and a specifier without one
-    Row {
-        url: ".",
-        paths: &[("jquery", &["n/jquery"])],
-        has: &[("./n/jquery", "ok")],
-        base: "",
-        specifier: "jquery",
-        came: "custom ok slug jquery",
-        noted: " .>./n/jquery",
-    },
-    Row {
-        url: ".",
-        paths: &[("jquery", &["n/jquery"])],
-        has: &[("./n/jquery", "ok")],
-        base: "",
-        specifier: "unrelated",
-        came: "refused",
-        noted: " ->./unrelated ->unrelated",
-    },
-    // each target in order
-    Row {
-        url: ".",
-        paths: &[("*", &["*", "g/*"])],
-        has: &[("./f/a", "x"), ("./g/h/b", "y")],
-        base: "",
-        specifier: "f/a",
-        came: "custom x",
-        noted: " ->f/a .>./f/a",
-    },
-    Row {
-        url: ".",
-        paths: &[("*", &["*", "g/*"])],
-        has: &[("./f/a", "x"), ("./g/h/b", "y")],
-        base: "",
-        specifier: "h/b",
-        came: "custom y",
-        noted: " ->h/b .>./h/b .>h/b ->h/b .>./g/h/b",
-    },
-    // by a pattern, behind the base folder, and as it is
-    Row {
-        url: ".",
-        paths: &[("@c/*", &["src/c/*"])],
-        has: &[("./src/c/h", "x")],
-        base: "",
-        specifier: "@c/h",
-        came: "custom x",
-        noted: " ->@c/h .>./src/c/h",
-    },
-    Row {
-        url: ".",
-        paths: &[("@c/*", &["src/c/*"])],
-        has: &[("./src/c/h", "x")],
-        base: "",
-        specifier: "src/c/h",
-        came: "custom x",
-        noted: " ->./src/c/h",
-    },
-    Row {
-        url: ".",
-        paths: &[("@c/*", &["src/c/*"])],
-        has: &[("./src/c/h", "x")],
-        base: "",
-        specifier: "./src/c/h",
-        came: "custom x",
-        noted: " ->./src/c/h",
-    },
-    // no patterns
-    Row {
-        url: ".",
-        paths: &[],
-        has: &[("./jquery", "x"), ("jquery", "y"), ("react", "z")],
-        base: "",
-        specifier: "jquery",
-        came: "custom x",
-        noted: " ->./jquery",
-    },
-    Row {
-        url: ".",
-        paths: &[],
-        has: &[("./jquery", "x"), ("jquery", "y"), ("react", "z")],
-        base: "",
-        specifier: "react",
-        came: "custom z",
-        noted: " ->./react ->react",
-    },
-    // the longest text before a `*`
-    Row {
-        url: ".",
-        paths: &[("@app/*", &["./p/*/src"]), ("@app/h/*", &["./p/h/src/*"])],
-        has: &[("./p/h/src/hello", "good")],
-        base: "",
-        specifier: "@app/h/hello",
-        came: "custom good",
-        noted: " ->@app/h/hello .>././p/h/src/hello .>./p/h/src/hello",
-    },
-];
+// A request that is written as `URL | PATTERNS | TABLE | BASE | SPECIFIER`.
+fn row_of(given: &str) -> Option<Row<'_>> {
+    let (url, behind) = given.split_once(" | ")?;
+    let (paths, behind) = behind.split_once(" | ")?;
+    let (has, behind) = behind.split_once(" | ")?;
+    let (base, specifier) = behind.split_once(" | ")?;
+    Some(Row {
+        url,
+        paths,
+        has,
+        base,
+        specifier,
+    })
+}
+
+// Requests from a nameless base, by the base folder `.`: what each comes to, and the table's requests in order. Lines that begin with
+// `#` say what the next ones show.
+fn from_nowhere() -> &'static str {
+    "# an exact pattern, and a specifier without one
+. | jquery:n/jquery | ./n/jquery:ok |  | jquery = custom ok slug jquery | .>./n/jquery
+. | jquery:n/jquery | ./n/jquery:ok |  | unrelated = refused | ->./unrelated ->unrelated
+# each target in order
+. | *:*,g/* | ./f/a:x ./g/h/b:y |  | f/a = custom x | ->f/a .>./f/a
+. | *:*,g/* | ./f/a:x ./g/h/b:y |  | h/b = custom y | ->h/b .>./h/b .>h/b ->h/b .>./g/h/b
+# by a pattern, behind the base folder, and as it is
+. | @c/*:src/c/* | ./src/c/h:x |  | @c/h = custom x | ->@c/h .>./src/c/h
+. | @c/*:src/c/* | ./src/c/h:x |  | src/c/h = custom x | ->./src/c/h
+. | @c/*:src/c/* | ./src/c/h:x |  | ./src/c/h = custom x | ->./src/c/h
+# no patterns
+. |  | ./jquery:x jquery:y react:z |  | jquery = custom x | ->./jquery
+. |  | ./jquery:x jquery:y react:z |  | react = custom z | ->./react ->react
+# the longest text before a `*`
+. | @app/*:./p/*/src @app/h/*:./p/h/src/* | ./p/h/src/hello:good |  | @app/h/hello = custom good | ->@app/h/hello .>././p/h/src/hello .>./p/h/src/hello"
+}
 
 // Which pattern decides.
-const PATTERNS: [Row; 12] = [
-    // of equal lengths the first, which decides alone
-    Row {
-        url: "/w",
-        paths: &[("a/*", &["one/*"]), ("a/*", &["two/*"])],
-        has: &[("./two/x", "no")],
-        base: "/w/a.js",
-        specifier: "a/x",
-        came: "real one/x slug x",
-        noted: " /w/a.js>a/x /w>./one/x /w>one/x",
-    },
-    // the longer one, though it is given later
-    Row {
-        url: "/w",
-        paths: &[("a*", &["q/*"]), ("ab*", &["p/*"])],
-        has: &[("./p/c", "k")],
-        base: "/w/a.js",
-        specifier: "abc",
-        came: "custom k",
-        noted: " /w/a.js>abc /w>./p/c",
-    },
-    // what stands behind the `*` counts for nothing
-    Row {
-        url: "/w",
-        paths: &[("a/*/long", &["q/*"]), ("a/b*", &["p/*"])],
-        has: &[("./p/c", "k")],
-        base: "/w/a.js",
-        specifier: "a/bc",
-        came: "custom k",
-        noted: " /w/a.js>a/bc /w>./p/c",
-    },
-    // an exact one before each wildcard
-    Row {
-        url: "/w",
-        paths: &[("a*", &["q/*"]), ("abc", &["e"])],
-        has: &[("./e", "k")],
-        base: "/w/a.js",
-        specifier: "abc",
-        came: "custom k slug e",
-        noted: " /w>./e",
-    },
-    // of two exact ones the first
-    Row {
-        url: "/w",
-        paths: &[("abc", &["one"]), ("abc", &["two"])],
-        has: &[("./two", "k")],
-        base: "/w/a.js",
-        specifier: "abc",
-        came: "real /w/one slug one",
-        noted: " /w>./one",
-    },
-    // a later one is not tried
-    Row {
-        url: "/w",
-        paths: &[("ab*", &["p/*", "r/*"]), ("a*", &["q/*"])],
-        has: &[("./q/bc", "k")],
-        base: "/w/a.js",
-        specifier: "abc",
-        came: "fault ab* 2",
-        noted: " /w/a.js>abc /w>./p/c /w>p/c /w/a.js>abc /w>./r/c /w>r/c",
-    },
-    // nothing need stand for the `*`
-    Row {
-        url: "/w",
-        paths: &[("lib/*", &["src/*"])],
-        has: &[],
-        base: "/w/a.js",
-        specifier: "lib/",
-        came: "real src/ slug ",
-        noted: " /w/a.js>lib/ /w>./src/ /w>src/",
-    },
-    // the text before the `*` must be there
-    Row {
-        url: "/w",
-        paths: &[("a/*", &["t/*"])],
-        has: &[("a", "k")],
-        base: "/w/a.js",
-        specifier: "a",
-        came: "custom k",
-        noted: " /w/a.js>/w/a /w/a.js>a",
-    },
-    // each `*` of a target is replaced
-    Row {
-        url: "/w",
-        paths: &[("@x/*", &["*/mid/*"])],
-        has: &[("q/mid/q", "k")],
-        base: "/w/a.js",
-        specifier: "@x/q",
-        came: "custom k",
-        noted: " /w/a.js>@x/q /w>./q/mid/q /w>q/mid/q",
-    },
-    // the only target of `*` alone isn't answered unchecked
-    Row {
-        url: "/w",
-        paths: &[("*", &["t/*"])],
-        has: &[],
-        base: "/w/a.js",
-        specifier: "m",
-        came: "fault * 1",
-        noted: " /w/a.js>m /w>./t/m /w>t/m",
-    },
-    // a wildcard's slug keeps its dots
-    Row {
-        url: "/w",
-        paths: &[("d/*", &["deep/*/end.ts"])],
-        has: &[],
-        base: "/w/a.js",
-        specifier: "d/q",
-        came: "real deep/q/end.ts slug end.ts",
-        noted: " /w/a.js>d/q /w>./deep/q/end.ts /w>deep/q/end.ts",
-    },
-    // a success ends the tries
-    Row {
-        url: "/w",
-        paths: &[("r/*", &["t/*"])],
-        has: &[("r/x", "k"), ("./t/x", "no")],
-        base: "/w/a.js",
-        specifier: "r/x",
-        came: "custom k",
-        noted: " /w/a.js>r/x",
-    },
-];
+fn patterns() -> &'static str {
+    "# of equal lengths the first, which decides alone
+/w | a/*:one/* a/*:two/* | ./two/x:no | /w/a.js | a/x = real one/x slug x | /w/a.js>a/x /w>./one/x /w>one/x
+# the longer one, though it is given later
+/w | a*:q/* ab*:p/* | ./p/c:k | /w/a.js | abc = custom k | /w/a.js>abc /w>./p/c
+# what stands behind the `*` counts for nothing
+/w | a/*/long:q/* a/b*:p/* | ./p/c:k | /w/a.js | a/bc = custom k | /w/a.js>a/bc /w>./p/c
+# an exact one before each wildcard
+/w | a*:q/* abc:e | ./e:k | /w/a.js | abc = custom k slug e | /w>./e
+# of two exact ones the first
+/w | abc:one abc:two | ./two:k | /w/a.js | abc = real /w/one slug one | /w>./one
+# a later one is not tried
+/w | ab*:p/*,r/* a*:q/* | ./q/bc:k | /w/a.js | abc = fault ab* 2 | /w/a.js>abc /w>./p/c /w>p/c /w/a.js>abc /w>./r/c /w>r/c
+# nothing need stand for the `*`
+/w | lib/*:src/* |  | /w/a.js | lib/ = real src/ slug  | /w/a.js>lib/ /w>./src/ /w>src/
+# the text before the `*` must be there
+/w | a/*:t/* | a:k | /w/a.js | a = custom k | /w/a.js>/w/a /w/a.js>a
+# each `*` of a target is replaced
+/w | @x/*:*/mid/* | q/mid/q:k | /w/a.js | @x/q = custom k | /w/a.js>@x/q /w>./q/mid/q /w>q/mid/q
+# the only target of `*` alone isn't answered unchecked
+/w | *:t/* |  | /w/a.js | m = fault * 1 | /w/a.js>m /w>./t/m /w>t/m
+# a wildcard's slug keeps its dots
+/w | d/*:deep/*/end.ts |  | /w/a.js | d/q = real deep/q/end.ts slug end.ts | /w/a.js>d/q /w>./deep/q/end.ts /w>deep/q/end.ts
+# a success ends the tries
+/w | r/*:t/* | r/x:k ./t/x:no | /w/a.js | r/x = custom k | /w/a.js>r/x"
+}
 
 // Exact targets, `node_modules` on either side, and what goes on as it is.
-const TARGETS: [Row; 14] = [
-    // an absolute target asks nothing
-    Row {
-        url: "/w",
-        paths: &[("abs", &["/opt/lib.min.js"])],
-        has: &[],
-        base: "/w/a.js",
-        specifier: "abs",
-        came: "real /opt/lib.min.js slug lib",
-        noted: "",
-    },
-    // the name of an index file gives no slug
-    Row {
-        url: "/w",
-        paths: &[("idx", &["src/index.ts"])],
-        has: &[],
-        base: "/w/a.js",
-        specifier: "idx",
-        came: "real /w/src/index.ts",
-        noted: " /w>./src/index.ts",
-    },
-    Row {
-        url: "/w",
-        paths: &[("idx", &["/w/index.tsx"])],
-        has: &[],
-        base: "/w/a.js",
-        specifier: "idx",
-        came: "real /w/index.tsx",
-        noted: "",
-    },
-    // up to the first dot, and one slash between
-    Row {
-        url: "/w/",
-        paths: &[("jq", &["vendor/.hidden.js"])],
-        has: &[],
-        base: "/w/a.js",
-        specifier: "jq",
-        came: "real /w/vendor/.hidden.js slug ",
-        noted: " /w/>./vendor/.hidden.js",
-    },
-    // an answer in `node_modules` is named by the specifier, and keeps its file
-    Row {
-        url: "/w",
-        paths: &[],
-        has: &[("m", "/w/node_modules/m/i.js")],
-        base: "/w/a.js",
-        specifier: "m",
-        came: "real m found /w/node_modules/m/i.js",
-        noted: " /w/a.js>/w/m /w/a.js>m",
-    },
-    // from there it goes on as it is
-    Row {
-        url: "/w",
-        paths: &[("m", &["x"])],
-        has: &[("m", "/w/node_modules/m/i.js")],
-        base: "/w/node_modules/q/i.js",
-        specifier: "m",
-        came: "real /w/node_modules/m/i.js found /w/node_modules/m/i.js",
-        noted: " /w/node_modules/q/i.js>m",
-    },
-    // the base folder stands outside
-    Row {
-        url: "/w",
-        paths: &[("v/*", &["node_modules/*"])],
-        has: &[("./node_modules/m", "/w/node_modules/m.js")],
-        base: "/w/a.js",
-        specifier: "v/m",
-        came: "real ./node_modules/m found /w/node_modules/m.js",
-        noted: " /w/a.js>v/m /w>./node_modules/m",
-    },
-    // or inside
-    Row {
-        url: "/w/node_modules/p",
-        paths: &[("v/*", &["l/*"])],
-        has: &[("./l/m", "/w/node_modules/p/l/m.js")],
-        base: "/w/a.js",
-        specifier: "v/m",
-        came: "real /w/node_modules/p/l/m.js found /w/node_modules/p/l/m.js",
-        noted: " /w/a.js>v/m /w/node_modules/p>./l/m",
-    },
-    // with a slug
-    Row {
-        url: "/w",
-        paths: &[("j", &["node_modules/j/j.js"])],
-        has: &[("./node_modules/j/j.js", "/w/node_modules/j/j.js")],
-        base: "/w/a.js",
-        specifier: "j",
-        came: "real ./node_modules/j/j.js slug j found /w/node_modules/j/j.js",
-        noted: " /w>./node_modules/j/j.js",
-    },
-    // a name that holds it is another
-    Row {
-        url: "/w",
-        paths: &[("m", &["x"])],
-        has: &[("./x", "k")],
-        base: "/w/my_node_modules/a.js",
-        specifier: "m",
-        came: "custom k slug x",
-        noted: " /w>./x",
-    },
-    // and so is a name that is no path
-    Row {
-        url: "/w",
-        paths: &[("m", &["x"])],
-        has: &[("./x", "k")],
-        base: "custom node_modules/a.js",
-        specifier: "m",
-        came: "custom k slug x",
-        noted: " /w>./x",
-    },
-    // `..` goes on as it is, and `.` does not
-    Row {
-        url: "/w",
-        paths: &[("*", &["t/*"])],
-        has: &[("..", "k")],
-        base: "/w/a.js",
-        specifier: "..",
-        came: "custom k",
-        noted: " /w/a.js>..",
-    },
-    Row {
-        url: "/w",
-        paths: &[("*", &["t/*"])],
-        has: &[],
-        base: "/w/a.js",
-        specifier: ".",
-        came: "fault * 1",
-        noted: " /w/a.js>. /w>./t/. /w>t/.",
-    },
-    // a specifier that begins with a dot isn't looked for behind the base folder
-    Row {
-        url: "/w",
-        paths: &[("a", &["b"])],
-        has: &[],
-        base: "/w/a.js",
-        specifier: ".x",
-        came: "refused",
-        noted: " /w/a.js>.x",
-    },
-];
-
-// What patterns are refused for.
-const REFUSED: [(Paths, TsError); 5] = [
-    (&[("a", &["x", "y"])], TsError::ExactNeedsOne { at: 0 }),
-    (&[("*/*", &["x"])], TsError::TwoWildcards { at: 0 }),
-    (
-        &[("a", &["x"]), ("b", &[])],
-        TsError::EmptyTargets { at: 1 },
-    ),
-    (
-        &[("a", &["x"]), ("b**", &[])],
-        TsError::EmptyTargets { at: 1 },
-    ),
-    (
-        &[("a", &["x"]), ("b**", &["x"]), ("c", &[])],
-        TsError::TwoWildcards { at: 1 },
-    ),
-];
+fn targets() -> &'static str {
+    "# an absolute target asks nothing
+/w | abs:/opt/lib.min.js |  | /w/a.js | abs = real /opt/lib.min.js slug lib |
+# the name of an index file gives no slug
+/w | idx:src/index.ts |  | /w/a.js | idx = real /w/src/index.ts | /w>./src/index.ts
+/w | idx:/w/index.tsx |  | /w/a.js | idx = real /w/index.tsx |
+# up to the first dot, and one slash between
+/w/ | jq:vendor/.hidden.js |  | /w/a.js | jq = real /w/vendor/.hidden.js slug  | /w/>./vendor/.hidden.js
+# an answer in `node_modules` is named by the specifier, and keeps its file
+/w |  | m:/w/node_modules/m/i.js | /w/a.js | m = real m found /w/node_modules/m/i.js | /w/a.js>/w/m /w/a.js>m
+# from there it goes on as it is
+/w | m:x | m:/w/node_modules/m/i.js | /w/node_modules/q/i.js | m = real /w/node_modules/m/i.js found /w/node_modules/m/i.js | /w/node_modules/q/i.js>m
+# the base folder stands outside
+/w | v/*:node_modules/* | ./node_modules/m:/w/node_modules/m.js | /w/a.js | v/m = real ./node_modules/m found /w/node_modules/m.js | /w/a.js>v/m /w>./node_modules/m
+# or inside
+/w/node_modules/p | v/*:l/* | ./l/m:/w/node_modules/p/l/m.js | /w/a.js | v/m = real /w/node_modules/p/l/m.js found /w/node_modules/p/l/m.js | /w/a.js>v/m /w/node_modules/p>./l/m
+# with a slug
+/w | j:node_modules/j/j.js | ./node_modules/j/j.js:/w/node_modules/j/j.js | /w/a.js | j = real ./node_modules/j/j.js slug j found /w/node_modules/j/j.js | /w>./node_modules/j/j.js
+# a name that holds it is another
+/w | m:x | ./x:k | /w/my_node_modules/a.js | m = custom k slug x | /w>./x
+# and so is a name that is no path
+/w | m:x | ./x:k | custom node_modules/a.js | m = custom k slug x | /w>./x
+# `..` goes on as it is, and `.` does not
+/w | *:t/* | ..:k | /w/a.js | .. = custom k | /w/a.js>..
+/w | *:t/* |  | /w/a.js | . = fault * 1 | /w/a.js>. /w>./t/. /w>t/.
+# a specifier that begins with a dot isn't looked for behind the base folder
+/w | a:b |  | /w/a.js | .x = refused | /w/a.js>.x"
+}
 
 // The patterns as a resolver takes them.
-fn paths_of(
-    alloc: Global,
-    paths: &[(&str, &[&str])],
-) -> Result<List<(Text, List<Text>)>, AllocError> {
+fn paths_of(alloc: Global, paths: &str) -> Result<List<(Text, List<Text>)>, Fail> {
     let mut all = Vec::new(alloc);
-    for (pattern, targets) in paths {
-        let mut texts = Vec::new(alloc);
-        for target in *targets {
-            texts.push(Text::of(alloc, target)?)?;
-        }
-        all.push((Text::of(alloc, pattern)?, List::from(texts)))?;
+    for path in paths.split_whitespace() {
+        let (pattern, targets) = path.split_once(':').ok_or("no targets")?;
+        all.push((Text::of(alloc, pattern)?, targets_of(alloc, targets)?))?;
     }
     Ok(List::from(all))
+}
+
+fn targets_of(alloc: Global, targets: &str) -> Result<List<Text>, AllocError> {
+    let mut texts = Vec::new(alloc);
+    for target in targets.split(',') {
+        if !target.is_empty() {
+            texts.push(Text::of(alloc, target)?)?;
+        }
+    }
+    Ok(List::from(texts))
 }
 
 fn mapping(
     alloc: Global,
     url: &str,
-    paths: &[(&str, &[&str])],
+    paths: &str,
     inner: Table,
-) -> Result<Result<TsConfigResolver<Table>, TsError>, AllocError> {
+) -> Result<Result<TsConfigResolver<Table>, TsError>, Fail> {
     let url = Text::of(alloc, url)?;
     let paths = paths_of(alloc, paths)?;
     match TsConfigResolver::new(alloc, inner, url, paths) {
@@ -447,8 +157,8 @@ fn came_to(
     }
 }
 
-// What a row comes to, and the table's requests.
-fn run(alloc: Global, row: &Row) -> Result<(String, String), Fail> {
+// What a row comes to, and the table's requests, as the row tells them.
+fn came_by(alloc: Global, row: &Row<'_>) -> Result<String, Fail> {
     let mut inner = table_of(alloc, row.has)?;
     let url = Text::of(alloc, row.url)?;
     let paths = paths_of(alloc, row.paths)?;
@@ -456,45 +166,51 @@ fn run(alloc: Global, row: &Row) -> Result<(String, String), Fail> {
         Ok(mut resolver) => ask(alloc, &mut resolver, row.base, row.specifier)?,
         Err(_) => return Err(Fail::from("patterns")),
     };
-    Ok((came_to(alloc, came)?, inner.noted))
+    let came = came_to(alloc, came)?;
+    Ok(format!(in alloc; "{} |{}", came.as_str(), inner.noted.as_str())?)
+}
+
+// Each row of a table comes to what it says.
+fn rows_come(rt: &impl Abort, alloc: Global, rows: &str) -> Result<(), Fail> {
+    for line in rows.lines() {
+        if !line.starts_with('#') {
+            let (given, wanted) = line.split_once(" = ").ok_or("no answer")?;
+            let row = row_of(given).ok_or("no request")?;
+            let came = came_by(alloc, &row)?;
+            assert_eq!(rt; came.as_str(), wanted, "{given}");
+        }
+    }
+    Ok(())
 }
 
 #[test]
 fn requests_from_nowhere(rt: HostRuntime) -> Result<(), Fail> {
-    for row in &FROM_NOWHERE {
-        let (came, noted) = run(rt.alloc(), row)?;
-        assert_eq!(rt; came.as_str(), row.came, "{}", row.specifier);
-        assert_eq!(rt; noted.as_str(), row.noted, "{}", row.specifier);
-    }
-    Ok(())
+    rows_come(&rt, rt.alloc(), from_nowhere())
 }
 
 #[test]
 fn patterns_decide(rt: HostRuntime) -> Result<(), Fail> {
-    for row in &PATTERNS {
-        let (came, noted) = run(rt.alloc(), row)?;
-        assert_eq!(rt; came.as_str(), row.came, "{}", row.specifier);
-        assert_eq!(rt; noted.as_str(), row.noted, "{}", row.specifier);
-    }
-    Ok(())
+    rows_come(&rt, rt.alloc(), patterns())
 }
 
 #[test]
 fn targets_and_modules(rt: HostRuntime) -> Result<(), Fail> {
-    for row in &TARGETS {
-        let (came, noted) = run(rt.alloc(), row)?;
-        assert_eq!(rt; came.as_str(), row.came, "{}", row.specifier);
-        assert_eq!(rt; noted.as_str(), row.noted, "{}", row.specifier);
-    }
-    Ok(())
+    rows_come(&rt, rt.alloc(), targets())
 }
 
+// What patterns are refused for.
 #[test]
 fn patterns_are_refused(rt: HostRuntime) -> Result<(), Fail> {
-    for (paths, cause) in &REFUSED {
-        let inner = table_of(rt.alloc(), &[])?;
+    for (paths, cause) in [
+        ("a:x,y", TsError::ExactNeedsOne { at: 0 }),
+        ("*/*:x", TsError::TwoWildcards { at: 0 }),
+        ("a:x b:", TsError::EmptyTargets { at: 1 }),
+        ("a:x b**:", TsError::EmptyTargets { at: 1 }),
+        ("a:x b**:x c:", TsError::TwoWildcards { at: 1 }),
+    ] {
+        let inner = table_of(rt.alloc(), "")?;
         let refused = mapping(rt.alloc(), "/w", paths, inner)?.err();
-        assert_eq!(rt; refused, Some(*cause));
+        assert_eq!(rt; refused, Some(cause));
     }
     Ok(())
 }

@@ -59,10 +59,12 @@ fn note(noted: &mut String, base: &FileName, specifier: &str) -> Result<(), Allo
     noted.push_str(specifier)
 }
 
-/// A table from specifiers to answers: a path is answered as one, with the file, and any other text as a name.
-pub fn table_of(alloc: Global, rows: &[(&str, &str)]) -> Result<Table, Fail> {
+/// A table from specifiers to answers, apart by blanks, with a colon between each two: a path is answered as one, with the file,
+/// and any other text as a name.
+pub fn table_of(alloc: Global, rows: &str) -> Result<Table, Fail> {
     let mut answers = IndexMap::new(alloc);
-    for (specifier, answer) in rows {
+    for row in rows.split_whitespace() {
+        let (specifier, answer) = row.split_once(':').ok_or("no answer")?;
         let specifier = Text::of(alloc, specifier)?;
         let answer = answer_of(alloc, answer)?;
         answers.insert(specifier, answer)?;

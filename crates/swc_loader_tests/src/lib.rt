@@ -8,6 +8,8 @@ mod example;
 #[cfg(test)]
 mod node_orders;
 #[cfg(test)]
+mod rows;
+#[cfg(test)]
 mod searches;
 #[cfg(test)]
 mod shared_readings;

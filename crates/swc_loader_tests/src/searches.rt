@@ -1,5 +1,5 @@
 // Searches and entries, worked out by hand from docs/ORDER.md.
-
+use crate::rows::tree_of;
 use std::alloc::Global;
 use std::test::Fail;
 use sugar_path::{Bytes, CleanPath};
@@ -13,17 +13,19 @@ fn candidates_asked(alloc: Global, text: &str) -> Result<String, Fail> {
     let mut tree = MemoryTree::new(alloc);
     let mut recorder = Recorder::new(alloc, &mut tree);
     let at = CleanPath::read(alloc, &CleanPath::root(alloc), text)?;
-    let conventions = Conventions::of_order();
     let _nothing = place(
         alloc,
         &mut recorder,
         &mut Readings::new(alloc),
-        &conventions,
+        &Conventions::of_order(),
         TargetEnv::Node,
         text,
         &at,
     )?;
-    let trail = recorder.into_trail();
+    names_before_the_folder(alloc, recorder.trail())
+}
+
+fn names_before_the_folder(alloc: Global, trail: &Trail) -> Result<String, Fail> {
     let mut names = String::new(alloc);
     for (question, _) in trail.iter() {
         let path = question.path();
@@ -103,198 +105,101 @@ fn told(alloc: Global, found: &Searched) -> Result<String, Fail> {
     }
 }
 
-// A tree with these files, each with its content.
-pub(crate) fn tree_of(alloc: Global, files: &[(&str, &str)]) -> Result<MemoryTree, Fail> {
-    let mut tree = MemoryTree::new(alloc);
-    for (path, content) in files {
-        tree.put(path, content.as_bytes(), path)?;
-    }
-    Ok(tree)
+// Searches of a folder: its path and the files, what the search comes to, and its questions.
+fn folders() -> &'static str {
+    r#"# its first index file
+/p | /p/index.jsx; /p/index.node = /p/index.jsx | /p/package.json /p/index.ts /p/index.tsx /p/index.js /p/index.jsx
+/p | /p/lib.js = nothing | /p/package.json /p/index.ts /p/index.tsx /p/index.js /p/index.jsx /p/index.node
+# no entry
+/p | /p/package.json {}; /p/index.ts = /p/index.ts | /p/package.json read:/p/package.json /p/index.ts
+/p | /p/package.json {"main": "lib/a"}; /p/lib/a.ts; /p/index.ts = /p/lib/a.ts | /p/package.json read:/p/package.json /p/lib/a.js /p/lib/a /p/lib/a.ts
+# an entry is searched without entry
+/p | /p/package.json {"main": "./q"}; /p/q/package.json {"main": "x.js"}; /p/q/x.js; /p/q/index.js = /p/q/index.js | /p/package.json read:/p/package.json /p/q.js /p/q /p/q.ts /p/q.tsx /p/q.jsx /p/q.node /p/q/index.ts /p/q/index.tsx /p/q/index.js
+# the index files follow an entry that is nowhere
+/p | /p/package.json {"main": "a.mjs"}; /p/index.ts = /p/index.ts | /p/package.json read:/p/package.json /p/a.mjs /p/a.mjs.ts /p/a.mjs.tsx /p/a.mjs.js /p/a.mjs.jsx /p/a.mjs.node /p/a.mts /p/a.mjs/index.ts /p/a.mjs/index.tsx /p/a.mjs/index.js /p/a.mjs/index.jsx /p/a.mjs/index.node /p/index.ts
+# an entry may lead anywhere
+/p | /p/package.json {"main": "../o.js"}; /o.js = /o.js | /p/package.json read:/p/package.json /o.js
+/p | /p/package.json {"main": "/q/o.js"}; /q/o.js = /q/o.js | /p/package.json read:/p/package.json /q/o.js
+# an empty entry is the folder with a `/` behind it, and so is `.`
+/p | /p/package.json {"main": ""}; /p/index.tsx = /p/index.tsx | /p/package.json read:/p/package.json /p.js /p.ts /p.tsx /p.jsx /p.node /p/index.ts /p/index.tsx
+/p | /p/package.json {"main": "."}; /p.tsx = /p.tsx | /p/package.json read:/p/package.json /p.js /p.ts /p.tsx
+# `..` has no file candidates
+/p | /p/package.json {"main": ".."}; /index.tsx = /index.tsx | /p/package.json read:/p/package.json /index.ts /index.tsx
+# a malformed file ends the search
+/p | /p/package.json {"main": 1}; /p/index.ts = malformed /p/package.json | /p/package.json read:/p/package.json"#
 }
 
-// Of a text or a folder: the files, what its search comes to, and the questions.
-#[derive(Drop)]
-struct Row {
-    searched: &'static str,
-    files: &'static [(&'static str, &'static str)],
-    found: &'static str,
-    asked: &'static str,
+// What a search came to, and its questions.
+fn line_of(alloc: Global, found: &Searched, trail: &Trail) -> Result<String, Fail> {
+    let mut line = told(alloc, found)?;
+    line.push_str(" |")?;
+    line.push_str(questions_in(alloc, trail)?.as_str())?;
+    Ok(line)
 }
 
-// Searches of the folder `/p`.
-const FOLDERS: [Row; 12] = [
-    // its first index file
-    Row {
-        searched: "/p",
-        files: &[("/p/index.jsx", ""), ("/p/index.node", "")],
-        found: "/p/index.jsx",
-        asked: " /p/package.json /p/index.ts /p/index.tsx /p/index.js /p/index.jsx",
-    },
-    Row {
-        searched: "/p",
-        files: &[("/p/lib.js", "")],
-        found: "nothing",
-        asked: " /p/package.json /p/index.ts /p/index.tsx /p/index.js /p/index.jsx /p/index.node",
-    },
-    // no entry
-    Row {
-        searched: "/p",
-        files: &[("/p/package.json", "{}"), ("/p/index.ts", "")],
-        found: "/p/index.ts",
-        asked: " /p/package.json read:/p/package.json /p/index.ts",
-    },
-    Row {
-        searched: "/p",
-        files: &[
-            ("/p/package.json", r#"{"main": "lib/a"}"#),
-            ("/p/lib/a.ts", ""),
-            ("/p/index.ts", ""),
-        ],
-        found: "/p/lib/a.ts",
-        asked: " /p/package.json read:/p/package.json /p/lib/a.js /p/lib/a /p/lib/a.ts",
-    },
-    // an entry is searched without entry
-    Row {
-        searched: "/p",
-        files: &[
-            ("/p/package.json", r#"{"main": "./q"}"#),
-            ("/p/q/package.json", r#"{"main": "x.js"}"#),
-            ("/p/q/x.js", ""),
-            ("/p/q/index.js", ""),
-        ],
-        found: "/p/q/index.js",
-        asked: " /p/package.json read:/p/package.json /p/q.js /p/q /p/q.ts /p/q.tsx /p/q.jsx /p/q.node /p/q/index.ts /p/q/index.tsx /p/q/index.js",
-    },
-    // the index files follow an entry that is nowhere
-    Row {
-        searched: "/p",
-        files: &[
-            ("/p/package.json", r#"{"main": "a.mjs"}"#),
-            ("/p/index.ts", ""),
-        ],
-        found: "/p/index.ts",
-        asked: " /p/package.json read:/p/package.json /p/a.mjs /p/a.mjs.ts /p/a.mjs.tsx /p/a.mjs.js /p/a.mjs.jsx /p/a.mjs.node /p/a.mts /p/a.mjs/index.ts /p/a.mjs/index.tsx /p/a.mjs/index.js /p/a.mjs/index.jsx /p/a.mjs/index.node /p/index.ts",
-    },
-    // an entry may lead anywhere
-    Row {
-        searched: "/p",
-        files: &[("/p/package.json", r#"{"main": "../o.js"}"#), ("/o.js", "")],
-        found: "/o.js",
-        asked: " /p/package.json read:/p/package.json /o.js",
-    },
-    Row {
-        searched: "/p",
-        files: &[
-            ("/p/package.json", r#"{"main": "/q/o.js"}"#),
-            ("/q/o.js", ""),
-        ],
-        found: "/q/o.js",
-        asked: " /p/package.json read:/p/package.json /q/o.js",
-    },
-    // an empty entry is the folder with a `/` behind it, and so is `.`
-    Row {
-        searched: "/p",
-        files: &[("/p/package.json", r#"{"main": ""}"#), ("/p/index.tsx", "")],
-        found: "/p/index.tsx",
-        asked: " /p/package.json read:/p/package.json /p.js /p.ts /p.tsx /p.jsx /p.node /p/index.ts /p/index.tsx",
-    },
-    Row {
-        searched: "/p",
-        files: &[("/p/package.json", r#"{"main": "."}"#), ("/p.tsx", "")],
-        found: "/p.tsx",
-        asked: " /p/package.json read:/p/package.json /p.js /p.ts /p.tsx",
-    },
-    // `..` has no file candidates
-    Row {
-        searched: "/p",
-        files: &[("/p/package.json", r#"{"main": ".."}"#), ("/index.tsx", "")],
-        found: "/index.tsx",
-        asked: " /p/package.json read:/p/package.json /index.ts /index.tsx",
-    },
-    // a malformed file ends the search
-    Row {
-        searched: "/p",
-        files: &[("/p/package.json", r#"{"main": 1}"#), ("/p/index.ts", "")],
-        found: "malformed /p/package.json",
-        asked: " /p/package.json read:/p/package.json",
-    },
-];
+// What the search of a folder comes to.
+fn folder_told(alloc: Global, searched: &str, files: &str) -> Result<String, Fail> {
+    let mut tree = tree_of(alloc, files)?;
+    let mut recorder = Recorder::new(alloc, &mut tree);
+    let path = CleanPath::read(alloc, &CleanPath::root(alloc), searched)?;
+    let found = folder(
+        alloc,
+        &mut recorder,
+        &mut Readings::new(alloc),
+        &Conventions::of_order(),
+        TargetEnv::Node,
+        &path,
+    )?;
+    line_of(alloc, &found, recorder.trail())
+}
 
 #[test]
 fn a_folder_is_searched_by_its_entry(rt: HostRuntime) -> Result<(), Fail> {
-    let conventions = Conventions::of_order();
-    for row in &FOLDERS {
-        let mut tree = tree_of(rt.alloc(), row.files)?;
-        let mut recorder = Recorder::new(rt.alloc(), &mut tree);
-        let path = CleanPath::read(rt.alloc(), &CleanPath::root(rt.alloc()), row.searched)?;
-        let found = folder(
-            rt.alloc(),
-            &mut recorder,
-            &mut Readings::new(rt.alloc()),
-            &conventions,
-            TargetEnv::Node,
-            &path,
-        )?;
-        assert_eq!(rt; told(rt.alloc(), &found)?.as_str(), row.found);
-        assert_eq!(rt;
-            questions_in(rt.alloc(), recorder.trail())?.as_str(),
-            row.asked
-        );
+    for line in folders().lines() {
+        if !line.starts_with('#') {
+            let (given, wanted) = line.split_once(" = ").ok_or("no answer")?;
+            let (searched, files) = given.split_once(" | ").ok_or("no files")?;
+            let told = folder_told(rt.alloc(), searched, files)?;
+            assert_eq!(rt; told.as_str(), wanted, "{given}");
+        }
     }
     Ok(())
 }
 
-// Searches of the place of a text.
-const PLACES: [Row; 4] = [
-    // files before the folder
-    Row {
-        searched: "/p",
-        files: &[("/p.ts", ""), ("/p/index.js", "")],
-        found: "/p.ts",
-        asked: " /p.js /p /p.ts",
-    },
-    Row {
-        searched: "/p",
-        files: &[("/p/package.json", r#"{"module": "m"}"#), ("/p/m.js", "")],
-        found: "/p/m.js",
-        asked: " /p.js /p /p.ts /p.tsx /p.jsx /p.node /p/package.json read:/p/package.json /p/m.js",
-    },
-    Row {
-        searched: "/p/a/..",
-        files: &[("/p.js", ""), ("/p/index.ts", "")],
-        found: "/p/index.ts",
-        asked: " /p/package.json /p/index.ts",
-    },
-    Row {
-        searched: "/",
-        files: &[("/package.json", r#"{"main": "p"}"#), ("/p", "")],
-        found: "/p",
-        asked: " /package.json read:/package.json /p.js /p",
-    },
-];
+// Searches of the place of a text, likewise.
+fn places() -> &'static str {
+    r#"# files before the folder
+/p | /p.ts; /p/index.js = /p.ts | /p.js /p /p.ts
+/p | /p/package.json {"module": "m"}; /p/m.js = /p/m.js | /p.js /p /p.ts /p.tsx /p.jsx /p.node /p/package.json read:/p/package.json /p/m.js
+/p/a/.. | /p.js; /p/index.ts = /p/index.ts | /p/package.json /p/index.ts
+/ | /package.json {"main": "p"}; /p = /p | /package.json read:/package.json /p.js /p"#
+}
+
+fn place_told(alloc: Global, text: &str, files: &str) -> Result<String, Fail> {
+    let mut tree = tree_of(alloc, files)?;
+    let mut recorder = Recorder::new(alloc, &mut tree);
+    let at = CleanPath::read(alloc, &CleanPath::root(alloc), text)?;
+    let found = place(
+        alloc,
+        &mut recorder,
+        &mut Readings::new(alloc),
+        &Conventions::of_order(),
+        TargetEnv::Node,
+        text,
+        &at,
+    )?;
+    line_of(alloc, &found, recorder.trail())
+}
 
 #[test]
 fn a_place_is_a_file_before_it_is_a_folder(rt: HostRuntime) -> Result<(), Fail> {
-    let conventions = Conventions::of_order();
-    for row in &PLACES {
-        let mut tree = tree_of(rt.alloc(), row.files)?;
-        let mut recorder = Recorder::new(rt.alloc(), &mut tree);
-        let text = row.searched;
-        let at = CleanPath::read(rt.alloc(), &CleanPath::root(rt.alloc()), text)?;
-        let found = place(
-            rt.alloc(),
-            &mut recorder,
-            &mut Readings::new(rt.alloc()),
-            &conventions,
-            TargetEnv::Node,
-            text,
-            &at,
-        )?;
-        assert_eq!(rt; told(rt.alloc(), &found)?.as_str(), row.found);
-        assert_eq!(rt;
-            questions_in(rt.alloc(), recorder.trail())?.as_str(),
-            row.asked
-        );
+    for line in places().lines() {
+        if !line.starts_with('#') {
+            let (given, wanted) = line.split_once(" = ").ok_or("no answer")?;
+            let (text, files) = given.split_once(" | ").ok_or("no files")?;
+            let told = place_told(rt.alloc(), text, files)?;
+            assert_eq!(rt; told.as_str(), wanted, "{given}");
+        }
     }
     Ok(())
 }
