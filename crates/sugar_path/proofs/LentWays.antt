@@ -1,6 +1,6 @@
 -- Paths that are in order as they stand, and the relative path at the end of a target.
 use Rattle.std.proofs.Common.{◌≡◌, ◌≢◌, ◌==◌, ◌&&◌, ◌⊎◌, inl, inr, ℕ, zero, suc, Bool, true, false, not, cond, List, [], ◌∷◌, ◌++◌, length, bytes_eq, reverse, replicate, refl, sym, ap, ◌∙◌, subst, append-nil}
-use Rattle.std.specs.Prelude.{◌↔◌, IsTrue, Option, Some, None, MatchOption, option_map}
+use Rattle.std.specs.Prelude.{◌↔◌, IsTrue, Option, Some, None, MatchOption}
 use denote.Ref.{Bor}
 use Rattle.std.specs.Str.{IsUtf8}
 use Rattle.std.specs.List.{join_with_byte}
@@ -223,21 +223,6 @@ lent-way base target r b t rest cwd =
         absurd (let e : [] ≡ 47 ∷ begun.0 = append_cancel_left (bare base) [] (47 ∷ begun.0) (append-nil (bare base) ∙ sym w.0 ∙ is ∙ ap (λ s. bare base ++ s) begun.1) in cc)
 
 -- ---- what the code finds
-pub rest-none : (front text : List ℕ) → ((r : List ℕ) → text ≢ front ++ r) → IsRestBehind front text None
-rest-none front text none = (λ e. none [] (e ∙ sym (append-nil front)), λ r. none (47 ∷ r))
-
-pub rest-all : (front text rest : List ℕ) → text ≡ front ++ rest → length rest ≡ 0 → IsRestBehind front text (Some rest)
-rest-all front text rest is empty =
-    let none = nil_from_length rest empty in
-    inl (is ∙ ap (λ r. front ++ r) none ∙ append-nil front, none)
-
-pub rest-behind : (front text rest : List ℕ) (r : Option (Bor (List ℕ))) → text ≡ front ++ rest → length rest ≢ 0 → MatchOption r ((x : List ℕ) → rest ≢ (47 ∷ []) ++ x) (λ x. rest ≡ (47 ∷ []) ++ x.now) → IsRestBehind front text (option_map (λ x. x.now) r)
-rest-behind front text rest None is some none = (
-  λ e. some (ap length (append_cancel_left front rest [] (sym is ∙ e ∙ sym (append-nil front)))),
-  λ x e. none x (append_cancel_left front rest (47 ∷ x) (sym is ∙ e)),
-)
-rest-behind front text rest (Some x) is some cut = inr (is ∙ ap (λ r. front ++ r) cut)
-
 abbrev pub IsEmptyOrPlace : List ℕ → Type 0
 IsEmptyOrPlace t = (t ≡ []) ⊎ (place t ≡ t)
 

@@ -98,16 +98,6 @@ names-plain (c ∷ t) some begins starts unended up =
 abbrev pub StartsBefore : ℕ → List ℕ → Type 0
 StartsBefore n t = (k : ℕ) → k < n → IsStartAt t k
 
-pub starts-none : (t : List ℕ) → StartsBefore 0 t
-starts-none t k lt = absurd (omega (arith, lt))
-
-pub starts-more : (t : List ℕ) (at : ℕ) → StartsBefore at t → ((k : ℕ) → at ≤ k → k < at + 16 → IsStartAt t k) → StartsBefore (at + 16) t
-starts-more t at before block k lt = by_place (leb_tells at k)
-  where
-    by_place : ((leb at k ≡ true) × (at ≤ k)) ⊎ ((leb at k ≡ false) × (k < at)) → IsStartAt t k
-    by_place (inl w) = block k w.1 lt
-    by_place (inr w) = before k w.1
-
 -- to the end of a text
 pub starts-all : (t : List ℕ) (at last : ℕ) → 16 < length t → last ≡ length t - 16 - 1 → last ≤ at → StartsBefore at t → ((k : ℕ) → last ≤ k → k < last + 16 → IsStartAt t k) → (k : ℕ) → k + 1 < length t → IsStartAt t k
 starts-all t at last long is le before block k lt = by_place (leb_tells last k)

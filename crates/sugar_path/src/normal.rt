@@ -76,7 +76,7 @@ fn climb_of(path: &[u8]) -> Climb
     ensures { HasClimb (route_by_parts (Relative 0 []) (parts path.now)) result }
 {
     let mut climb = Climb { ups: 0, depth: 0 };
-    for part in path.split(|b| *b == b'/') {
+    for part in Parts::of(path) {
         match lead_of(part) {
             Lead::Nowhere => {}
             Lead::Down => climb.depth += 1,
