@@ -12,4 +12,8 @@ mod node_search;
 #[cfg(test)]
 mod refusals;
 #[cfg(test)]
+mod sessions;
+#[cfg(test)]
 mod trails;
+#[cfg(test)]
+mod words;

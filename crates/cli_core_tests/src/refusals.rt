@@ -3,8 +3,8 @@ use crate::documents::{comes_to, ended};
 use std::alloc::{AllocError, Global};
 use std::test::Fail;
 
-// The root `app`, which binds `foo`, `gone`, which has no row, and `zipped`, which lies in an archive; and `foo`, which binds itself
-// alone, has the peer `peer`, and may not fall back.
+// The root `app`, which binds `foo`, `gone`, which has no row, and `zipped`, which lies in an archive; and `foo`,
+// which binds itself alone, has the peer `peer`, and may not fall back.
 fn whole_manifest() -> &'static str {
     r#""text":"const RAW_RUNTIME_STATE =\n'{\"dependencyTreeRoots\":[{\"name\":\"app\",\"reference\":\"workspace:.\"}],\"enableTopLevelFallback\":false,\"fallbackExclusionList\":[],\"fallbackPool\":[],\"packageRegistryData\":[[null,[[null,{\"packageLocation\":\"./\",\"packageDependencies\":[[\"foo\",\"npm:1.0.0\"],[\"gone\",\"npm:1.0.0\"],[\"zipped\",\"npm:1.0.0\"]]}]]],[\"app\",[[\"workspace:.\",{\"packageLocation\":\"./\",\"packageDependencies\":[[\"foo\",\"npm:1.0.0\"],[\"gone\",\"npm:1.0.0\"],[\"zipped\",\"npm:1.0.0\"]]}]]],[\"foo\",[[\"npm:1.0.0\",{\"packageLocation\":\"./.yarn/foo/\",\"packageDependencies\":[[\"foo\",\"npm:1.0.0\"],[\"peer\",null]]}]]],[\"zipped\",[[\"npm:1.0.0\",{\"packageLocation\":\"./c/z.zip/node_modules/z/\",\"packageDependencies\":[]}]]]]}';\n""#
 }

@@ -1,5 +1,5 @@
-// Lines with trails, the counts of generated projects, and the words that ask for them.
-use crate::documents::{comes_to, ended};
+// Lines with their trails.
+use crate::documents::documents_that_come;
 use std::test::Fail;
 
 // Documents, and the line with its trail.
@@ -12,62 +12,9 @@ fn lines() -> &'static str {
 
 #[test]
 fn lines_tell_their_trails(rt: HostRuntime) -> Result<(), Fail> {
-    let mut tried = 0u32;
-    for row in lines().lines() {
-        let (document, line) = row.split_once('|').ok_or("a line")?;
-        let line = ended(rt.alloc(), line)?;
-        let came = comes_to(
-            rt.alloc(),
-            "resolve --trail",
-            document.as_bytes(),
-            0,
-            line.as_str(),
-        )?;
-        assert!(rt; came, "at {document}");
-        tried = tried.saturating_add(1);
-    }
-    assert_eq!(rt; tried, 4);
-    Ok(())
-}
-
-#[test]
-fn generated_projects_are_counted(rt: HostRuntime) -> Result<(), Fail> {
-    for (words, line) in [
-        (
-            "generate 1",
-            "requests 2 answered 1 refused 1 questions 13\n",
-        ),
-        (
-            "generate 7",
-            "requests 8 answered 7 refused 1 questions 73\n",
-        ),
-        (
-            "generate 20",
-            "requests 21 answered 20 refused 1 questions 203\n",
-        ),
-    ] {
-        let came = comes_to(rt.alloc(), words, b"", 0, line)?;
-        assert!(rt; came, "at {words}");
-    }
-    Ok(())
-}
-
-#[test]
-fn other_words_are_no_size(rt: HostRuntime) -> Result<(), Fail> {
-    for words in [
-        "generate",
-        "generate 0",
-        "generate 07",
-        "generate +7",
-        "generate 7x",
-        "generate 1001",
-        "generate 65537",
-        "generate 7 7",
-        "resolve --trails",
-        "resolve resolve --trail",
-    ] {
-        let came = comes_to(rt.alloc(), words, b"", 2, "")?;
-        assert!(rt; came, "at {words}");
-    }
+    assert_eq!(rt;
+        documents_that_come(rt.alloc(), "resolve --trail", lines())?,
+        4
+    );
     Ok(())
 }

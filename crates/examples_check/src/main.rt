@@ -1,9 +1,10 @@
 //! Whether each document of a folder gives the text that stands beside it, `NAME.out` for `NAME.json`, or a front of it where writing
-//! fails, and whether the trails of its requests decide. It is given the folder.
+//! fails, and whether the trails of its requests decide. It is given the folder. A document whose name begins with
+//! `session` is run by that command, each other one by `resolve`.
 #![tactic(auto)]
 
-ghost use Rattle.std.specs.Prelude.{◌≡◌, false, true, Some, IfOk, IfSome};
-ghost use Rattle.cli_core.specs.Command.{asked};
+ghost use Rattle.std.specs.Prelude.{◌≡◌, true, Some, IfOk, IfSome};
+ghost use Rattle.cli_core.specs.Command.{asked, reader_of};
 ghost use Rattle.cli_core.specs.Run.{reply_for};
 
 mod cut_short;
@@ -11,7 +12,7 @@ mod replays;
 
 use crate::cut_short::ends_at_each_sink;
 use crate::replays::{Replays, replays_in};
-use cli_core::{Command, DocumentKind, PlainSink, PlainSource, Status, run};
+use cli_core::{DocumentKind, PlainSink, PlainSource, Status, run};
 use std::alloc::{AllocError, Global};
 use std::fs::Files;
 use std::io::ErrorKind;
@@ -38,20 +39,31 @@ fn tell(rt: &(impl Files + Print + AllocGlobal), folder: &str, name: &str) -> io
         files,
         differ,
     } = replays_in(rt.alloc(), &document)?;
-    let ends = how_sinks_end(rt.alloc(), &document, &wanted)?;
-    let tells = how_it_is_written(rt.alloc(), document, &wanted)?;
+    let kind = kind_of(name);
+    let ends = how_sinks_end(rt.alloc(), kind, &document, &wanted)?;
+    let tells = how_it_is_written(rt.alloc(), kind, document, &wanted)?;
     println!(rt;
         "{name}: {tells}, {ends}; {requests} requests replayed, without {questions} questions and {files} files: {differ} differ"
     )
 }
 
+// What a document holds, by its name.
+fn kind_of(name: &str) -> DocumentKind {
+    if name.starts_with("session") {
+        DocumentKind::Steps
+    } else {
+        DocumentKind::Requests { trails: false }
+    }
+}
+
 fn how_sinks_end(
     alloc: Global,
+    kind: DocumentKind,
     document: &[u8],
     wanted: &[u8],
 ) -> Result<&'static str, AllocError> {
     let document = Bytes::of(alloc, document)?;
-    if ends_at_each_sink(alloc, &words(alloc)?, &document, wanted)? {
+    if ends_at_each_sink(alloc, &words(alloc, kind)?, &document, wanted)? {
         Ok("cut short by sinks")
     } else {
         Ok("cut short otherwise")
@@ -60,10 +72,11 @@ fn how_sinks_end(
 
 fn how_it_is_written(
     alloc: Global,
+    kind: DocumentKind,
     document: Vec<u8>,
     wanted: &[u8],
 ) -> Result<&'static str, AllocError> {
-    if gives(alloc, document, wanted)? {
+    if gives(alloc, kind, document, wanted)? {
         Ok("as written")
     } else {
         Ok("differs")
@@ -86,23 +99,33 @@ fn documents(
     Ok(names)
 }
 
-// Whether the program writes this text for the document.
-fn gives(alloc: Global, document: Vec<u8>, wanted: &[u8]) -> Result<bool, AllocError>
-    ensures { IfOk result (λ gives. gives ≡ true → (reply_for (DocumentKind.Requests false) document.items).1 ≡ wanted.now) }
+// Whether the program writes this text for the document of a kind.
+fn gives(
+    alloc: Global,
+    kind: DocumentKind,
+    document: Vec<u8>,
+    wanted: &[u8],
+) -> Result<bool, AllocError>
+    ensures { IfOk result (λ gives. gives ≡ true → (reply_for kind document.items).1 ≡ wanted.now) }
 {
     // with room for one byte more, a longer text differs
-    match written(alloc, document, wanted.len().saturating_add(1))? {
+    match written(alloc, kind, document, wanted.len().saturating_add(1))? {
         Some(sink) => Ok(sink.written() == wanted),
         None => Ok(false),
     }
 }
 
-// What the program writes for the document, where that is written whole.
-fn written(alloc: Global, document: Vec<u8>, room: usize) -> Result<Option<PlainSink>, AllocError>
+// What the program writes for the document of a kind, where that is written whole.
+fn written(
+    alloc: Global,
+    kind: DocumentKind,
+    document: Vec<u8>,
+    room: usize,
+) -> Result<Option<PlainSink>, AllocError>
     ensures { IfOk result (λ sink. IfSome sink (λ sink.
-        sink.written ≡ (reply_for (DocumentKind.Requests false) document.items).1)) }
+        sink.written ≡ (reply_for kind document.items).1)) }
 {
-    let words = words(alloc)?;
+    let words = words(alloc, kind)?;
     let mut source = PlainSource::new(Bytes::from_vec(document)?);
     let mut sink = PlainSink::new(alloc, room)?;
     let mut disk = MemoryTree::new(alloc);
@@ -113,8 +136,19 @@ fn written(alloc: Global, document: Vec<u8>, room: usize) -> Result<Option<Plain
     }
 }
 
-fn words(alloc: Global) -> Result<Vec<String>, AllocError>
-    ensures { IfOk result (λ words. asked words.items ≡ Some (Command.Resolve false)) }
+// The words that ask for the command which reads a document of a kind.
+fn words(alloc: Global, kind: DocumentKind) -> Result<Vec<String>, AllocError>
+    ensures { IfOk result (λ words. asked words.items ≡ Some (reader_of kind)) }
 {
-    Ok(vec![in alloc; String::from_str(alloc, "resolve")?]?)
+    match kind {
+        DocumentKind::Requests { trails: false } => {
+            Ok(vec![in alloc; String::from_str(alloc, "resolve")?]?)
+        }
+        DocumentKind::Requests { trails: true } => {
+            let resolve = String::from_str(alloc, "resolve")?;
+            let trails = String::from_str(alloc, "--trail")?;
+            Ok(vec![in alloc; resolve, trails]?)
+        }
+        DocumentKind::Steps => Ok(vec![in alloc; String::from_str(alloc, "session")?]?),
+    }
 }

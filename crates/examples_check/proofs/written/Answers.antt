@@ -1,6 +1,5 @@
-use Rattle.std.proofs.Common.{ap, ◌∙◌, Some, false}
+use Rattle.std.proofs.Common.{ap, ◌∙◌, Some}
 use Rattle.cli_core.specs.Command.{asked}
-use Rattle.cli_core.specs.declared.document_kind.DocumentKind.TheVariants.{Requests}
 use Rattle.cli_core.specs.MemoryStreams.{CountingRoom}
 use Rattle.examples_check.proofs.Replies.{holds_report, holds_cause}
 use Rattle.examples_check.proofs.written.Goals as goal
@@ -10,11 +9,11 @@ returns-in-Done c =
     let named = ap asked c.deref.ensures.value ∙ c.in_ok-words.ensures in
     let given = ap (λ b. Some b) (c.new-source.ensures ∙ c.in_ok-from_vec.ensures) in
     let empty = ap (λ (s : CountingRoom). s.written) c.in_ok-sink.ensures in
-    holds_report _ _ _ _ empty (c.run.ensures.done (Requests false) named c.in-Done.is _ given)
+    holds_report c.args.kind _ _ _ _ empty (c.run.ensures.done c.args.kind named c.in-Done.is _ given)
 
 pub returns-in-Refused : goal.returns-in-Refused
 returns-in-Refused c =
     let named = ap asked c.deref.ensures.value ∙ c.in_ok-words.ensures in
     let given = ap (λ b. Some b) (c.new-source.ensures ∙ c.in_ok-from_vec.ensures) in
     let empty = ap (λ (s : CountingRoom). s.written) c.in_ok-sink.ensures in
-    holds_cause _ _ _ _ empty (c.run.ensures.refused (Requests false) named c.in-Refused.is _ given)
+    holds_cause c.args.kind _ _ _ _ empty (c.run.ensures.refused c.args.kind named c.in-Refused.is _ given)
