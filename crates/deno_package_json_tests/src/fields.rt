@@ -1,8 +1,10 @@
 // Values from outside, and that calls succeed: the fields, their JSON and the paths.
-ghost use Rattle.std.specs.Prelude.{◌≡◌, IfOk, codes};
+ghost use Rattle.std.specs.Prelude.{◌≡◌, IfOk, IsTrue, codes};
 ghost use Rattle.sugar_path.specs.Path.{is_absolute};
 
-use crate::fixtures::{objects, paths, texts};
+use crate::fixtures::{faults, fields, mains, urls, values};
+use crate::packages::{Asked, told_of, told_of_value};
+use crate::rows::{Told, rows_come};
 use deno_package_json::{NodeModuleKind, PackageJson, PackageJsonLoadError, new_rc};
 use serde_json::Value;
 use std::alloc::{AllocError, Global};
@@ -16,34 +18,28 @@ fn loaded(alloc: Global, source: &str) -> Result<PackageJson, PackageJsonLoadErr
     PackageJson::load_from_string(alloc, Text::of(alloc, "/p/package.json")?, source)
 }
 
-fn value_of(alloc: Global, source: &str) -> Result<Value, PackageJsonLoadError> {
-    let package = loaded(alloc, source)?;
-    Ok(package.to_value(alloc)?)
+// The compact JSON of one field.
+pub(crate) fn field_told(alloc: Global, given: &str) -> Result<String, Fail> {
+    let (source, name) = given.split_once(" | ").ok_or("no field")?;
+    told_of(alloc, source, Asked::Field(name))
 }
 
-// The compact JSON of one field.
-fn field_of(alloc: Global, source: &str, name: &str) -> Result<String, PackageJsonLoadError> {
-    let value = value_of(alloc, source)?;
+pub(crate) fn field_in(alloc: Global, package: &PackageJson, name: &str) -> Result<String, Fail> {
+    let value = package.to_value(alloc)?;
     match value.get(name) {
         Some(field) => Ok(field.to_string(alloc)?),
-        None => Ok(String::from_str(alloc, "absent")?),
+        None => Err(Fail::from("absent")),
     }
 }
 
 #[test]
 fn fields_are_read_by_their_kinds(rt: HostRuntime) -> Result<(), Fail> {
-    for rows in [texts(), objects()] {
-        for (source, name, written) in rows {
-            let field = field_of(rt.alloc(), source, name)?;
-            assert_eq!(rt; field.as_str(), *written, "{name} of {source}");
-        }
-    }
-    Ok(())
+    rows_come(&rt, rt.alloc(), Told::Field, fields())
 }
 
-// Which fault is told, or that there is none.
-fn fault_of(loaded: &Result<PackageJson, PackageJsonLoadError>) -> &'static str {
-    match loaded {
+// Which fault is told of a text, or that there is none.
+fn fault_in(alloc: Global, source: &str) -> &'static str {
+    match loaded(alloc, source) {
         Ok(_) => "none",
         Err(PackageJsonLoadError::Io { .. }) => "Io",
         Err(PackageJsonLoadError::Deserialize { .. }) => "Deserialize",
@@ -53,38 +49,20 @@ fn fault_of(loaded: &Result<PackageJson, PackageJsonLoadError>) -> &'static str 
     }
 }
 
+pub(crate) fn fault_told(alloc: Global, source: &str) -> Result<String, Fail> {
+    Ok(String::from_str(alloc, fault_in(alloc, source))?)
+}
+
+// White space of any kind is an empty package too, and a mark of the order of bytes is no white space.
 #[test]
 fn the_first_fault_is_told(rt: HostRuntime) -> Result<(), Fail> {
-    for (source, fault) in [
-        ("", "none"),
-        (" \t\r\n\u{a0}\u{2003}\u{3000}", "none"),
-        ("{", "Deserialize"),
-        ("{} {}", "Deserialize"),
-        ("\u{feff}{}", "Deserialize"),
-        ("{\"name\":\"\\ud800\"}", "Deserialize"),
-        ("{\"x\":1.5}", "HoldsFloat"),
-        ("{\"x\":[{\"y\":1e2}]}", "HoldsFloat"),
-        ("{\"x\":18446744073709551616}", "HoldsFloat"),
-        ("{\"x\":-0}", "HoldsFloat"),
-        ("1.5", "HoldsFloat"),
-        ("{\"exports\":{\".\":1,\"a\":2.5}}", "HoldsFloat"),
-        ("{\"exports\":{\".\":1,\"a\":2}}", "MixedExports"),
-        ("{\"exports\":{\"./a\":1,\"\":2}}", "MixedExports"),
-        ("{\"exports\":{\"..\":1,\".\":2}}", "none"),
-        ("{\"exports\":[{\".\":1,\"a\":2}]}", "none"),
-        ("{\"imports\":{\".\":1,\"a\":2}}", "none"),
-    ] {
-        let found = loaded(rt.alloc(), source);
-        assert_eq!(rt; fault_of(&found), fault, "{source}");
-    }
-    Ok(())
+    let blank = " \t\r\n\u{a0}\u{2003}\u{3000}";
+    assert_eq!(rt; fault_in(rt.alloc(), blank), "none");
+    assert_eq!(rt; fault_in(rt.alloc(), "\u{feff}{}"), "Deserialize");
+    rows_come(&rt, rt.alloc(), Told::Fault, faults())
 }
 
-fn fault_in(alloc: Global, source: &str) -> &'static str {
-    fault_of(&loaded(alloc, source))
-}
-
-// So many times the text.
+// So many times a text.
 fn repeated(alloc: Global, text: &str, times: usize) -> Result<String, AllocError> {
     let mut whole = String::new(alloc);
     for _ in 0..times {
@@ -93,81 +71,75 @@ fn repeated(alloc: Global, text: &str, times: usize) -> Result<String, AllocErro
     Ok(whole)
 }
 
-#[test]
-fn long_texts_are_read_or_refused(rt: HostRuntime) -> Result<(), Fail> {
-    let mut text = repeated(rt.alloc(), "        ", 131072)?;
-    assert_eq!(rt; fault_in(rt.alloc(), text.as_str()), "none");
-    text.push_str("{\"name\":\"n\"}")?;
-    assert_eq!(rt; fault_in(rt.alloc(), text.as_str()), "none");
-    text.push_str("x")?;
-    assert_eq!(rt; fault_in(rt.alloc(), text.as_str()), "Deserialize");
-    Ok(())
+// The fault of a text that stands behind a megabyte of blanks.
+fn fault_behind_blanks(alloc: Global, text: &str) -> Result<&'static str, AllocError> {
+    let mut whole = repeated(alloc, "        ", 131072)?;
+    whole.push_str(text)?;
+    Ok(fault_in(alloc, whole.as_str()))
+}
+
+// The fault of so many lists, each in the one before it.
+fn fault_of_lists(alloc: Global, levels: usize) -> Result<&'static str, AllocError> {
+    let mut whole = repeated(alloc, "[", levels)?;
+    whole.push_str(repeated(alloc, "]", levels)?.as_str())?;
+    Ok(fault_in(alloc, whole.as_str()))
+}
+
+// Texts behind a megabyte of blanks, and lists within lists, so many levels deep.
+fn long_and_deep() -> &'static str {
+    r#"blanks  = none
+blanks {"name":"n"} = none
+blanks {"name":"n"}x = Deserialize
+lists 127 = none
+lists 128 = Deserialize
+lists 100000 = Deserialize"#
+}
+
+pub(crate) fn long_or_deep_told(alloc: Global, given: &str) -> Result<String, Fail> {
+    let (kind, text) = given.split_once(' ').ok_or("no text")?;
+    let fault = if kind == "blanks" {
+        fault_behind_blanks(alloc, text)?
+    } else {
+        fault_of_lists(alloc, text.parse()?)?
+    };
+    Ok(String::from_str(alloc, fault)?)
 }
 
 #[test]
-fn deep_texts_are_read_or_refused(rt: HostRuntime) -> Result<(), Fail> {
-    for (levels, fault) in [(127, "none"), (128, "Deserialize"), (100000, "Deserialize")] {
-        let mut text = repeated(rt.alloc(), "[", levels)?;
-        text.push_str(repeated(rt.alloc(), "]", levels)?.as_str())?;
-        assert_eq!(rt; fault_in(rt.alloc(), text.as_str()), fault);
-    }
-    Ok(())
+fn long_and_deep_texts_are_read_or_refused(rt: HostRuntime) -> Result<(), Fail> {
+    rows_come(&rt, rt.alloc(), Told::LongOrDeep, long_and_deep())
 }
 
-// The JSON of a package that was loaded from a value.
-fn rewritten(alloc: Global, source: &str) -> Result<String, Fail> {
+// The JSON of the package that a value is.
+pub(crate) fn value_told(alloc: Global, source: &str) -> Result<String, Fail> {
     let given = Value::from_str(alloc, source)?;
-    let path = Text::of(alloc, "/p/package.json")?;
-    let package = PackageJson::load_from_value(alloc, path, &given)?;
+    told_of_value(alloc, &given)
+}
+
+pub(crate) fn value_in(alloc: Global, package: &PackageJson) -> Result<String, Fail> {
     let value = package.to_value(alloc)?;
     Ok(value.to_string(alloc)?)
 }
 
 #[test]
 fn values_are_loaded_and_written(rt: HostRuntime) -> Result<(), Fail> {
-    for (source, written) in [
-        (
-            "{}",
-            "{\"bin\":null,\"dependencies\":null,\"devDependencies\":null,\"exports\":null,\"imports\":null,\"main\":null,\"module\":null,\"name\":null,\"scripts\":null,\"type\":\"none\",\"types\":null,\"version\":null,\"workspaces\":null}",
-        ),
-        (
-            "{\"name\":\"t\",\"version\":\"1\",\"exports\":{\".\":\"./m.js\"},\"bin\":\"./m.js\",\"types\":\"./t.d.ts\",\"imports\":{\"#t\":\"./m.js\"},\"main\":\"./m.js\",\"module\":\"./n.js\",\"type\":\"module\",\"dependencies\":{\"n\":\"1.2\"},\"devDependencies\":{\"n\":\"1.2\"},\"scripts\":{\"t\":\"x\"},\"workspaces\":[\"a\",\"b\"]}",
-            "{\"bin\":\"./m.js\",\"dependencies\":{\"n\":\"1.2\"},\"devDependencies\":{\"n\":\"1.2\"},\"exports\":{\".\":\"./m.js\"},\"imports\":{\"#t\":\"./m.js\"},\"main\":\"./m.js\",\"module\":\"./n.js\",\"name\":\"t\",\"scripts\":{\"t\":\"x\"},\"type\":\"module\",\"types\":\"./t.d.ts\",\"version\":\"1\",\"workspaces\":[\"a\",\"b\"]}",
-        ),
-    ] {
-        let text = rewritten(rt.alloc(), source)?;
-        assert_eq!(rt; text.as_str(), written);
-    }
-    Ok(())
+    rows_come(&rt, rt.alloc(), Told::Value, values())
+}
+
+// The main modules for an ES module that asks, and for another.
+pub(crate) fn mains_told(alloc: Global, source: &str) -> Result<String, Fail> {
+    told_of(alloc, source, Asked::Mains)
+}
+
+pub(crate) fn mains_in(alloc: Global, package: &PackageJson) -> Result<String, Fail> {
+    let esm = package.main(NodeModuleKind::Esm).unwrap_or("none");
+    let cjs = package.main(NodeModuleKind::Cjs).unwrap_or("none");
+    Ok(format!(in alloc; "{esm}, {cjs}")?)
 }
 
 #[test]
 fn the_main_module_depends_on_who_asks(rt: HostRuntime) -> Result<(), Fail> {
-    for (source, esm, cjs) in [
-        ("{}", None, None),
-        ("{\"main\":\"m\"}", Some("m"), Some("m")),
-        ("{\"module\":\"n\",\"main\":\"m\"}", Some("m"), Some("m")),
-        ("{\"type\":\"commonjs\",\"module\":\"n\"}", None, None),
-        (
-            "{\"type\":\"module\",\"module\":\"n\",\"main\":\"m\"}",
-            Some("n"),
-            Some("m"),
-        ),
-        (
-            "{\"type\":\"module\",\"module\":\"\",\"main\":\"m\"}",
-            None,
-            Some("m"),
-        ),
-        ("{\"type\":\"module\",\"main\":\"m\"}", Some("m"), Some("m")),
-        ("{\"main\":\" \u{a0}m n\\t\\n\"}", Some("m n"), Some("m n")),
-        ("{\"main\":\" \u{2003} \"}", None, None),
-        ("{\"main\":7}", Some("7"), Some("7")),
-    ] {
-        let package = loaded(rt.alloc(), source)?;
-        assert_eq!(rt; package.main(NodeModuleKind::Esm), esm, "{source}");
-        assert_eq!(rt; package.main(NodeModuleKind::Cjs), cjs, "{source}");
-    }
-    Ok(())
+    rows_come(&rt, rt.alloc(), Told::Mains, mains())
 }
 
 #[test]
@@ -184,20 +156,28 @@ fn a_package_knows_its_folder(rt: HostRuntime) -> Result<(), Fail> {
 fn is_absolute(path: &str) -> bool
     ensures { result ≡ is_absolute path.now }
 {
-    match path.as_bytes() {
-        [first, ..] => *first == b'/',
-        [] => false,
-    }
+    path.starts_with('/')
 }
 
-// The table has each byte that a text can hold. The bytes 192, 193 and above 244 are in no character's UTF-8.
+// The file URL of a path.
+pub(crate) fn url_told(alloc: Global, path: &str) -> Result<String, Fail> {
+    if !is_absolute(path) {
+        return Err(Fail::from("a relative path"));
+    }
+    let url = url_of(alloc, path)?;
+    Ok(String::from_str(alloc, url.as_str())?)
+}
+
+fn url_of(alloc: Global, path: &str) -> Result<Text, PackageJsonLoadError>
+    requires { IsTrue (is_absolute path.now) }
+{
+    let package = PackageJson::load_from_string(alloc, Text::of(alloc, path)?, "")?;
+    Ok(package.specifier(alloc)?)
+}
+
+// The bytes 192, 193 and above 244 are in no character's UTF-8. A line feed can stand in no row, so it is held apart.
 #[test]
 fn bytes_of_a_path_are_escaped(rt: HostRuntime) -> Result<(), Fail> {
-    for (path, url) in paths() {
-        assert!(rt; is_absolute(path));
-        let package = PackageJson::load_from_string(rt.alloc(), Text::of(rt.alloc(), path)?, "")?;
-        let specifier = package.specifier(rt.alloc())?;
-        assert_eq!(rt; specifier.as_str(), *url);
-    }
-    Ok(())
+    assert_eq!(rt; url_told(rt.alloc(), "/\n")?.as_str(), "file:///%0A");
+    rows_come(&rt, rt.alloc(), Told::Url, urls())
 }

@@ -9,3 +9,7 @@ mod fields;
 mod fixtures;
 #[cfg(test)]
 mod loads;
+#[cfg(test)]
+mod packages;
+#[cfg(test)]
+mod rows;

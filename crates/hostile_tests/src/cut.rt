@@ -1,5 +1,5 @@
 // Manifests and locks that end too early.
-use crate::requests::{came, node_project, settings, tree_of};
+use crate::requests::{came_for_node, put, settings, tree_of};
 use resolve_stack::{Project, ProjectError, TargetEnv};
 use std::alloc::Global;
 use std::test::Fail;
@@ -14,14 +14,9 @@ fn manifest() -> &'static str {
 // What `foo` comes to where the manifest ends behind so many bytes.
 fn came_by_a_front(alloc: Global, end: usize) -> Result<String, Fail> {
     let front = manifest().get(..end).ok_or("a front")?;
-    let files = [
-        ("/w/a.js", ""),
-        ("/w/.pnp.cjs", front),
-        ("/w/.yarn/foo/index.js", ""),
-    ];
-    let mut tree = tree_of(alloc, files.as_slice())?;
-    let project = node_project(alloc)?;
-    Ok(came(alloc, &mut tree, &project, "/w/a.js", "foo")?)
+    let mut tree = tree_of(alloc, "/w/a.js\n/w/.yarn/foo/index.js")?;
+    put(&mut tree, "/w/.pnp.cjs", front)?;
+    came_for_node(alloc, &mut tree, "/w/a.js", "foo")
 }
 
 // The quote that opens the payload has 26 bytes before it. Behind the payload's last byte nothing is needed.

@@ -1,6 +1,6 @@
 // The command `disk`, over a tree in memory and over real files.
-use crate::requests::tree_of;
-use cli_core::{PlainSink, PlainSource, run};
+use crate::requests::{put, tree_of};
+use cli_core::{PlainSink, PlainSource, Status, run};
 use disk_tree::DiskTree;
 use std::alloc::{AllocError, Global};
 use std::rt::{Env, Files};
@@ -9,68 +9,66 @@ use std::{env, fs, io};
 use sugar_path::{Bytes, List};
 use tree_core::{MemoryTree, Tree};
 
-fn words_of(alloc: Global, words: &[&str]) -> Result<Vec<String>, AllocError> {
+fn words_of(alloc: Global, words: &str) -> Result<Vec<String>, AllocError> {
     let mut all = Vec::new(alloc);
-    for word in words {
+    for word in words.split(' ') {
         all.push(String::from_str(alloc, word)?)?;
     }
     Ok(all)
 }
 
-// The status of some words over a disk, and what was written.
-fn told_by<T: Tree>(alloc: Global, words: &[&str], disk: &mut T) -> Result<(u8, String), Fail> {
-    let mut source = PlainSource::new(Bytes::of(alloc, b"")?);
-    let mut sink = PlainSink::new(alloc, 4096)?;
+// The status of some words over a disk, and behind it what was written.
+fn told_by<T: Tree>(alloc: Global, words: &str, disk: &mut T) -> Result<String, Fail> {
     let words = words_of(alloc, words)?;
-    let status = run(alloc, &words, &mut source, &mut sink, disk);
+    let mut sink = PlainSink::new(alloc, 4096)?;
+    let status = status_of(alloc, &words, &mut sink, disk)?;
     let written = str::from_utf8(sink.written()).unwrap_or("no text");
-    Ok((status.code(), String::from_str(alloc, written)?))
+    Ok(format!(in alloc; "{} {written}", status.code())?)
+}
+
+fn status_of<T: Tree>(
+    alloc: Global,
+    words: &[String],
+    sink: &mut PlainSink,
+    disk: &mut T,
+) -> Result<Status, AllocError> {
+    let mut source = PlainSource::new(Bytes::of(alloc, b"")?);
+    Ok(run(alloc, words, &mut source, sink, disk))
 }
 
 fn bound(alloc: Global) -> Result<MemoryTree, Fail> {
-    let files = [
-        ("/w/a.js", ""),
-        (
-            "/w/.pnp.cjs",
-            "const RAW_RUNTIME_STATE =\n'{\"dependencyTreeRoots\":[],\"enableTopLevelFallback\":true,\"ignorePatternData\":null,\"fallbackExclusionList\":[],\"fallbackPool\":[],\"packageRegistryData\":[[null,[[null,{\"packageLocation\":\"./\",\"packageDependencies\":[[\"foo\",\"npm:1.0.0\"]]}]]],[\"foo\",[[\"npm:1.0.0\",{\"packageLocation\":\"./.yarn/foo/\",\"packageDependencies\":[]}]]]]}';\n",
-        ),
-        ("/w/.yarn/foo/index.js", ""),
-    ];
-    tree_of(alloc, files.as_slice())
+    let manifest =
+        "const RAW_RUNTIME_STATE = '{\"dependencyTreeRoots\":[],\"enableTopLevelFallback\":true,\"ignorePatternData\":null,\"fallbackExclusionList\":[],\"fallbackPool\":[],\"packageRegistryData\":[[null,[[null,{\"packageLocation\":\"./\",\"packageDependencies\":[[\"foo\",\"npm:1.0.0\"]]}]]],[\"foo\",[[\"npm:1.0.0\",{\"packageLocation\":\"./.yarn/foo/\",\"packageDependencies\":[]}]]]]}';";
+    let mut tree = tree_of(alloc, "/w/a.js\n/w/.yarn/foo/index.js")?;
+    put(&mut tree, "/w/.pnp.cjs", manifest)?;
+    Ok(tree)
 }
 
 fn its_line() -> &'static str {
-    "{\"answer\":{\"real\":\"/w/.yarn/foo/index.js\"},\"found\":{\"file\":\"/w/.yarn/foo/index.js\",\"via\":{\"location\":\"/w/.yarn/foo\",\"name\":\"foo\",\"reference\":\"npm:1.0.0\"}},\"slug\":null}\n"
+    "0 {\"answer\":{\"real\":\"/w/.yarn/foo/index.js\"},\"found\":{\"file\":\"/w/.yarn/foo/index.js\",\"via\":{\"location\":\"/w/.yarn/foo\",\"name\":\"foo\",\"reference\":\"npm:1.0.0\"}},\"slug\":null}\n"
+}
+
+fn is_told(alloc: Global, words: &str, told: &str) -> Result<bool, Fail> {
+    let mut disk = bound(alloc)?;
+    Ok(told_by(alloc, words, &mut disk)?.as_str() == told)
 }
 
 #[test]
 fn a_tree_in_memory_is_a_disk(rt: HostRuntime) -> Result<(), Fail> {
     let alloc = rt.alloc();
-    let refused = "refused: bad-project SettingsFault cwd\n";
-    for (cwd, target, code, written) in [
-        ("/w", "node", 0, its_line()),
-        ("w", "node", 1, refused),
-        ("/w", "deno", 2, ""),
-    ] {
-        let words = ["disk", cwd, target, "/w/a.js", "foo"];
-        let (came, text) = told_by(alloc, words.as_slice(), &mut bound(alloc)?)?;
-        assert_eq!(rt; came, code, "{cwd} {target}");
-        assert_eq!(rt; text.as_str(), written, "{cwd} {target}");
-    }
+    let refused = "1 refused: bad-project SettingsFault cwd\n";
+    assert!(rt; is_told(alloc, "disk /w node /w/a.js foo", its_line())?);
+    assert!(rt; is_told(alloc, "disk w node /w/a.js foo", refused)?);
+    assert!(rt; is_told(alloc, "disk /w deno /w/a.js foo", "2 ")?);
     Ok(())
 }
 
 #[test]
 fn a_disk_that_fails_has_no_answer(rt: HostRuntime) -> Result<(), Fail> {
-    let alloc = rt.alloc();
-    let mut disk = bound(alloc)?.fail_at(List::from(vec![in alloc; 3u64]?));
-    let words = ["disk", "/w", "node", "/w/a.js", "foo"];
-    let (came, text) = told_by(alloc, words.as_slice(), &mut disk)?;
-    assert_eq!(rt; came, 7);
-    assert_eq!(rt; text.as_str(), "");
-    let (came, text) = told_by(alloc, words.as_slice(), &mut disk)?;
-    assert_eq!(rt; came, 0);
-    assert_eq!(rt; text.as_str(), its_line());
+    let mut disk = bound(rt.alloc())?.fail_at(List::from(vec![in rt.alloc(); 3u64]?));
+    let words = "disk /w node /w/a.js foo";
+    assert_eq!(rt; told_by(rt.alloc(), words, &mut disk)?.as_str(), "7 ");
+    assert_eq!(rt; told_by(rt.alloc(), words, &mut disk)?.as_str(), its_line());
     Ok(())
 }
 
@@ -88,18 +86,24 @@ fn written<R: Files + Env + AllocGlobal>(rt: &R) -> io::Result<String> {
     Ok(String::from_str(rt.alloc(), folder.as_str())?)
 }
 
+// What is told of the package where the folder is known.
+fn wanted_in(alloc: Global, folder: &str) -> Result<String, AllocError> {
+    let file = format!(in alloc; "{folder}/shop/node_modules/q/lib/q.js")?;
+    format!(in alloc;
+        "0 {{\"answer\":{{\"real\":\"{file}\"}},\"found\":{{\"file\":\"{file}\",\"via\":null}},\"slug\":null}}\n"
+    )
+}
+
+fn told_in<R: Files + AllocGlobal>(rt: &R, folder: &str) -> Result<String, Fail> {
+    let words = format!(in rt.alloc(); "disk {folder} node {folder}/shop/main.js q")?;
+    told_by(rt.alloc(), words.as_str(), &mut DiskTree::new(rt))
+}
+
 #[test]
 fn real_files_are_a_disk(rt: HostRuntime) -> Result<(), Fail> {
-    let alloc = rt.alloc();
     let folder = written(&rt)?;
-    let importer = format!(in alloc; "{folder}/shop/main.js")?;
-    let words = ["disk", folder.as_str(), "node", importer.as_str(), "q"];
-    let (came, text) = told_by(alloc, words.as_slice(), &mut DiskTree::new(&rt))?;
-    assert_eq!(rt; came, 0);
-    let file = format!(in alloc; "{folder}/shop/node_modules/q/lib/q.js")?;
-    let wanted = format!(in alloc;
-        "{{\"answer\":{{\"real\":\"{file}\"}},\"found\":{{\"file\":\"{file}\",\"via\":null}},\"slug\":null}}\n"
-    )?;
-    assert_eq!(rt; text.as_str(), wanted.as_str());
+    let told = told_in(&rt, folder.as_str())?;
+    let wanted = wanted_in(rt.alloc(), folder.as_str())?;
+    assert_eq!(rt; told.as_str(), wanted.as_str());
     Ok(())
 }

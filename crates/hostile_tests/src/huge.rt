@@ -1,22 +1,34 @@
 // Deep folders, long specifiers, and documents of many rows.
 use crate::requests::{
-    came, no_patterns, node_project, outcome_of, repeated, settings, told, tree_of,
+    came, came_for_node, no_patterns, outcome_of, put, repeated, settings, told, tree_of,
 };
-use resolve_stack::{Project, Settings, TargetEnv};
+use resolve_stack::{Outcome, Project, Settings, TargetEnv};
 use std::alloc::{AllocError, Global};
+use std::fmt::Write;
 use std::test::Fail;
 use sugar_path::{List, Text};
 use tree_core::MemoryTree;
 
 // What `q` comes to below so many folders, and how many questions that takes.
-fn below_folders(alloc: Global, depth: u32) -> Result<(usize, String), Fail> {
-    let folder = repeated(alloc, "/d", depth)?;
-    let from = format!(in alloc; "{folder}/a.js")?;
-    let files = [(from.as_str(), "")];
-    let mut tree = tree_of(alloc, files.as_slice())?;
+fn told_below_folders(alloc: Global, depth: u32) -> Result<String, Fail> {
+    let mut from = repeated(alloc, "/d", depth)?;
+    from.push_str("/a.js")?;
+    told_from(alloc, from.as_str())
+}
+
+fn told_from(alloc: Global, from: &str) -> Result<String, Fail> {
+    let mut tree = MemoryTree::new(alloc);
+    put(&mut tree, from, "")?;
     let project = project_at_the_root(alloc)?;
-    let outcome = outcome_of(alloc, &mut tree, &project, from.as_str(), "q")?.ok_or("a verdict")?;
-    Ok((outcome.trail.len(), told(alloc, &outcome.verdict)?))
+    match outcome_of(alloc, &mut tree, &project, from, "q")? {
+        Some(outcome) => Ok(counted(alloc, &outcome)?),
+        None => Err(Fail::from("a fault")),
+    }
+}
+
+fn counted(alloc: Global, outcome: &Outcome) -> Result<String, AllocError> {
+    let told = told(alloc, &outcome.verdict)?;
+    format!(in alloc; "{told}, by {} questions", outcome.trail.len())
 }
 
 fn project_at_the_root(alloc: Global) -> Result<Project<'static>, Fail> {
@@ -27,25 +39,26 @@ fn project_at_the_root(alloc: Global) -> Result<Project<'static>, Fail> {
 
 #[test]
 fn an_importer_lies_deep(rt: HostRuntime) -> Result<(), Fail> {
-    for (depth, questions) in [(500, 1015), (10_000, 20_015)] {
-        let (count, text) = below_folders(rt.alloc(), depth)?;
-        assert_eq!(rt; count, questions);
-        assert_eq!(rt; text.as_str(), "nothing is found at q");
-    }
+    let near = told_below_folders(rt.alloc(), 500)?;
+    assert_eq!(rt; near.as_str(), "nothing is found at q, by 1015 questions");
+    let deep = told_below_folders(rt.alloc(), 10_000)?;
+    assert_eq!(rt; deep.as_str(), "nothing is found at q, by 20015 questions");
     Ok(())
+}
+
+// Whether nothing is found at a specifier that is a part a million times.
+fn is_not_found(alloc: Global, part: &str) -> Result<bool, Fail> {
+    let specifier = repeated(alloc, part, 1_000_000)?;
+    let mut tree = tree_of(alloc, "/w/a.js")?;
+    let told = came_for_node(alloc, &mut tree, "/w/a.js", specifier.as_str())?;
+    Ok(told.starts_with("nothing is found at "))
 }
 
 // A specifier of a megabyte is looked for like any other.
 #[test]
 fn a_specifier_is_long(rt: HostRuntime) -> Result<(), Fail> {
-    let alloc = rt.alloc();
-    let files = [("/w/a.js", "")];
-    let mut tree = tree_of(alloc, files.as_slice())?;
-    let project = node_project(alloc)?;
-    for part in ["a", "./", "../", "@/"] {
-        let specifier = repeated(alloc, part, 1_000_000)?;
-        let text = came(alloc, &mut tree, &project, "/w/a.js", specifier.as_str())?;
-        assert!(rt; text.starts_with("nothing is found at "), "of {part}");
+    for part in "a ./ ../ @/".split(' ') {
+        assert!(rt; is_not_found(rt.alloc(), part)?, "of {part}");
     }
     Ok(())
 }
@@ -57,47 +70,50 @@ fn manifest_of_rows(alloc: Global, rows: u32) -> Result<String, AllocError> {
         "const RAW_RUNTIME_STATE =\n'{{\"dependencyTreeRoots\":[],\"enableTopLevelFallback\":false,\"ignorePatternData\":null,\"fallbackExclusionList\":[],\"fallbackPool\":[],\"packageRegistryData\":[[null,[[null,{{\"packageLocation\":\"./\",\"packageDependencies\":[[\"q\",\"npm:{last}\"]]}}]]],[\"q\",["
     )?;
     for row in 0..rows {
-        let comma = if row == 0 { "" } else { "," };
-        let row = format!(in alloc;
-            "{comma}[\"npm:{row}\",{{\"packageLocation\":\"./q/{row}/\",\"packageDependencies\":[]}}]"
-        )?;
-        text.push_str(row.as_str())?;
+        push_row(&mut text, row)?;
     }
     text.push_str("]]]}';\n")?;
     Ok(text)
 }
 
-fn came_by_rows(alloc: Global, rows: u32) -> Result<String, Fail> {
+fn push_row(text: &mut String, row: u32) -> Result<(), AllocError> {
+    let comma = if row == 0 { "" } else { "," };
+    write!(
+        text,
+        "{comma}[\"npm:{row}\",{{\"packageLocation\":\"./q/{row}/\",\"packageDependencies\":[]}}]"
+    )
+}
+
+fn tree_of_rows(alloc: Global, rows: u32) -> Result<MemoryTree, Fail> {
     let manifest = manifest_of_rows(alloc, rows)?;
-    let file = format!(in alloc; "/w/q/{}/index.js", rows.saturating_sub(1))?;
-    let files = [("/w/.pnp.cjs", manifest.as_str()), (file.as_str(), "")];
-    let mut tree = tree_of(alloc, files.as_slice())?;
-    let project = node_project(alloc)?;
-    Ok(came(alloc, &mut tree, &project, "/w/a.js", "q")?)
+    let mut tree = tree_of(alloc, "/w/q/99999/index.js")?;
+    put(&mut tree, "/w/.pnp.cjs", manifest.as_str())?;
+    Ok(tree)
 }
 
 #[test]
 fn a_package_has_many_rows(rt: HostRuntime) -> Result<(), Fail> {
-    let text = came_by_rows(rt.alloc(), 100_000)?;
+    let mut tree = tree_of_rows(rt.alloc(), 100_000)?;
+    let text = came_for_node(rt.alloc(), &mut tree, "/w/a.js", "q")?;
     assert_eq!(rt; text.as_str(), "real /w/q/99999/index.js");
     Ok(())
 }
 
 // A manifest with so many bytes in a field that nothing reads.
-fn came_by_bytes(alloc: Global, megabytes: u32) -> Result<String, Fail> {
+fn tree_of_bytes(alloc: Global, megabytes: u32) -> Result<MemoryTree, Fail> {
     let filling = repeated(alloc, "0123456789abcdef", megabytes.saturating_mul(65_536))?;
     let manifest = format!(in alloc;
         "const RAW_RUNTIME_STATE =\n'{{\"__info\":\"{filling}\",\"dependencyTreeRoots\":[],\"enableTopLevelFallback\":false,\"ignorePatternData\":null,\"fallbackExclusionList\":[],\"fallbackPool\":[],\"packageRegistryData\":[[null,[[null,{{\"packageLocation\":\"./\",\"packageDependencies\":[]}}]]]]}}';\n"
     )?;
-    let files = [("/w/.pnp.cjs", manifest.as_str())];
-    let mut tree = tree_of(alloc, files.as_slice())?;
-    let project = node_project(alloc)?;
-    Ok(came(alloc, &mut tree, &project, "/w/a.js", "./q")?)
+    let mut tree = MemoryTree::new(alloc);
+    put(&mut tree, "/w/.pnp.cjs", manifest.as_str())?;
+    Ok(tree)
 }
 
 #[test]
 fn a_manifest_is_large(rt: HostRuntime) -> Result<(), Fail> {
-    let text = came_by_bytes(rt.alloc(), 60)?;
+    let mut tree = tree_of_bytes(rt.alloc(), 60)?;
+    let text = came_for_node(rt.alloc(), &mut tree, "/w/a.js", "./q")?;
     assert_eq!(rt; text.as_str(), "nothing is found at ./q");
     Ok(())
 }
@@ -109,19 +125,27 @@ fn put_aliases(
     number: u32,
 ) -> Result<(), AllocError> {
     for i in 0..number {
-        let alias = Text::from(format!(in alloc; "a{i}")?);
-        let target = Text::from(format!(in alloc; "./f{i}")?);
-        settings.alias.insert(alias, target)?;
+        put_alias(alloc, settings, i)?;
     }
     Ok(())
 }
 
-fn came_by_aliases(alloc: Global, number: u32) -> Result<String, Fail> {
+fn put_alias(alloc: Global, settings: &mut Settings<'static>, i: u32) -> Result<(), AllocError> {
+    let alias = Text::from(format!(in alloc; "a{i}")?);
+    let target = Text::from(format!(in alloc; "./f{i}")?);
+    settings.alias.insert(alias, target)?;
+    Ok(())
+}
+
+fn project_of_aliases(alloc: Global, number: u32) -> Result<Project<'static>, Fail> {
     let mut settings = settings(alloc, TargetEnv::Node, None)?;
     put_aliases(alloc, &mut settings, number)?;
-    let project = Project::new(alloc, settings)?;
-    let files = [("/w/a.js", ""), ("/w/f9999.js", "")];
-    let mut tree = tree_of(alloc, files.as_slice())?;
+    Ok(Project::new(alloc, settings)?)
+}
+
+fn came_by_aliases(alloc: Global, number: u32) -> Result<String, Fail> {
+    let project = project_of_aliases(alloc, number)?;
+    let mut tree = tree_of(alloc, "/w/a.js\n/w/f9999.js")?;
     Ok(came(alloc, &mut tree, &project, "/w/a.js", "a9999")?)
 }
 
@@ -136,19 +160,26 @@ fn there_are_many_aliases(rt: HostRuntime) -> Result<(), Fail> {
 fn patterns(alloc: Global, number: u32) -> Result<List<(Text, List<Text>)>, AllocError> {
     let mut paths = Vec::new(alloc);
     for i in 0..number {
-        let pattern = Text::from(format!(in alloc; "@{i:05}/*")?);
-        let target = Text::from(format!(in alloc; "src/{i}/*")?);
-        paths.push((pattern, List::from(vec![in alloc; target]?)))?;
+        paths.push(pattern(alloc, i)?)?;
     }
     Ok(List::from(paths))
 }
 
-fn came_by_patterns(alloc: Global, number: u32) -> Result<String, Fail> {
+fn pattern(alloc: Global, i: u32) -> Result<(Text, List<Text>), AllocError> {
+    let pattern = Text::from(format!(in alloc; "@{i:05}/*")?);
+    let target = Text::from(format!(in alloc; "src/{i}/*")?);
+    Ok((pattern, List::from(vec![in alloc; target]?)))
+}
+
+fn project_of_patterns(alloc: Global, number: u32) -> Result<Project<'static>, Fail> {
     let mut ts = no_patterns(alloc)?;
     ts.paths = patterns(alloc, number)?;
-    let project = Project::new(alloc, settings(alloc, TargetEnv::Node, Some(ts))?)?;
-    let files = [("/w/a.js", ""), ("/w/src/9999/x.ts", "")];
-    let mut tree = tree_of(alloc, files.as_slice())?;
+    Ok(Project::new(alloc, settings(alloc, TargetEnv::Node, Some(ts))?)?)
+}
+
+fn came_by_patterns(alloc: Global, number: u32) -> Result<String, Fail> {
+    let project = project_of_patterns(alloc, number)?;
+    let mut tree = tree_of(alloc, "/w/a.js\n/w/src/9999/x.ts")?;
     Ok(came(alloc, &mut tree, &project, "/w/a.js", "@09999/x")?)
 }
 

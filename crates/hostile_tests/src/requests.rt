@@ -88,13 +88,30 @@ pub fn came(
     }
 }
 
-/// A tree of these files, each with its content.
-pub fn tree_of(alloc: Global, files: &[(&str, &str)]) -> Result<MemoryTree, Fail> {
+/// What a request of a project for Node comes to.
+pub fn came_for_node(
+    alloc: Global,
+    tree: &mut MemoryTree,
+    from: &str,
+    specifier: &str,
+) -> Result<String, Fail> {
+    let project = node_project(alloc)?;
+    Ok(came(alloc, tree, &project, from, specifier)?)
+}
+
+/// A tree of files, a line each: a path, and the content behind a blank.
+pub fn tree_of(alloc: Global, files: &str) -> Result<MemoryTree, Fail> {
     let mut tree = MemoryTree::new(alloc);
-    for (path, content) in files {
-        tree.put(path, content.as_bytes(), path)?;
+    for file in files.lines() {
+        let (path, content) = file.split_once(' ').unwrap_or((file, ""));
+        put(&mut tree, path, content)?;
     }
     Ok(tree)
+}
+
+/// Puts a file, whose canonical name is its path.
+pub fn put(tree: &mut MemoryTree, path: &str, content: &str) -> Result<(), Fail> {
+    Ok(tree.put(path, content.as_bytes(), path)?)
 }
 
 /// A text a number of times.

@@ -1,7 +1,7 @@
 // Why bindings are refused, by hand.
 use crate::fixtures::{first_lock, later_lock, locator};
 use lock_checks::{EdgeFault, Lock, check_binding};
-use pnp_core::{Manifest, loaded_manifest};
+use pnp_core::{Manifest, PackageLocator, loaded_manifest};
 use std::alloc::{AllocError, Global};
 use std::process::Abort;
 use std::test::Fail;
@@ -130,6 +130,12 @@ fn manifest_of(alloc: Global) -> Result<Manifest, Fail> {
     Ok(manifest)
 }
 
+// A package by its name and its reference.
+fn package(alloc: Global, text: &str) -> Result<PackageLocator, Fail> {
+    let (name, reference) = text.split_once('@').ok_or("no reference")?;
+    Ok(locator(alloc, name, reference)?)
+}
+
 // What comes of a binding, as a line asks for it.
 fn found(
     alloc: Global,
@@ -140,12 +146,38 @@ fn found(
 ) -> Result<String, Fail> {
     let (owner, asked) = line.split_once(' ').ok_or("no owner")?;
     let (name, bound) = asked.split_once(' ').ok_or("no name")?;
-    let (owner, reference) = owner.split_once('@').ok_or("no reference")?;
-    let owner = locator(alloc, owner, reference)?;
-    let (bound, reference) = bound.split_once('@').ok_or("no reference")?;
-    let bound = locator(alloc, bound, reference)?;
+    let owner = package(alloc, owner)?;
+    let bound = package(alloc, bound)?;
     let fault = check_binding(alloc, recorder, lock, manifest, &owner, name, &bound)?;
     Ok(told(alloc, fault)?)
+}
+
+fn comes_to(
+    rt: &impl Abort,
+    alloc: Global,
+    recorder: &mut Recorder<'_, MemoryTree>,
+    lock: Option<&Lock<'_>>,
+    manifest: &Manifest,
+    line: &str,
+) -> Result<(), Fail> {
+    let (binding, wanted) = line.split_once(" = ").ok_or("no outcome")?;
+    let told = found(alloc, recorder, lock, manifest, binding)?;
+    assert_eq!(rt; told.as_str(), wanted, "{binding}");
+    Ok(())
+}
+
+fn each_comes_to(
+    rt: &impl Abort,
+    alloc: Global,
+    recorder: &mut Recorder<'_, MemoryTree>,
+    lock: Option<&Lock<'_>>,
+    manifest: &Manifest,
+    lines: &str,
+) -> Result<(), Fail> {
+    for line in lines.lines() {
+        comes_to(rt, alloc, recorder, lock, manifest, line)?;
+    }
+    Ok(())
 }
 
 fn come_to(
@@ -157,12 +189,7 @@ fn come_to(
     let manifest = manifest_of(alloc)?;
     let mut tree = tree_of_packages(alloc)?;
     let mut recorder = Recorder::new(alloc, &mut tree);
-    for line in lines.lines() {
-        let (binding, wanted) = line.split_once(" = ").ok_or("no outcome")?;
-        let told = found(alloc, &mut recorder, lock, &manifest, binding)?;
-        assert_eq!(rt; told.as_str(), wanted, "{binding}");
-    }
-    Ok(())
+    each_comes_to(rt, alloc, &mut recorder, lock, &manifest, lines)
 }
 
 #[test]
@@ -191,32 +218,24 @@ fn questions(alloc: Global, lock: &Lock<'_>, line: &str) -> Result<usize, Fail> 
     Ok(recorder.trail().len())
 }
 
+// A binding, and how many questions it puts, on each line.
+fn asked() -> &'static str {
+    "app@workspace:. lodash lodash@npm:4.17.20 = 1
+packed@npm:1.0.0 lodash lodash@npm:4.17.20 = 0
+broken@npm:1.0.0 lodash app@workspace:new = 0
+app@workspace:. lodash lodash@npm:4.17.22 = 0"
+}
+
+fn is_asked(alloc: Global, lock: &Lock<'_>, row: &str) -> Result<bool, Fail> {
+    let (binding, count) = row.split_once(" = ").ok_or("no number")?;
+    Ok(questions(alloc, lock, binding)? == count.parse::<usize>()?)
+}
+
 #[test]
 fn only_a_plain_owner_is_asked(rt: HostRuntime) -> Result<(), Fail> {
     let lock = Lock::of(rt.alloc(), parse_str(rt.alloc(), later_lock())?)?;
-    let one = questions(
-        rt.alloc(),
-        &lock,
-        "app@workspace:. lodash lodash@npm:4.17.20",
-    )?;
-    assert_eq!(rt; one, 1);
-    let packed = questions(
-        rt.alloc(),
-        &lock,
-        "packed@npm:1.0.0 lodash lodash@npm:4.17.20",
-    )?;
-    assert_eq!(rt; packed, 0);
-    let workspace = questions(
-        rt.alloc(),
-        &lock,
-        "broken@npm:1.0.0 lodash app@workspace:new",
-    )?;
-    assert_eq!(rt; workspace, 0);
-    let unlocked = questions(
-        rt.alloc(),
-        &lock,
-        "app@workspace:. lodash lodash@npm:4.17.22",
-    )?;
-    assert_eq!(rt; unlocked, 0);
+    for row in asked().lines() {
+        assert!(rt; is_asked(rt.alloc(), &lock, row)?, "{row}");
+    }
     Ok(())
 }

@@ -72,16 +72,25 @@ fn integrity_sought<'k>(lock: &'k Lock<'_>, asked: &PackageLocator) -> &'k str {
     "none"
 }
 
-fn are_named(rt: &impl Abort, alloc: Global, text: &str, lines: &str) -> Result<(), Fail> {
-    let lock = Lock::of(alloc, parse_str(alloc, text)?)?;
+fn is_named(rt: &impl Abort, alloc: Global, lock: &Lock<'_>, line: &str) -> Result<(), Fail> {
+    let (asked, wanted) = line.split_once(" = ").ok_or("no entry")?;
+    let (name, reference) = asked.split_once(' ').ok_or("no reference")?;
+    let asked = locator(alloc, name, reference)?;
+    assert_eq!(rt; integrity_found(alloc, lock, &asked)?, wanted, "{line}");
+    assert_eq!(rt; integrity_sought(lock, &asked), wanted, "{line}");
+    Ok(())
+}
+
+fn each_is_named(rt: &impl Abort, alloc: Global, lock: &Lock<'_>, lines: &str) -> Result<(), Fail> {
     for line in lines.lines() {
-        let (asked, wanted) = line.split_once(" = ").ok_or("no entry")?;
-        let (name, reference) = asked.split_once(' ').ok_or("no reference")?;
-        let asked = locator(alloc, name, reference)?;
-        assert_eq!(rt; integrity_found(alloc, &lock, &asked)?, wanted, "{line}");
-        assert_eq!(rt; integrity_sought(&lock, &asked), wanted, "{line}");
+        is_named(rt, alloc, lock, line)?;
     }
     Ok(())
+}
+
+fn are_named(rt: &impl Abort, alloc: Global, text: &str, lines: &str) -> Result<(), Fail> {
+    let lock = Lock::of(alloc, parse_str(alloc, text)?)?;
+    each_is_named(rt, alloc, &lock, lines)
 }
 
 #[test]

@@ -1,10 +1,10 @@
 // What names are bound to, by hand.
-use crate::manifests::ready_from;
+use crate::answers::answers;
 use crate::packages::locator;
-use pnp_core::{Binding, Manifest, binding_of};
+use pnp_core::{Binding, Manifest, PackageLocator, binding_of, binding_of_name};
 use std::alloc::{AllocError, Global};
-use std::process::Abort;
 use std::test::Fail;
+use sugar_path::Text;
 
 // The application and the package `alone` are excluded from the fallback.
 fn with_fallback() -> &'static str {
@@ -19,69 +19,86 @@ fn without_fallback() -> &'static str {
 "#
 }
 
-// What a package has a name bound to, by the binding's words.
-fn bound(
-    alloc: Global,
-    manifest: &Manifest,
-    (package, reference): (&str, &str),
-    name: &str,
-) -> Result<String, AllocError> {
-    let owner = locator(alloc, package, reference)?;
-    match binding_of(alloc, manifest, &owner, name)? {
-        Binding::Bound(found) => format!(in alloc; "{}@{}", found.name, found.reference),
-        Binding::MissingPeer => String::from_str(alloc, "missing peer"),
-        Binding::Undeclared => String::from_str(alloc, "undeclared"),
-    }
-}
-
 // A package by its name and reference, a name that it asks for, and the binding, on each line.
 fn with_fallback_bound() -> &'static str {
-    "foo@npm:1.0.0 own = own@npm:2.0.0
-foo@npm:1.0.0 alias = bar@npm:5.0.0
-foo@npm:1.0.0 top = top@npm:4.0.0
-foo@npm:1.0.0 aliased = bar@npm:6.0.0
-foo@npm:1.0.0 pooled = pooled@npm:3.0.0
-foo@npm:1.0.0 nulled = nulled@npm:7.0.0
-foo@npm:1.0.0 void = missing peer
-foo@npm:1.0.0 peer = missing peer
-foo@npm:1.0.0 other = undeclared
-foo@npm:2.0.0 own = undeclared
-foo@npm:2.0.0 top = top@npm:4.0.0
-app@workspace:. foo = foo@npm:1.0.0
-app@workspace:. peer = missing peer
-app@workspace:. top = undeclared
-alone@npm:1.0.0 peer = missing peer
-alone@npm:1.0.0 pooled = undeclared
-alone@npm:2.0.0 pooled = pooled@npm:3.0.0
-@ top = top@npm:4.0.0
-@ nulled = missing peer
-@ pooled = undeclared"
+    "# the package's own row
+bound foo@npm:1.0.0 own = own@npm:2.0.0
+bound foo@npm:1.0.0 alias = bar@npm:5.0.0
+# the fallback: the row of the top level, and then the pool
+bound foo@npm:1.0.0 top = top@npm:4.0.0
+bound foo@npm:1.0.0 aliased = bar@npm:6.0.0
+bound foo@npm:1.0.0 pooled = pooled@npm:3.0.0
+bound foo@npm:1.0.0 nulled = nulled@npm:7.0.0
+bound foo@npm:1.0.0 void = missing peer
+bound foo@npm:1.0.0 peer = missing peer
+bound foo@npm:1.0.0 other = undeclared
+# a package that has no row
+bound foo@npm:2.0.0 own = undeclared
+bound foo@npm:2.0.0 top = top@npm:4.0.0
+# packages that are kept from the fallback
+bound app@workspace:. foo = foo@npm:1.0.0
+bound app@workspace:. peer = missing peer
+bound app@workspace:. top = undeclared
+bound alone@npm:1.0.0 peer = missing peer
+bound alone@npm:1.0.0 pooled = undeclared
+bound alone@npm:2.0.0 pooled = pooled@npm:3.0.0
+# the top level itself
+bound @ top = top@npm:4.0.0
+bound @ nulled = missing peer
+bound @ pooled = undeclared"
 }
 
 fn without_fallback_bound() -> &'static str {
-    "foo@npm:1.0.0 top = missing peer
-foo@npm:1.0.0 pooled = undeclared"
+    "bound foo@npm:1.0.0 top = missing peer
+bound foo@npm:1.0.0 pooled = undeclared"
 }
 
-fn are_bound(rt: &impl Abort, alloc: Global, manifest: &Manifest, lines: &str) -> Result<(), Fail> {
-    for line in lines.lines() {
-        let (asked, wanted) = line.split_once(" = ").ok_or("no binding")?;
-        let (package, name) = asked.split_once(' ').ok_or("no name")?;
-        let owner = package.split_once('@').ok_or("no reference")?;
-        let found = bound(alloc, manifest, owner, name)?;
-        assert_eq!(rt; found.as_str(), wanted, "{asked}");
+// A binding in words.
+fn shown(alloc: Global, binding: &Binding) -> Result<Text, AllocError> {
+    match binding {
+        Binding::Bound(found) => Ok(Text::from(format!(in alloc;
+            "{}@{}",
+            found.name, found.reference
+        )?)),
+        Binding::MissingPeer => Text::of(alloc, "missing peer"),
+        Binding::Undeclared => Text::of(alloc, "undeclared"),
     }
-    Ok(())
+}
+
+/// What a package has a name bound to, which is the same by a text of the name's own.
+pub(crate) fn bound_told(alloc: Global, manifest: &Manifest, given: &str) -> Result<Text, Fail> {
+    let (package, name) = given.split_once(' ').ok_or("no name")?;
+    let owner = locator(alloc, package)?;
+    let bound = binding_of(alloc, manifest, &owner, name)?;
+    if !is_bound_to(alloc, manifest, &owner, name, &bound)? {
+        return Err(Fail::from("two bindings"));
+    }
+    Ok(shown(alloc, &bound)?)
+}
+
+// Whether a name that is a text of its own is bound alike.
+fn is_bound_to(
+    alloc: Global,
+    manifest: &Manifest,
+    owner: &PackageLocator,
+    name: &str,
+    bound: &Binding,
+) -> Result<bool, AllocError> {
+    let name = Text::of(alloc, name)?;
+    Ok(binding_of_name(alloc, manifest, owner, &name)? == *bound)
 }
 
 #[test]
 fn names_are_bound_with_a_fallback(rt: HostRuntime) -> Result<(), Fail> {
-    let manifest = ready_from(rt.alloc(), with_fallback())?;
-    are_bound(&rt, rt.alloc(), &manifest, with_fallback_bound())
+    answers(&rt, rt.alloc(), with_fallback(), with_fallback_bound())
 }
 
 #[test]
 fn names_are_bound_without_a_fallback(rt: HostRuntime) -> Result<(), Fail> {
-    let manifest = ready_from(rt.alloc(), without_fallback())?;
-    are_bound(&rt, rt.alloc(), &manifest, without_fallback_bound())
+    answers(
+        &rt,
+        rt.alloc(),
+        without_fallback(),
+        without_fallback_bound(),
+    )
 }

@@ -2,6 +2,8 @@
 #![tactic(auto)]
 
 #[cfg(test)]
+mod answers;
+#[cfg(test)]
 mod bindings;
 #[cfg(test)]
 mod example;
@@ -13,6 +15,8 @@ mod packages;
 mod parts;
 #[cfg(test)]
 mod patterns;
+#[cfg(test)]
+mod rows;
 #[cfg(test)]
 mod tries;
 #[cfg(test)]

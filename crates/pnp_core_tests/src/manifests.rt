@@ -1,133 +1,163 @@
 // What a manifest says: values from outside, and that reading one succeeds.
-ghost use Rattle.std.specs.Prelude.{IfOk};
+ghost use Rattle.std.specs.Prelude.{IfOk, IfSome};
 ghost use Rattle.pnp_core.specs.Owner.{IsReady};
 
+use crate::rows::{Told, rows_come};
 use pnp_core::{
-    Manifest, PackageLocator, ReadManifestError, closest_manifest, find_closest_pnp_manifest_path,
-    has_package, init_pnp_manifest, load_pnp_manifest, loaded_manifest, payload_of, read_manifest,
+    Error, Manifest, PackageLocator, ReadManifestError, closest_manifest,
+    find_closest_pnp_manifest_path, find_pnp_manifest, has_package, init_pnp_manifest,
+    load_pnp_manifest, loaded_manifest, manifest_of_bytes, payload_of, read_manifest,
 };
 use serde_json::Value;
-use std::alloc::Global;
-use std::process::Abort;
+use std::alloc::{AllocError, Global};
 use std::test::Fail;
-use sugar_path::CleanPath;
+use sugar_path::{Bytes, CleanPath, Text};
 use tree_core::{MemoryTree, Recorder};
 
-// An application with packages `foo` and `alone`, and a package `hidden` that owns no path.
-fn manifest_text() -> &'static str {
+// An application with packages `foo` and `alone`, and a package `hidden` that owns no path. Yarn's own pattern
+// leaves its folder of editor tools without an owner.
+pub(crate) fn manifest_text() -> &'static str {
     r#"const RAW_RUNTIME_STATE =
-'{"dependencyTreeRoots":[{"name":"app","reference":"workspace:."}],"enableTopLevelFallback":true,"ignorePatternData":null,"fallbackExclusionList":[["app",["workspace:."]],["alone",["npm:1.0.0"]]],"fallbackPool":[["pooled","npm:3.0.0"]],"packageRegistryData":[[null,[[null,{"packageLocation":"./","packageDependencies":[["foo","npm:1.0.0"],["top","npm:4.0.0"]]}]]],["app",[["workspace:.",{"packageLocation":"./","packageDependencies":[["foo","npm:1.0.0"],["other",["foo","npm:1.0.0"]]]}]]],["foo",[["npm:1.0.0",{"packageLocation":"./.yarn/foo/","packageDependencies":[["peer",null],["top",null]]}]]],["alone",[["npm:1.0.0",{"packageLocation":"./.yarn/alone/","packageDependencies":[["peer",null]]}]]],["hidden",[["npm:1.0.0",{"packageLocation":"./.yarn/foo/hidden/","discardFromLookup":true,"packageDependencies":[]}]]]]}';
+'{"dependencyTreeRoots":[{"name":"app","reference":"workspace:."}],"enableTopLevelFallback":true,"ignorePatternData":"(^(?:\\\\.yarn\\\\/sdks(?:\\\\/(?!\\\\.{1,2}(?:\\\\/|$))(?:(?:(?!(?:^|\\\\/)\\\\.{1,2}(?:\\\\/|$)).)*?)|$))$)","fallbackExclusionList":[["app",["workspace:."]],["alone",["npm:1.0.0"]]],"fallbackPool":[["pooled","npm:3.0.0"]],"packageRegistryData":[[null,[[null,{"packageLocation":"./","packageDependencies":[["foo","npm:1.0.0"],["top","npm:4.0.0"]]}]]],["app",[["workspace:.",{"packageLocation":"./","packageDependencies":[["foo","npm:1.0.0"],["other",["foo","npm:1.0.0"]]]}]]],["foo",[["npm:1.0.0",{"packageLocation":"./.yarn/foo/","packageDependencies":[["peer",null],["top",null]]}]]],["alone",[["npm:1.0.0",{"packageLocation":"./.yarn/alone/","packageDependencies":[["peer",null]]}]]],["hidden",[["npm:1.0.0",{"packageLocation":"./.yarn/foo/hidden/","discardFromLookup":true,"packageDependencies":[]}]]]]}';
 "#
 }
 
+/// The path that an absolute text names.
+pub(crate) fn path(alloc: Global, text: &str) -> Result<CleanPath, Fail> {
+    Ok(CleanPath::read(alloc, &CleanPath::root(alloc), text)?)
+}
+
+/// The tree of one file, `/w/.pnp.cjs`.
+pub(crate) fn tree_of(alloc: Global, content: &[u8]) -> Result<MemoryTree, Fail> {
+    let mut tree = MemoryTree::new(alloc);
+    tree.put("/w/.pnp.cjs", content, "/w/.pnp.cjs")?;
+    Ok(tree)
+}
+
+/// The manifest that a text is at that path, ready; none where it is no manifest.
+fn manifest_in(alloc: Global, text: &str) -> Result<Option<Manifest>, Error>
+    ensures { IfOk result (λ found. IfSome found IsReady) }
+{
+    let file = CleanPath::read(alloc, &CleanPath::root(alloc), "/w/.pnp.cjs")?;
+    let bytes = Bytes::of(alloc, text.as_bytes())?;
+    match manifest_of_bytes(alloc, &bytes, &file) {
+        Ok(manifest) => Ok(Some(manifest)),
+        Err(_) => Ok(None),
+    }
+}
+
+/// What a manifest's text says, ready.
+pub(crate) fn ready_from(alloc: Global, text: &str) -> Result<Manifest, Fail>
+    ensures { IfOk result IsReady }
+{
+    match manifest_in(alloc, text)? {
+        Some(manifest) => Ok(manifest),
+        None => Err(Fail::from("no manifest")),
+    }
+}
+
+/// The manifest of the application above, as a search for it may end.
+pub(crate) fn found_manifest(alloc: Global) -> Result<Option<Manifest>, Error>
+    ensures { IfOk result (λ found. IfSome found IsReady) }
+{
+    manifest_in(alloc, manifest_text())
+}
+
+// Values that are no manifest.
+fn others() -> &'static str {
+    r#"{} = bad JSON
+null = bad JSON
+[] = bad JSON
+{"enableTopLevelFallback":1.5} = bad JSON"#
+}
+
+pub(crate) fn refusal_told(alloc: Global, text: &str) -> Result<Text, Fail> {
+    let value = Value::from_str(alloc, text)?;
+    match read_manifest(alloc, &value) {
+        Err(ReadManifestError::BadJson) => Ok(Text::of(alloc, "bad JSON")?),
+        _ => Ok(Text::of(alloc, "something else")?),
+    }
+}
+
+#[test]
+fn other_values_are_no_manifests(rt: HostRuntime) -> Result<(), Fail> {
+    rows_come(&rt, rt.alloc(), Told::Refusal, others())
+}
+
 // What that text says, without a folder.
-pub(crate) fn manifest(alloc: Global) -> Result<Manifest, Fail> {
+fn manifest(alloc: Global) -> Result<Manifest, Fail> {
     let payload = payload_of(alloc, manifest_text())?.ok_or("no payload")?;
     let value = Value::from_str(alloc, payload.as_str())?;
     Ok(read_manifest(alloc, &value)?)
 }
 
-// The path that an absolute text names.
-pub(crate) fn path(alloc: Global, text: &str) -> Result<CleanPath, Fail> {
-    Ok(CleanPath::read(alloc, &CleanPath::root(alloc), text)?)
-}
-
-// The file `/w/.pnp.cjs` with a text.
-pub(crate) fn tree_of(alloc: Global, text: &str) -> Result<MemoryTree, Fail> {
-    let mut tree = MemoryTree::new(alloc);
-    tree.put("/w/.pnp.cjs", text.as_bytes(), "/w/.pnp.cjs")?;
-    Ok(tree)
-}
-
-pub(crate) fn tree(alloc: Global) -> Result<MemoryTree, Fail> {
-    tree_of(alloc, manifest_text())
-}
-
-// What that file says, ready.
-pub(crate) fn ready_manifest(alloc: Global) -> Result<Manifest, Fail>
-    ensures { IfOk result IsReady }
-{
-    ready_from(alloc, manifest_text())
-}
-
-// What a manifest's text says, ready.
-pub(crate) fn ready_from(alloc: Global, text: &str) -> Result<Manifest, Fail>
-    ensures { IfOk result IsReady }
-{
-    let mut tree = tree_of(alloc, text)?;
-    let mut recorder = Recorder::new(alloc, &mut tree);
-    let file = path(alloc, "/w/.pnp.cjs")?;
-    let manifest = loaded_manifest(alloc, &mut recorder, &file)?;
-    Ok(manifest)
-}
-
-#[test]
-fn other_values_are_no_manifests(rt: HostRuntime) -> Result<(), Fail> {
-    for text in ["{}", "null", "[]", r#"{"enableTopLevelFallback":1.5}"#] {
-        let value = Value::from_str(rt.alloc(), text)?;
-        match read_manifest(rt.alloc(), &value) {
-            Err(e) => assert_eq!(rt; e, ReadManifestError::BadJson, "{text}"),
-            Ok(_) => panic!(rt; "{text} is read"),
-        }
-    }
-    Ok(())
-}
-
 // What the text says of itself, before it has a folder.
-fn is_as_written(rt: &impl Abort, manifest: &Manifest) {
-    assert_eq!(rt; manifest.manifest_path.as_str(), "");
-    assert!(rt; manifest.enable_top_level_fallback);
-    assert_eq!(rt; manifest.fallback_pool.len(), 1);
-    assert_eq!(rt; manifest.dependency_tree_roots.len(), 1);
+fn is_as_written(manifest: &Manifest) -> bool {
+    manifest.manifest_path.as_str().is_empty()
+        && manifest.enable_top_level_fallback
+        && manifest.fallback_pool.len() == 1
+        && manifest.dependency_tree_roots.len() == 1
 }
 
-#[test]
-fn a_manifest_is_read_from_json(rt: HostRuntime) -> Result<(), Fail> {
-    let manifest = manifest(rt.alloc())?;
-    is_as_written(&rt, &manifest);
-    Ok(())
-}
-
-// Gives a manifest the path of its file.
-fn init(rt: &impl Abort, alloc: Global, manifest: &mut Manifest) -> Result<(), Fail> {
-    let file = path(alloc, "/w/.pnp.cjs")?;
-    assert!(rt; has_package(manifest, &PackageLocator::top_level(alloc)));
+// Gives a manifest the path of its file, if it has a top-level row, and tells whether it has.
+fn init(alloc: Global, manifest: &mut Manifest, file: &CleanPath) -> Result<bool, AllocError> {
+    let top_level = PackageLocator::top_level(alloc);
+    if !has_package(manifest, &top_level) {
+        return Ok(false);
+    }
     init_pnp_manifest(alloc, manifest, file.as_str())?;
-    assert_eq!(rt; manifest.manifest_dir.as_str(), "/w");
-    Ok(())
+    Ok(true)
+}
+
+// Whether a manifest is as it is written, and then gets its folder.
+fn gets_its_folder(alloc: Global, manifest: &mut Manifest) -> Result<bool, Fail> {
+    let file = path(alloc, "/w/.pnp.cjs")?;
+    let was_as_written = is_as_written(manifest);
+    let has_top_level = init(alloc, manifest, &file)?;
+    Ok(was_as_written && has_top_level && manifest.manifest_dir.as_str() == "/w")
 }
 
 #[test]
-fn a_manifest_gets_its_folder(rt: HostRuntime) -> Result<(), Fail> {
+fn a_manifest_is_read_and_gets_its_folder(rt: HostRuntime) -> Result<(), Fail> {
     let mut manifest = manifest(rt.alloc())?;
-    init(&rt, rt.alloc(), &mut manifest)
+    assert!(rt; gets_its_folder(rt.alloc(), &mut manifest)?);
+    Ok(())
+}
+
+// Whether the manifest is nearest, by its path and by its text.
+fn is_nearest(
+    alloc: Global,
+    tree: &mut Recorder<'_, MemoryTree>,
+    importer: &CleanPath,
+    file: &str,
+) -> Result<bool, Fail> {
+    let found = closest_manifest(alloc, tree, importer)?;
+    let told = find_closest_pnp_manifest_path(alloc, tree, importer.as_str())?;
+    Ok(match (&found, &told) {
+        (Some(found), Some(told)) => found.as_str() == file && told.as_str() == file,
+        _ => false,
+    })
+}
+
+// Whether that file is a manifest, by each call that reads it.
+fn is_read(alloc: Global, tree: &mut Recorder<'_, MemoryTree>, file: &CleanPath) -> bool {
+    loaded_manifest(alloc, tree, file).is_ok()
+        && load_pnp_manifest(alloc, tree, file.as_str()).is_ok()
+}
+
+fn is_found(alloc: Global, tree: &mut Recorder<'_, MemoryTree>, importer: &CleanPath) -> bool {
+    let found = find_pnp_manifest(alloc, tree, importer.as_str());
+    matches!(&found, Ok(Some(_)))
 }
 
 #[test]
-fn a_manifest_is_loaded_by_its_text(rt: HostRuntime) -> Result<(), Fail> {
-    let mut tree = tree(rt.alloc())?;
-    let mut recorder = Recorder::new(rt.alloc(), &mut tree);
+fn the_nearest_manifest_is_found_and_read(rt: HostRuntime) -> Result<(), Fail> {
+    let importer = path(rt.alloc(), "/w/lib/a.js")?;
     let file = path(rt.alloc(), "/w/.pnp.cjs")?;
-    assert!(rt; load_pnp_manifest(rt.alloc(), &mut recorder, file.as_str()).is_ok());
-    Ok(())
-}
-
-#[test]
-fn the_nearest_manifest_is_found(rt: HostRuntime) -> Result<(), Fail> {
-    let mut tree = tree(rt.alloc())?;
+    let mut tree = tree_of(rt.alloc(), manifest_text().as_bytes())?;
     let mut recorder = Recorder::new(rt.alloc(), &mut tree);
-    let importer = path(rt.alloc(), "/w/lib/a.js")?;
-    let found = closest_manifest(rt.alloc(), &mut recorder, &importer)?.ok_or("no manifest")?;
-    assert_eq!(rt; found.as_str(), "/w/.pnp.cjs");
-    Ok(())
-}
-
-#[test]
-fn the_nearest_manifest_is_found_by_a_text(rt: HostRuntime) -> Result<(), Fail> {
-    let mut tree = tree(rt.alloc())?;
-    let mut recorder = Recorder::new(rt.alloc(), &mut tree);
-    let importer = path(rt.alloc(), "/w/lib/a.js")?;
-    let found = find_closest_pnp_manifest_path(rt.alloc(), &mut recorder, importer.as_str())?;
-    assert_eq!(rt; found.ok_or("no manifest")?.as_str(), "/w/.pnp.cjs");
+    assert!(rt; is_nearest(rt.alloc(), &mut recorder, &importer, file.as_str())?);
+    assert!(rt; is_read(rt.alloc(), &mut recorder, &file));
+    assert!(rt; is_found(rt.alloc(), &mut recorder, &importer));
     Ok(())
 }

@@ -1,101 +1,93 @@
 // Values from outside, and that calls succeed.
-use pnp_core::{Error, Trie, normalize_path, parse_bare_identifier, payload_of};
+use crate::rows::{Told, rows_come};
+use pnp_core::{Error, normalize_path, parse_bare_identifier, payload_of};
+use std::alloc::Global;
 use std::test::Fail;
+use sugar_path::Text;
+
+fn normal_forms() -> &'static str {
+    r"foo/../../bar = ../bar
+/../foo/bar// = /foo/bar/
+a/../ = .
+ = .
+/ = /
+foo/.//bar/.. = foo
+../foo/../../bar = ../../bar
+../D:/foo = ../D:/foo
+/a\b/..\c = /a/c
+a/b\ = a/b"
+}
+
+pub(crate) fn normal_form(alloc: Global, path: &str) -> Result<Text, Fail> {
+    Ok(normalize_path(alloc, path)?)
+}
 
 #[test]
 fn paths_have_a_normal_form(rt: HostRuntime) -> Result<(), Fail> {
-    for (path, normal) in [
-        ("foo/../../bar", "../bar"),
-        ("/../foo/bar//", "/foo/bar/"),
-        ("a/../", "."),
-        ("", "."),
-        ("/", "/"),
-        ("foo/.//bar/..", "foo"),
-        ("../foo/../../bar", "../../bar"),
-        ("../D:/foo", "../D:/foo"),
-        ("/a\\b/..\\c", "/a/c"),
-        ("a/b\\", "a/b"),
-    ] {
-        assert_eq!(rt;
-            normalize_path(rt.alloc(), path)?.as_str(),
-            normal,
-            "of {path}"
-        );
-    }
-    Ok(())
+    rows_come(&rt, rt.alloc(), Told::NormalForm, normal_forms())
+}
+
+// A specifier, its package's name and its subpath, if there is one.
+fn identifiers() -> &'static str {
+    "@s/n/x/y = <@s/n> <x/y>
+@s/n = <@s/n>
+foo/ = <foo> <>
+foo = <foo>
+foo//x = <foo> </x>
+ = <>
+# a scope alone is refused
+@s = Invalid specifier: @s"
+}
+
+pub(crate) fn identifier_told(alloc: Global, specifier: &str) -> Result<Text, Fail> {
+    let split = parse_bare_identifier(alloc, specifier);
+    let told = match &split {
+        Ok((name, None)) => format!(in alloc; "<{name}>")?,
+        Ok((name, Some(subpath))) => format!(in alloc; "<{name}> <{subpath}>")?,
+        Err(Error::BadSpecifier(refused)) => {
+            format!(in alloc; "{}: {}", refused.message, refused.specifier)?
+        }
+        Err(_) => String::from_str(alloc, "another error")?,
+    };
+    Ok(Text::from(told))
 }
 
 #[test]
 fn bare_identifiers_are_split(rt: HostRuntime) -> Result<(), Fail> {
-    for (specifier, name, subpath) in [
-        ("@s/n/x/y", "@s/n", Some("x/y")),
-        ("@s/n", "@s/n", None),
-        ("foo/", "foo", Some("")),
-        ("foo", "foo", None),
-        ("foo//x", "foo", Some("/x")),
-        ("", "", None),
-    ] {
-        let (found, rest) = parse_bare_identifier(rt.alloc(), specifier)?;
-        assert_eq!(rt; found.as_str(), name, "of {specifier}");
-        assert_eq!(rt; rest.is_some(), subpath.is_some(), "of {specifier}");
-        if let (Some(rest), Some(subpath)) = (&rest, subpath) {
-            assert_eq!(rt; rest.as_str(), subpath, "of {specifier}");
-        }
+    rows_come(&rt, rt.alloc(), Told::Identifier, identifiers())
+}
+
+// A manifest's text and its payload.
+fn payloads() -> &'static str {
+    r"x = no payload
+constRAW_RUNTIME_STATE='a' = no payload
+constant; const RAW_RUNTIME_STATE = 'b' = b
+hydrateRuntimeState(JSON.parse('c'), {}) = c
+# the leftmost opening counts
+hydrateRuntimeState(JSON.parse('d'); const RAW_RUNTIME_STATE = 'e' = d
+# a payload that is cut off
+const RAW_RUNTIME_STATE = 'f\ = f"
+}
+
+pub(crate) fn payload_told(alloc: Global, text: &str) -> Result<Text, Fail> {
+    match payload_of(alloc, text)? {
+        Some(payload) => Ok(payload),
+        None => Ok(Text::of(alloc, "no payload")?),
     }
-    match parse_bare_identifier(rt.alloc(), "@s") {
-        Err(Error::BadSpecifier(refused)) => {
-            assert_eq!(rt; refused.message.as_str(), "Invalid specifier");
-            assert_eq!(rt; refused.specifier.as_str(), "@s");
-        }
-        _ => panic!(rt; "a scope alone is refused"),
-    }
-    Ok(())
+}
+
+// Texts of several lines stand in no table.
+fn payload_is(alloc: Global, text: &str, payload: &str) -> Result<bool, Fail> {
+    Ok(payload_told(alloc, text)?.as_str() == payload)
 }
 
 #[test]
 fn payloads_stand_between_quotes(rt: HostRuntime) -> Result<(), Fail> {
-    for (text, payload) in [
-        ("x", None),
-        ("const RAW_RUNTIME_STATE =\n'{}';\n", Some("{}")),
-        ("const \r\nRAW_RUNTIME_STATE='a", Some("a")),
-        ("constRAW_RUNTIME_STATE='a'", None),
-        ("constant; const RAW_RUNTIME_STATE = 'b'", Some("b")),
-        ("hydrateRuntimeState(JSON.parse('c'), {})", Some("c")),
-        (
-            "hydrateRuntimeState(JSON.parse('d'); const RAW_RUNTIME_STATE = 'e'",
-            Some("d"),
-        ),
-        (
-            "ü const RAW_RUNTIME_STATE = 'it\\'s \\\\ \\ü\\\n'",
-            Some("it's \\ ü\n"),
-        ),
-        ("const RAW_RUNTIME_STATE = 'f\\", Some("f")),
-    ] {
-        match payload_of(rt.alloc(), text)? {
-            Some(found) => assert_eq!(rt; Some(found.as_str()), payload, "of {text}"),
-            None => assert!(rt; payload.is_none(), "of {text}"),
-        }
-    }
-    Ok(())
-}
-
-#[test]
-fn a_trie_finds_the_nearest_location(rt: HostRuntime) -> Result<(), Fail> {
-    let mut trie: Trie<u8> = Trie::new(rt.alloc());
-    for (location, value) in [("/w/", 0u8), ("/w/foo/", 2u8), ("/w/./", 1u8)] {
-        assert!(rt; location.starts_with('/'));
-        assert!(rt; trie.insert(location, value).is_ok());
-    }
-    for (path, value) in [
-        ("/w/foobar", Some(1)),
-        ("/w/foo/x", Some(2)),
-        ("/w/foo", Some(2)),
-        ("/w", Some(1)),
-        ("/x", None),
-    ] {
-        assert!(rt; path.starts_with('/'));
-        let found = trie.get_ancestor_value(rt.alloc(), path)?;
-        assert_eq!(rt; found.copied(), value, "at {path}");
-    }
-    Ok(())
+    let behind_line = "const RAW_RUNTIME_STATE =\n'{}';\n";
+    assert!(rt; payload_is(rt.alloc(), behind_line, "{}")?);
+    let two_blanks = "const \r\nRAW_RUNTIME_STATE='a";
+    assert!(rt; payload_is(rt.alloc(), two_blanks, "a")?);
+    let escapes = "ü const RAW_RUNTIME_STATE = 'it\\'s \\\\ \\ü\\\n'";
+    assert!(rt; payload_is(rt.alloc(), escapes, "it's \\ ü\n")?);
+    rows_come(&rt, rt.alloc(), Told::Payload, payloads())
 }

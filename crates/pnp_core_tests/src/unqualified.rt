@@ -1,16 +1,15 @@
 // Where bare specifiers lead by a manifest alone.
 ghost use Rattle.pnp_core.specs.Owner.{IsReady};
 
-use crate::manifests::{path, ready_manifest, tree};
+use crate::answers::answers;
+use crate::manifests::{found_manifest, manifest_text, path};
 use pnp_core::{
-    Error, Manifest, Resolution, ResolutionConfig, ResolutionHost, find_pnp_manifest,
-    resolve_to_unqualified, resolve_to_unqualified_via_manifest,
+    Error, Manifest, Resolution, ResolutionConfig, ResolutionHost, resolve_to_unqualified,
+    resolve_to_unqualified_via_manifest,
 };
 use std::alloc::{AllocError, Global};
-use std::process::Abort;
 use std::test::Fail;
-use sugar_path::CleanPath;
-use tree_core::Recorder;
+use sugar_path::Text;
 
 // A resolution or a refusal in few words.
 fn shown(alloc: Global, answer: &Result<Resolution, Error>) -> Result<String, AllocError> {
@@ -34,47 +33,30 @@ fn shown(alloc: Global, answer: &Result<Resolution, Error>) -> Result<String, Al
     }
 }
 
-fn answered(
-    alloc: Global,
-    manifest: &Manifest,
-    specifier: &str,
-    parent: &CleanPath,
-) -> Result<String, AllocError>
+/// Where a specifier leads that a file asks.
+pub(crate) fn resolved_told(alloc: Global, manifest: &Manifest, given: &str) -> Result<Text, Fail>
     requires { IsReady manifest.now }
 {
-    shown(
-        alloc,
-        &resolve_to_unqualified_via_manifest(alloc, manifest, specifier, parent.as_str()),
-    )
+    let (specifier, parent) = given.split_once(' ').ok_or("no file")?;
+    let parent = path(alloc, parent)?;
+    let answer = resolve_to_unqualified_via_manifest(alloc, manifest, specifier, parent.as_str());
+    Ok(Text::from(shown(alloc, &answer)?))
 }
 
 // A specifier, the file that asks, and the answer, on each line.
 fn asked() -> &'static str {
-    "foo/x /w/a.js = /w/.yarn/foo/ x
-other /w/a.js = /w/.yarn/foo/
-lost/x /w/a.js = undeclared lost
-peer/x /w/.yarn/foo/a.js = missing peer peer
-top /w/.yarn/foo/a.js = no row of npm:4.0.0
-foo /a.js = skipped
-@s /a.js = bad @s"
-}
-
-fn are_resolved(rt: &impl Abort, alloc: Global, manifest: &Manifest) -> Result<(), Fail>
-    requires { IsReady manifest.now }
-{
-    for line in asked().lines() {
-        let (asked, wanted) = line.split_once(" = ").ok_or("no answer")?;
-        let (specifier, parent) = asked.split_once(' ').ok_or("no file")?;
-        let found = answered(alloc, manifest, specifier, &path(alloc, parent)?)?;
-        assert_eq!(rt; found.as_str(), wanted, "of {specifier}");
-    }
-    Ok(())
+    "resolved foo/x /w/a.js = /w/.yarn/foo/ x
+resolved other /w/a.js = /w/.yarn/foo/
+resolved lost/x /w/a.js = undeclared lost
+resolved peer/x /w/.yarn/foo/a.js = missing peer peer
+resolved top /w/.yarn/foo/a.js = no row of npm:4.0.0
+resolved foo /a.js = skipped
+resolved @s /a.js = bad @s"
 }
 
 #[test]
 fn specifiers_lead_to_locations(rt: HostRuntime) -> Result<(), Fail> {
-    let manifest = ready_manifest(rt.alloc())?;
-    are_resolved(&rt, rt.alloc(), &manifest)
+    answers(&rt, rt.alloc(), manifest_text(), asked())
 }
 
 #[test]
@@ -83,20 +65,19 @@ fn a_host_without_manifests_skips(rt: HostRuntime) -> Result<(), Fail> {
         host: ResolutionHost::new(|_: &str| Ok(None)),
     };
     let parent = path(rt.alloc(), "/w/a.js")?;
-    let answer = shown(
-        rt.alloc(),
-        &resolve_to_unqualified(rt.alloc(), "foo", parent.as_str(), &config),
-    )?;
-    assert_eq!(rt; answer.as_str(), "skipped");
+    let answer = resolve_to_unqualified(rt.alloc(), "foo", parent.as_str(), &config);
+    assert_eq!(rt; shown(rt.alloc(), &answer)?.as_str(), "skipped");
     Ok(())
 }
 
 #[test]
-fn the_nearest_manifest_is_read(rt: HostRuntime) -> Result<(), Fail> {
-    let mut tree = tree(rt.alloc())?;
-    let mut recorder = Recorder::new(rt.alloc(), &mut tree);
-    let parent = path(rt.alloc(), "/w/lib/a.js")?;
-    let is_found = find_pnp_manifest(rt.alloc(), &mut recorder, parent.as_str())?.is_some();
-    assert!(rt; is_found);
+fn a_host_finds_the_manifest(rt: HostRuntime) -> Result<(), Fail> {
+    let alloc = rt.alloc();
+    let config = ResolutionConfig {
+        host: ResolutionHost::new(|_: &str| found_manifest(alloc)),
+    };
+    let parent = path(alloc, "/w/lib/a.js")?;
+    let answer = resolve_to_unqualified(alloc, "foo/x", parent.as_str(), &config);
+    assert_eq!(rt; shown(alloc, &answer)?.as_str(), "/w/.yarn/foo/ x");
     Ok(())
 }

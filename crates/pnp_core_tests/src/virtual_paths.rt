@@ -1,4 +1,5 @@
 // What the texts of paths mean, by hand.
+use crate::rows::{Told, rows_come};
 use pnp_core::{VPath, VPathInfo, physical_place};
 use std::alloc::{AllocError, Global};
 use std::test::Fail;
@@ -59,14 +60,14 @@ C:/a/__virtual__/h/5/b = virtual  (C:/a/__virtual__/h/5/b; b)
 /C:/app/.yarn/__virtual__/p/4/U/p.zip/i.js = zip /C: (app/.yarn/__virtual__/p/4/U/p.zip; U/p.zip) [i.js]"
 }
 
+pub(crate) fn virtual_told(alloc: Global, text: &str) -> Result<Text, Fail> {
+    let path = VPath::from(alloc, text)?;
+    Ok(Text::from(shown(alloc, &path)?))
+}
+
 #[test]
 fn paths_fall_into_parts(rt: HostRuntime) -> Result<(), Fail> {
-    for line in paths().lines() {
-        let (text, wanted) = line.split_once(" = ").ok_or("no path")?;
-        let path = VPath::from(rt.alloc(), text)?;
-        assert_eq!(rt; shown(rt.alloc(), &path)?.as_str(), wanted, "of {text}");
-    }
-    Ok(())
+    rows_come(&rt, rt.alloc(), Told::VirtualPath, paths())
 }
 
 // Where the bytes of a path lie.
@@ -78,7 +79,12 @@ fn physical(alloc: Global, path: &VPath) -> Result<Text, AllocError> {
     }
 }
 
-fn places() -> &'static str {
+pub(crate) fn base_told(alloc: Global, text: &str) -> Result<Text, Fail> {
+    let path = VPath::from(alloc, text)?;
+    Ok(physical(alloc, &path)?)
+}
+
+fn bases() -> &'static str {
     "./a/b/__virtual__/foo-abcdef/1/c/d = a/c/d
 /a/b/__virtual__/foo-abcdef/2/c/foo.zip/bar = /c/foo.zip
 /a/foo.zip/bar = /a/foo.zip
@@ -87,34 +93,26 @@ fn places() -> &'static str {
 
 #[test]
 fn paths_have_a_physical_base(rt: HostRuntime) -> Result<(), Fail> {
-    for line in places().lines() {
-        let (text, wanted) = line.split_once(" = ").ok_or("no path")?;
-        let path = VPath::from(rt.alloc(), text)?;
-        let found = physical(rt.alloc(), &path)?;
-        assert_eq!(rt; found.as_str(), wanted, "of {text}");
+    rows_come(&rt, rt.alloc(), Told::Base, bases())
+}
+
+pub(crate) fn place_told(alloc: Global, location: &str) -> Result<Text, Fail> {
+    match physical_place(alloc, location)? {
+        Some(place) => Ok(place.into_text()?),
+        None => Ok(Text::of(alloc, "an archive")?),
     }
-    Ok(())
+}
+
+fn places() -> &'static str {
+    "/w/p/ = /w/p
+/w/.yarn/__virtual__/p-virtual-ab/0/cache/p/ = /w/.yarn/cache/p
+/w/.yarn/__virtual__/p-virtual-ab/1/p/ = /w/p
+/w/p.zip = /w/p.zip
+/w/p.zip/node_modules/p/ = an archive
+/w/__virtual__/p-virtual-ab/0/p.zip/node_modules/p/ = an archive"
 }
 
 #[test]
 fn locations_have_a_place(rt: HostRuntime) -> Result<(), Fail> {
-    for (location, wanted) in [
-        ("/w/p/", "/w/p"),
-        (
-            "/w/.yarn/__virtual__/p-virtual-ab/0/cache/p/",
-            "/w/.yarn/cache/p",
-        ),
-        ("/w/.yarn/__virtual__/p-virtual-ab/1/p/", "/w/p"),
-        ("/w/p.zip", "/w/p.zip"),
-        ("/w/p.zip/node_modules/p/", "an archive"),
-        (
-            "/w/__virtual__/p-virtual-ab/0/p.zip/node_modules/p/",
-            "an archive",
-        ),
-    ] {
-        let place = physical_place(rt.alloc(), location)?;
-        let found = place.as_ref().map_or("an archive", |place| place.as_str());
-        assert_eq!(rt; found, wanted, "of {location}");
-    }
-    Ok(())
+    rows_come(&rt, rt.alloc(), Told::Place, places())
 }

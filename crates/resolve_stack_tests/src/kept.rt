@@ -1,133 +1,119 @@
 // Requests that share what was read: an edited manifest is read anew, and so is one that is kept no longer.
-use crate::requests::{project_of, told};
-use resolve_stack::{FileName, ImportError, KnownTree, Outcome, Resolver};
-use std::alloc::{AllocError, Global};
+use crate::project::{found, importer, manifest, project_of, put_project, tree_of};
+use resolve_stack::{FileName, KnownTree, Project, Resolver};
+use std::alloc::Global;
 use std::test::Fail;
 use sugar_path::Text;
 use tree_core::MemoryTree;
 
-// A manifest whose top-level package binds `foo` to the package at a location.
-fn manifest(alloc: Global, location: &str) -> Result<String, AllocError> {
-    let mut text = String::from_str(
-        alloc,
-        r#"const RAW_RUNTIME_STATE =
-'{"dependencyTreeRoots":[],"enableTopLevelFallback":false,"ignorePatternData":null,"fallbackExclusionList":[],"fallbackPool":[],"packageRegistryData":[[null,[[null,{"packageLocation":"./","packageDependencies":[["foo","npm:1.0.0"]]}]]],["foo",[["npm:1.0.0",{"packageLocation":""#,
-    )?;
-    text.push_str(location)?;
-    text.push_str(r#"","packageDependencies":[]}]]]]}';"#)?;
-    Ok(text)
+// Which project asks, step by step, and the package that its manifest binds then. More projects take turns than
+// manifests are kept. Those that bind one package are alike byte for byte, and say a location from their own folders.
+fn steps() -> &'static str {
+    "/p0 one
+/p5 one
+/p4 one
+/p3 one
+/p2 one
+/p1 one
+/p0 one
+/p5 one
+/p0 two
+/p3 one
+/p0 one
+/p1 one"
 }
 
-// A project in a folder, with a manifest that binds `foo` to the package at this location.
-fn put_project(
-    alloc: Global,
-    tree: &mut MemoryTree,
-    folder: &str,
-    location: &str,
-) -> Result<(), Fail> {
-    let path = format!(in alloc; "{folder}/.pnp.cjs")?;
-    let text = manifest(alloc, location)?;
-    tree.put(path.as_str(), text.as_bytes(), path.as_str())?;
-    for package in ["a", "b"] {
-        let index = format!(in alloc; "{folder}/{package}/index.js")?;
-        tree.put(index.as_str(), b"", index.as_str())?;
-    }
-    Ok(())
-}
-
-// The file that a request came to.
-fn found(alloc: Global, outcome: &Result<Outcome, ImportError>) -> Result<String, AllocError> {
-    match outcome {
-        Ok(outcome) => told(alloc, &outcome.verdict),
-        Err(_) => Err(AllocError),
-    }
-}
-
-fn asked(
+// Whether the next step finds the package that the manifest binds.
+fn finds(
     alloc: Global,
     resolver: &mut Resolver<'_, '_>,
     tree: &mut MemoryTree,
-    importer: &str,
-) -> Result<String, AllocError> {
-    let importer = FileName::Real(Text::of(alloc, importer)?);
-    found(
-        alloc,
-        &resolver.resolve_import(alloc, tree, &importer, "foo"),
-    )
+    step: &str,
+) -> Result<bool, Fail> {
+    let (folder, package) = step.split_once(' ').ok_or("a package")?;
+    put_project(alloc, tree, folder, package)?;
+    finds_in(alloc, resolver, tree, folder, package)
+}
+
+fn finds_in(
+    alloc: Global,
+    resolver: &mut Resolver<'_, '_>,
+    tree: &mut MemoryTree,
+    folder: &str,
+    package: &str,
+) -> Result<bool, Fail> {
+    let importer = FileName::Real(Text::of(alloc, folder)?);
+    let outcome = resolver.resolve_import(alloc, tree, &importer, "foo")?;
+    Ok(is_index_of(found(&outcome), folder, package))
+}
+
+// Whether a file is the index file of a package of the project in a folder.
+fn is_index_of(file: &str, folder: &str, package: &str) -> bool {
+    match file.strip_prefix(folder) {
+        Some("/one/index.js") => package == "one",
+        Some("/two/index.js") => package == "two",
+        _ => false,
+    }
+}
+
+// How many steps find the package, up to the first that doesn't.
+fn steps_that_find(
+    alloc: Global,
+    resolver: &mut Resolver<'_, '_>,
+    tree: &mut MemoryTree,
+) -> Result<u8, Fail> {
+    let mut count = 0u8;
+    for step in steps().lines() {
+        if !finds(alloc, resolver, tree, step)? {
+            return Ok(count);
+        }
+        count = count.saturating_add(1);
+    }
+    Ok(count)
 }
 
 #[test]
-fn an_edited_manifest_is_read_anew(rt: HostRuntime) -> Result<(), Fail> {
-    let alloc = rt.alloc();
-    let project = project_of(alloc, "/", None)?;
-    let mut resolver = Resolver::new(alloc, &project);
-    let mut tree = MemoryTree::new(alloc);
-    let mut edited = MemoryTree::new(alloc);
-    put_project(alloc, &mut tree, "/w", "./a/")?;
-    put_project(alloc, &mut edited, "/w", "./b/")?;
-    let before = asked(alloc, &mut resolver, &mut tree, "/w/main.js")?;
-    let after = asked(alloc, &mut resolver, &mut edited, "/w/main.js")?;
-    let again = asked(alloc, &mut resolver, &mut tree, "/w/main.js")?;
-    let first = "real /w/a/index.js found /w/a/index.js via foo@npm:1.0.0 in /w/a";
-    assert_eq!(rt; before.as_str(), first);
-    assert_eq!(rt;
-        after.as_str(),
-        "real /w/b/index.js found /w/b/index.js via foo@npm:1.0.0 in /w/b"
-    );
-    assert_eq!(rt; again.as_str(), first);
+fn projects_take_turns_and_are_edited(rt: HostRuntime) -> Result<(), Fail> {
+    let project = project_of(rt.alloc())?;
+    let mut resolver = Resolver::new(rt.alloc(), &project);
+    let mut tree = MemoryTree::new(rt.alloc());
+    assert_eq!(rt; steps_that_find(rt.alloc(), &mut resolver, &mut tree)?, 12);
     Ok(())
 }
 
-#[test]
-fn more_projects_than_are_kept_take_turns(rt: HostRuntime) -> Result<(), Fail> {
-    let alloc = rt.alloc();
-    let project = project_of(alloc, "/", None)?;
-    let mut resolver = Resolver::new(alloc, &project);
-    let mut tree = MemoryTree::new(alloc);
-    // their manifests are alike byte for byte, and say locations from their own folders
-    for i in 0..6 {
-        let folder = format!(in alloc; "/p{i}")?;
-        put_project(alloc, &mut tree, folder.as_str(), "./a/")?;
-    }
-    for i in [0, 5, 4, 3, 2, 1, 0, 5, 0, 3, 1] {
-        let importer = format!(in alloc; "/p{i}/main.js")?;
-        let wanted = format!(in alloc;
-            "real /p{i}/a/index.js found /p{i}/a/index.js via foo@npm:1.0.0 in /p{i}/a"
-        )?;
-        let came = asked(alloc, &mut resolver, &mut tree, importer.as_str())?;
-        assert_eq!(rt; came.as_str(), wanted.as_str());
-    }
-    Ok(())
+// Whether a request over a tree whose manifests are known finds a file.
+fn finds_known(
+    alloc: Global,
+    tree: &mut KnownTree,
+    project: &Project<'_>,
+    file: &str,
+) -> Result<bool, Fail> {
+    let importer = importer(alloc)?;
+    let outcome = tree.resolve_import(alloc, project, &importer, "foo")?;
+    Ok(found(&outcome) == file)
 }
 
-// What a request over a tree whose manifests are known comes to.
-fn known(alloc: Global, tree: &mut KnownTree) -> Result<String, Fail> {
-    let project = project_of(alloc, "/", None)?;
-    let importer = FileName::Real(Text::of(alloc, "/w/main.js")?);
-    Ok(found(
-        alloc,
-        &tree.resolve_import(alloc, &project, &importer, "foo"),
-    )?)
+// Puts a manifest that binds another package.
+fn edit(alloc: Global, tree: &mut KnownTree) -> Result<(), Fail> {
+    let edited = manifest(alloc, "two")?;
+    Ok(tree.put("/w/.pnp.cjs", edited.as_bytes(), "/w/.pnp.cjs")?)
+}
+
+// Whether a manifest that is known from a first request is forgotten where its file is put or removed.
+fn is_forgotten(alloc: Global, tree: &mut KnownTree, project: &Project<'_>) -> Result<bool, Fail> {
+    let first = finds_known(alloc, tree, project, "/w/one/index.js")?;
+    let again = finds_known(alloc, tree, project, "/w/one/index.js")?;
+    edit(alloc, tree)?;
+    let after = finds_known(alloc, tree, project, "/w/two/index.js")?;
+    let removed = tree.remove("/w/.pnp.cjs");
+    let without = finds_known(alloc, tree, project, "")?;
+    Ok(first && again && after && removed && without)
 }
 
 #[test]
-fn a_known_manifest_is_forgotten_when_it_is_put(rt: HostRuntime) -> Result<(), Fail> {
-    let alloc = rt.alloc();
-    let mut files = MemoryTree::new(alloc);
-    put_project(alloc, &mut files, "/w", "./a/")?;
-    let mut tree = KnownTree::of(alloc, files);
-    let first = known(alloc, &mut tree)?;
-    let again = known(alloc, &mut tree)?;
-    let edited = manifest(alloc, "./b/")?;
-    tree.put("/w/.pnp.cjs", edited.as_bytes(), "/w/.pnp.cjs")?;
-    let after = known(alloc, &mut tree)?;
-    assert!(rt; tree.remove("/w/.pnp.cjs"));
-    let without = known(alloc, &mut tree)?;
-    assert_eq!(rt; first.as_str(), again.as_str());
-    assert_eq!(rt;
-        after.as_str(),
-        "real /w/b/index.js found /w/b/index.js via foo@npm:1.0.0 in /w/b"
-    );
-    assert_eq!(rt; without.as_str(), "nothing is found at foo");
+fn a_known_manifest_is_forgotten(rt: HostRuntime) -> Result<(), Fail> {
+    let project = project_of(rt.alloc())?;
+    let mut tree = KnownTree::of(rt.alloc(), tree_of(rt.alloc())?);
+    assert!(rt; is_forgotten(rt.alloc(), &mut tree, &project)?);
     Ok(())
 }

@@ -4,18 +4,14 @@
 #[cfg(test)]
 mod example;
 #[cfg(test)]
-mod join_rows;
-#[cfg(test)]
 mod kept;
 #[cfg(test)]
 mod mappings;
 #[cfg(test)]
+mod project;
+#[cfg(test)]
 mod projects;
 #[cfg(test)]
 mod replays;
-#[cfg(test)]
-mod requests;
-#[cfg(test)]
-mod shared_readings;
 #[cfg(test)]
 mod trail;

@@ -1,38 +1,96 @@
-// What a session keeps, as a plain list with the paths that each outcome asked.
+// What a session keeps, as a plain text: a line for each outcome, the most recently used first, with its specifier
+// and the paths of its questions.
 use resolve_stack::Outcome;
-use session_core::Keys;
 use std::alloc::{AllocError, Global};
-use std::mem;
 
-/// A kept request, and the paths of its questions.
-#[derive(Drop)]
-pub struct Noted {
-    specifier: &'static str,
-    asked: Vec<String>,
+/// The line of an outcome.
+pub fn line_of(alloc: Global, specifier: &str, outcome: &Outcome) -> Result<String, AllocError> {
+    let mut line = String::from_str(alloc, specifier)?;
+    for (question, _) in outcome.trail.iter() {
+        push_word(&mut line, question.path())?;
+    }
+    Ok(line)
 }
 
-impl Noted {
-    pub fn of(
-        alloc: Global,
-        specifier: &'static str,
-        outcome: &Outcome,
-    ) -> Result<Noted, AllocError> {
-        let mut asked = Vec::new(alloc);
-        for (question, _) in outcome.trail.iter() {
-            asked.push(String::from_str(alloc, question.path())?)?;
-        }
-        Ok(Noted { specifier, asked })
-    }
+fn push_word(line: &mut String, word: &str) -> Result<(), AllocError> {
+    line.push_str(" ")?;
+    line.push_str(word)
+}
 
-    // Whether one of its questions is on the path of an edit or stands above it.
-    fn is_touched(&self, edited: &str) -> bool {
-        for asked in self.asked.iter() {
-            if bears_on(edited, asked.as_str()) {
-                return true;
-            }
-        }
-        false
+fn push_line(lines: &mut String, line: &str) -> Result<(), AllocError> {
+    lines.push_str(line)?;
+    lines.push_str("\n")
+}
+
+fn specifier_of(line: &str) -> &str {
+    match line.split_once(' ') {
+        Some((specifier, _)) => specifier,
+        None => line,
     }
+}
+
+/// Whether the outcome of a specifier is kept.
+pub fn has(kept: &str, specifier: &str) -> bool {
+    for line in kept.lines() {
+        if specifier_of(line) == specifier {
+            return true;
+        }
+    }
+    false
+}
+
+/// What is kept once the outcome of a line is used: that one first, and then the others, up to a capacity.
+pub fn renewed(
+    alloc: Global,
+    kept: &str,
+    used: &str,
+    capacity: usize,
+) -> Result<String, AllocError> {
+    let mut lines = String::new(alloc);
+    push_line(&mut lines, used)?;
+    let mut count: usize = 1;
+    for line in kept.lines() {
+        if count < capacity && specifier_of(line) != specifier_of(used) {
+            push_line(&mut lines, line)?;
+            count = count.wrapping_add(1);
+        }
+    }
+    Ok(lines)
+}
+
+/// How many outcomes an edit drops.
+pub fn count_touched(kept: &str, edited: &str) -> usize {
+    let mut count: usize = 0;
+    for line in kept.lines() {
+        if is_touched(line, edited) {
+            count = count.wrapping_add(1);
+        }
+    }
+    count
+}
+
+/// What an edit leaves.
+pub fn untouched(alloc: Global, kept: &str, edited: &str) -> Result<String, AllocError> {
+    let mut lines = String::new(alloc);
+    for line in kept.lines() {
+        if !is_touched(line, edited) {
+            push_line(&mut lines, line)?;
+        }
+    }
+    Ok(lines)
+}
+
+// Whether one of the questions of a line is on the path of an edit or stands above it.
+fn is_touched(line: &str, edited: &str) -> bool {
+    let Some((_, paths)) = line.split_once(' ') else {
+        return false;
+    };
+    for asked in paths.split_whitespace() {
+        if bears_on(edited, asked) {
+            return true;
+        }
+    }
+    false
 }
 
 fn bears_on(edited: &str, asked: &str) -> bool {
@@ -42,72 +100,11 @@ fn bears_on(edited: &str, asked: &str) -> bool {
     }
 }
 
-/// The kept requests, the most recently used last.
-#[derive(Drop)]
-pub struct KeptList {
-    alloc: Global,
-    capacity: usize,
-    noted: Vec<Noted>,
-}
-
-impl KeptList {
-    pub fn new(alloc: Global, capacity: usize) -> KeptList {
-        KeptList {
-            alloc,
-            capacity,
-            noted: Vec::new(alloc),
-        }
+/// The specifiers of what is kept.
+pub fn specifiers_of(alloc: Global, kept: &str) -> Result<String, AllocError> {
+    let mut specifiers = String::new(alloc);
+    for line in kept.lines() {
+        push_word(&mut specifiers, specifier_of(line))?;
     }
-
-    /// A request is used: its old entry goes, and then the oldest of too many.
-    pub fn renew(&mut self, noted: Noted) -> Result<(), AllocError> {
-        let before = mem::replace(&mut self.noted, Vec::new(self.alloc));
-        for other in before {
-            if other.specifier != noted.specifier {
-                self.noted.push(other)?;
-            }
-        }
-        self.noted.push(noted)?;
-        if self.noted.len() > self.capacity {
-            drop(self.noted.remove(0));
-        }
-        Ok(())
-    }
-
-    /// Drops what an edit touches, and counts it.
-    pub fn drop_touched(&mut self, edited: &str) -> Result<usize, AllocError> {
-        let before = mem::replace(&mut self.noted, Vec::new(self.alloc));
-        let mut dropped: usize = 0;
-        for noted in before {
-            if noted.is_touched(edited) {
-                dropped = dropped.wrapping_add(1);
-            } else {
-                self.noted.push(noted)?;
-            }
-        }
-        Ok(dropped)
-    }
-
-    pub fn has(&self, specifier: &str) -> bool {
-        for noted in self.noted.iter() {
-            if noted.specifier == specifier {
-                return true;
-            }
-        }
-        false
-    }
-
-    /// Whether a session has these keys.
-    pub fn are(&self, keys: Keys<'_>) -> bool {
-        if keys.len() != self.noted.len() {
-            return false;
-        }
-        for (i, noted) in self.noted.iter().rev().enumerate() {
-            match keys.get(i) {
-                Some((_, specifier)) if specifier == noted.specifier => {}
-                _ => return false,
-            }
-        }
-        true
-    }
+    Ok(specifiers)
 }

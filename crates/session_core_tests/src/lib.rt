@@ -6,8 +6,6 @@ mod example;
 #[cfg(test)]
 mod kept;
 #[cfg(test)]
-mod memory;
-#[cfg(test)]
 mod project;
 #[cfg(test)]
 mod random_steps;

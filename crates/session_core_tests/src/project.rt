@@ -1,13 +1,13 @@
-// Projects and requests for the tests.
+// Projects, requests and files for the tests.
 use indexmap::IndexMap;
-use resolve_stack::{
-    FileName, Outcome, Project, ProjectError, Settings, TargetEnv, TsSettings, Verdict,
-};
+use resolve_stack::{FileName, Project, Settings, TargetEnv, TsSettings};
+use session_core::{Keys, Session};
 use std::alloc::{AllocError, Global};
+use std::test::Fail;
 use sugar_path::{List, Text};
 
 /// What decides requests besides `node_modules`.
-#[derive(Clone, Copy)]
+#[derive(Clone, Copy, Debug)]
 pub enum Kind {
     Plain,
     Manifest,
@@ -16,25 +16,23 @@ pub enum Kind {
     Lock,
 }
 
-/// A project for Node in the folder `/w`.
-pub fn project_of(alloc: Global) -> Result<Project<'static>, ProjectError> {
-    project_of_kind(alloc, Kind::Plain)
+/// A project of a kind in the folder `/w`.
+pub fn project_of(alloc: Global, kind: Kind) -> Result<Project<'static>, Fail> {
+    Ok(Project::new(alloc, settings_of(alloc, kind)?)?)
 }
 
-/// A project of a kind in the folder `/w`.
-pub fn project_of_kind(alloc: Global, kind: Kind) -> Result<Project<'static>, ProjectError> {
-    Project::new(
-        alloc,
-        Settings {
-            cwd: Text::of(alloc, "/w")?,
-            target: target_of(kind),
-            preserve_symlinks: false,
-            node_modules: true,
-            alias: IndexMap::new(alloc),
-            ts: mapping_of(alloc, kind)?,
-            lock: lock_of(kind),
-        },
-    )
+fn settings_of(alloc: Global, kind: Kind) -> Result<Settings<'static>, AllocError> {
+    let cwd = Text::of(alloc, "/w")?;
+    let ts = mapping_of(alloc, kind)?;
+    Ok(Settings {
+        cwd,
+        target: target_of(kind),
+        preserve_symlinks: false,
+        node_modules: true,
+        alias: IndexMap::new(alloc),
+        ts,
+        lock: lock_of(kind),
+    })
 }
 
 fn target_of(kind: Kind) -> TargetEnv {
@@ -44,20 +42,26 @@ fn target_of(kind: Kind) -> TargetEnv {
     }
 }
 
-// `@app` lies in two folders.
 fn mapping_of(alloc: Global, kind: Kind) -> Result<Option<TsSettings>, AllocError> {
     let Kind::Mapping = kind else {
         return Ok(None);
     };
-    let mut targets = Vec::new(alloc);
-    targets.push(Text::of(alloc, "part/*")?)?;
-    targets.push(Text::of(alloc, "lib/*")?)?;
-    let mut paths = Vec::new(alloc);
-    paths.push((Text::of(alloc, "@app/*")?, List::from(targets)))?;
-    Ok(Some(TsSettings {
-        base_url: Text::of(alloc, "/w")?,
-        paths: List::from(paths),
-    }))
+    let base_url = Text::of(alloc, "/w")?;
+    let paths = paths_of(alloc)?;
+    Ok(Some(TsSettings { base_url, paths }))
+}
+
+// `@app` lies in two folders.
+fn paths_of(alloc: Global) -> Result<List<(Text, List<Text>)>, AllocError> {
+    let pattern = Text::of(alloc, "@app/*")?;
+    let targets = targets_of(alloc)?;
+    Ok(List::from(vec![in alloc; (pattern, targets)]?))
+}
+
+fn targets_of(alloc: Global) -> Result<List<Text>, AllocError> {
+    let part = Text::of(alloc, "part/*")?;
+    let lib = Text::of(alloc, "lib/*")?;
+    Ok(List::from(vec![in alloc; part, lib]?))
 }
 
 // The lock has the package that the manifest binds, at the range that its package.json gives.
@@ -87,25 +91,37 @@ pub fn text_of(kind: Kind, path: &str) -> &'static str {
     }
 }
 
-/// A manifest whose top-level package binds `foo`.
-pub fn manifest() -> &'static str {
+// A manifest whose top-level package binds `foo`.
+fn manifest() -> &'static str {
     r#"const RAW_RUNTIME_STATE =
 '{"dependencyTreeRoots":[],"enableTopLevelFallback":false,"ignorePatternData":null,"fallbackExclusionList":[],"fallbackPool":[],"packageRegistryData":[[null,[[null,{"packageLocation":"./","packageDependencies":[["foo","npm:1.0.0"]]}]]],["foo",[["npm:1.0.0",{"packageLocation":"./lib/foo/","packageDependencies":[]}]]]]}';
 "#
 }
 
-/// Whether two outcomes are one: their verdicts, and their trails with each reply.
-pub fn same_outcome(a: &Outcome, b: &Outcome) -> bool {
-    a.verdict == b.verdict && a.trail.iter().eq(b.trail.iter())
+/// A session on a project with a manifest, which keeps two outcomes.
+pub fn session_of_two(alloc: Global) -> Result<Session<'static>, Fail> {
+    let mut session = Session::new(alloc, project_of(alloc, Kind::Manifest)?, 2)?;
+    for path in "/w/a.js /w/.pnp.cjs /w/lib/foo/index.js".split_whitespace() {
+        session.put(path, text_of(Kind::Manifest, path).as_bytes(), path)?;
+    }
+    Ok(session)
 }
 
-/// The file that a verdict found, or nothing.
-pub fn found(outcome: &Outcome) -> &str {
-    match &outcome.verdict {
-        Verdict::Answered(answer) => match &answer.found {
-            Some(found) => found.file.as_str(),
-            None => "",
-        },
-        Verdict::Refused(_) => "",
+/// Whether a session keeps the requests of some specifiers, the most recently used first. It takes no memory.
+pub fn keys_are(keys: Keys<'_>, specifiers: &str) -> bool {
+    let mut count: usize = 0;
+    for specifier in specifiers.split_whitespace() {
+        if !is_key(keys, count, specifier) {
+            return false;
+        }
+        count = count.wrapping_add(1);
+    }
+    keys.len() == count
+}
+
+fn is_key(keys: Keys<'_>, i: usize, specifier: &str) -> bool {
+    match keys.get(i) {
+        Some((_, kept)) => kept == specifier,
+        None => false,
     }
 }

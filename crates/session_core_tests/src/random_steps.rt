@@ -1,128 +1,168 @@
-// Random lists of steps on each kind of project, beside what each request comes to when it is resolved again on a tree with the same
-// edits, and beside a plain list of what is kept.
+// Random lists of steps on each kind of project, beside what each request comes to when it is resolved again on a
+// tree with the same edits, and beside a plain list of what is kept.
 ghost use Rattle.std.specs.Prelude.{◌<◌};
 
-use crate::kept::{KeptList, Noted};
-use crate::project::{Kind, importer, project_of_kind, same_outcome, text_of};
-use resolve_stack::{FileName, Project, resolve_import};
-use session_core::Session;
-use std::alloc::Global;
+use crate::kept::{count_touched, has, line_of, renewed, specifiers_of, untouched};
+use crate::project::{Kind, importer, keys_are, project_of, text_of};
+use resolve_stack::{FileName, Outcome, Project, resolve_import};
+use session_core::{Keys, Session};
+use std::alloc::{AllocError, Global};
 use std::test::Fail;
 use tree_core::MemoryTree;
 
+// How many outcomes are kept.
+const CAPACITY: usize = 3;
+
 // What is edited: files that requests look for, folders above them, and a file that no request asks for.
-const PATHS: [&str; 10] = [
-    "/w/a.js",
-    "/w/.pnp.cjs",
-    "/w/package.json",
-    "/w/lib/foo/index.js",
-    "/w/lib/foo/index.ts",
-    "/w/lib/foo",
-    "/w/node_modules/foo/index.js",
-    "/w/node_modules/foo/package.json",
-    "/w/part/index.js",
-    "/w/beside.js",
-];
+fn paths() -> &'static str {
+    "/w/a.js
+/w/.pnp.cjs
+/w/package.json
+/w/lib/foo/index.js
+/w/lib/foo/index.ts
+/w/lib/foo
+/w/node_modules/foo/index.js
+/w/node_modules/foo/package.json
+/w/part/index.js
+/w/beside.js"
+}
 
 // What is asked for.
-const SPECIFIERS: [&str; 7] = [
-    "foo",
-    "./part",
-    "foo/index",
-    "fs",
-    "bar",
-    "@app/foo",
-    "/w/lib/foo",
-];
+fn specifiers() -> &'static str {
+    "foo ./part foo/index fs bar @app/foo /w/lib/foo"
+}
 
-// A session, a plain tree with the same files, and what is kept.
-struct Pair {
+// What stays the same while steps are taken.
+#[derive(Drop)]
+struct Given<'g> {
     alloc: Global,
     kind: Kind,
-    session: Session<'static>,
-    project: Project<'static>,
+    project: &'g Project<'static>,
+    importer: &'g FileName,
+}
+
+impl Given<'_> {
+    // What a request comes to on a tree.
+    fn resolved(&self, tree: &mut MemoryTree, specifier: &str) -> Result<Outcome, AllocError> {
+        match resolve_import(self.alloc, tree, self.project, self.importer, specifier) {
+            Ok(outcome) => Ok(outcome),
+            Err(_) => Err(AllocError),
+        }
+    }
+}
+
+// A plain tree with a session's files, and a plain list of what the session keeps.
+#[derive(Drop)]
+struct Plain {
+    alloc: Global,
     tree: MemoryTree,
-    kept: KeptList,
+    kept: String,
 }
 
-impl Drop for Pair {
-    fn drop(self) {
-        let Pair {
-            alloc: _,
-            kind: _,
-            session: _,
-            project: _,
-            tree: _,
-            kept: _,
-        } = self;
-    }
-}
-
-impl Pair {
-    fn new(alloc: Global, kind: Kind) -> Result<Pair, Fail> {
-        Ok(Pair {
+impl Plain {
+    fn new(alloc: Global) -> Plain {
+        Plain {
             alloc,
-            kind,
-            session: Session::new(alloc, project_of_kind(alloc, kind)?, 3)?,
-            project: project_of_kind(alloc, kind)?,
             tree: MemoryTree::new(alloc),
-            kept: KeptList::new(alloc, 3),
-        })
+            kept: String::new(alloc),
+        }
     }
 
-    // Whether the session and the tree take a file alike, and as many outcomes go as are touched.
-    fn put(&mut self, path: &str) -> Result<bool, Fail> {
-        let bytes = text_of(self.kind, path).as_bytes();
-        let dropped = self.session.put(path, bytes, path).ok();
+    // Puts a file: how many outcomes are touched, or nothing where the tree refuses the file.
+    fn put(&mut self, path: &str, bytes: &[u8]) -> Result<Option<usize>, AllocError> {
         if self.tree.put(path, bytes, path).is_err() {
-            return Ok(dropped.is_none());
+            return Ok(None);
         }
-        Ok(dropped == Some(self.kept.drop_touched(path)?))
+        self.drop_touched(path)
     }
 
-    // Whether both have a file that is taken out, and as many outcomes go as are touched, or neither has it.
-    fn remove(&mut self, path: &str) -> Result<bool, Fail> {
-        let dropped = self.session.remove(path);
+    // Takes a file out: how many outcomes are touched, or nothing where there is no such file.
+    fn remove(&mut self, path: &str) -> Result<Option<usize>, AllocError> {
         if !self.tree.remove(path) {
-            return Ok(dropped.is_none());
+            return Ok(None);
         }
-        Ok(dropped == Some(self.kept.drop_touched(path)?))
+        self.drop_touched(path)
     }
 
-    // Whether the session lends what the request comes to on the tree, and puts no question where that is kept.
-    fn ask(&mut self, importer: &FileName, specifier: &'static str) -> Result<bool, Fail> {
-        let alloc = self.alloc;
-        let before = self.session.questions();
-        let plain = resolve_import(alloc, &mut self.tree, &self.project, importer, specifier)?;
-        let lent = self.session.ask(importer, specifier)?;
-        let same = same_outcome(lent, &plain);
-        let asked = self.session.questions() != before;
-        let known = self.kept.has(specifier);
-        self.kept.renew(Noted::of(alloc, specifier, &plain)?)?;
-        Ok(same && asked != known)
+    fn drop_touched(&mut self, path: &str) -> Result<Option<usize>, AllocError> {
+        let count = count_touched(self.kept.as_str(), path);
+        let left = untouched(self.alloc, self.kept.as_str(), path)?;
+        self.kept = left;
+        Ok(Some(count))
     }
 
-    // A step: asks, puts and removals, twice as many asks as edits.
-    fn step(&mut self, importer: &FileName, state: &mut u64) -> Result<bool, Fail> {
-        let kind = pick(state, 6);
-        if kind < 4 {
-            return self.ask(importer, SPECIFIERS[pick(state, 7)]);
-        }
-        self.edit(kind, PATHS[pick(state, 10)])
+    // Notes that an outcome is used, and tells whether it was kept.
+    fn note(&mut self, specifier: &str, outcome: &Outcome) -> Result<bool, AllocError> {
+        let known = has(self.kept.as_str(), specifier);
+        let line = line_of(self.alloc, specifier, outcome)?;
+        let kept = renewed(self.alloc, self.kept.as_str(), line.as_str(), CAPACITY)?;
+        self.kept = kept;
+        Ok(known)
     }
 
-    // Puts or removes a file. The plain kind has no manifest.
-    fn edit(&mut self, kind: usize, path: &str) -> Result<bool, Fail> {
-        let path = match self.kind {
-            Kind::Plain if path.ends_with(".cjs") => "/w/part.js",
-            _ => path,
-        };
-        if kind == 4 {
-            self.put(path)
-        } else {
-            self.remove(path)
-        }
+    // Whether a session keeps the same.
+    fn is_kept_by(&self, keys: Keys<'_>) -> Result<bool, AllocError> {
+        let specifiers = specifiers_of(self.alloc, self.kept.as_str())?;
+        Ok(keys_are(keys, specifiers.as_str()))
     }
+}
+
+// Puts or removes a file in a session and beside it: whether as many outcomes go as are touched, or both refuse.
+// The plain kind has no manifest.
+fn edit(
+    given: &Given<'_>,
+    session: &mut Session<'_>,
+    plain: &mut Plain,
+    puts: bool,
+    path: &str,
+) -> Result<bool, AllocError> {
+    let path = match given.kind {
+        Kind::Plain if path.ends_with(".cjs") => "/w/part.js",
+        _ => path,
+    };
+    if puts {
+        let bytes = text_of(given.kind, path).as_bytes();
+        let dropped = session.put(path, bytes, path).ok();
+        Ok(dropped == plain.put(path, bytes)?)
+    } else {
+        let dropped = session.remove(path);
+        Ok(dropped == plain.remove(path)?)
+    }
+}
+
+// Whether a session lends what a request comes to on the plain tree, and puts no question where that is kept.
+fn ask(
+    given: &Given<'_>,
+    session: &mut Session<'_>,
+    plain: &mut Plain,
+    specifier: &str,
+) -> Result<bool, AllocError> {
+    let outcome = given.resolved(&mut plain.tree, specifier)?;
+    is_asked_alike(given, session, plain, specifier, &outcome)
+}
+
+fn is_asked_alike(
+    given: &Given<'_>,
+    session: &mut Session<'_>,
+    plain: &mut Plain,
+    specifier: &str,
+    outcome: &Outcome,
+) -> Result<bool, AllocError> {
+    let known = plain.note(specifier, outcome)?;
+    let before = session.questions();
+    let same = lends(session, given.importer, specifier, outcome)?;
+    Ok(same && known == (session.questions() == before))
+}
+
+// Whether a session lends this outcome: its verdict, and its trail with each reply.
+fn lends(
+    session: &mut Session<'_>,
+    importer: &FileName,
+    specifier: &str,
+    outcome: &Outcome,
+) -> Result<bool, AllocError> {
+    let lent = session.ask(importer, specifier)?;
+    Ok(lent.verdict == outcome.verdict && lent.trail.iter().eq(outcome.trail.iter()))
 }
 
 // The next number of a plain generator, and one below `count` of its high bits.
@@ -136,17 +176,49 @@ fn pick(state: &mut u64, count: u64) -> usize
     ((*state >> 33) % count) as usize
 }
 
-// How many of so many steps leave the session, the tree and the list alike.
-fn run(alloc: Global, kind: Kind, steps: u64) -> Result<u64, Fail> {
-    let importer = importer(alloc)?;
-    let mut state = 1;
-    let mut pair = Pair::new(alloc, kind)?;
-    for path in PATHS {
-        pair.edit(4, path)?;
+fn word_at(words: &'static str, place: usize) -> &'static str {
+    let mut left = place;
+    for word in words.split_whitespace() {
+        if left == 0 {
+            return word;
+        }
+        left = left.wrapping_sub(1);
     }
+    ""
+}
+
+// Whether a step leaves the session, the tree and the list alike: asks, puts and removals, twice as many asks as edits.
+fn step(
+    given: &Given<'_>,
+    session: &mut Session<'_>,
+    plain: &mut Plain,
+    state: &mut u64,
+) -> Result<bool, AllocError> {
+    let kind = pick(state, 6);
+    let alike = if kind < 4 {
+        let specifier = word_at(specifiers(), pick(state, 7));
+        ask(given, session, plain, specifier)?
+    } else {
+        let path = word_at(paths(), pick(state, 10));
+        edit(given, session, plain, kind == 4, path)?
+    };
+    Ok(alike && plain.is_kept_by(session.keys())?)
+}
+
+// How many of so many steps leave a session and what stands beside it alike.
+fn steps_alike(
+    given: &Given<'_>,
+    session: &mut Session<'_>,
+    plain: &mut Plain,
+    steps: u64,
+) -> Result<u64, AllocError> {
+    for path in paths().split_whitespace() {
+        edit(given, session, plain, true, path)?;
+    }
+    let mut state = 1;
     let mut alike: u64 = 0;
     for _ in 0..steps {
-        if !pair.step(&importer, &mut state)? || !pair.kept.are(pair.session.keys()) {
+        if !step(given, session, plain, &mut state)? {
             return Ok(alike);
         }
         alike = alike.wrapping_add(1);
@@ -154,16 +226,35 @@ fn run(alloc: Global, kind: Kind, steps: u64) -> Result<u64, Fail> {
     Ok(alike)
 }
 
+fn alike_in_session(given: &Given<'_>, steps: u64) -> Result<u64, Fail> {
+    let project = project_of(given.alloc, given.kind)?;
+    let mut session = Session::new(given.alloc, project, CAPACITY)?;
+    let mut plain = Plain::new(given.alloc);
+    Ok(steps_alike(given, &mut session, &mut plain, steps)?)
+}
+
+fn alike_on(alloc: Global, kind: Kind, steps: u64) -> Result<u64, Fail> {
+    let project = project_of(alloc, kind)?;
+    let importer = importer(alloc)?;
+    let given = Given {
+        alloc,
+        kind,
+        project: &project,
+        importer: &importer,
+    };
+    alike_in_session(&given, steps)
+}
+
 #[test]
 fn each_outcome_is_that_of_the_tree_as_it_is(rt: HostRuntime) -> Result<(), Fail> {
-    for (name, kind) in [
-        ("no manifest", Kind::Plain),
-        ("a manifest", Kind::Manifest),
-        ("a browser map", Kind::BrowserMap),
-        ("a mapping", Kind::Mapping),
-        ("a lock", Kind::Lock),
+    for kind in [
+        Kind::Plain,
+        Kind::Manifest,
+        Kind::BrowserMap,
+        Kind::Mapping,
+        Kind::Lock,
     ] {
-        assert_eq!(rt; run(rt.alloc(), kind, 400)?, 400, "{name}");
+        assert_eq!(rt; alike_on(rt.alloc(), kind, 400)?, 400, "{kind:?}");
     }
     Ok(())
 }

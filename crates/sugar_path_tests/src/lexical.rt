@@ -1,128 +1,131 @@
 // Paths from outside: Node's and the Rust crate's own cases, with what they make of them on Unix.
+use std::alloc::Global;
 use std::test::Fail;
 use sugar_path::{CwdAnswer, Path, PathBuf, PathCow, SugarPath, SugarPathBuf, TryError};
 
-// A path, its normal form, and whether that is lent.
-fn normal_forms() -> [(&'static str, &'static str, bool); 48] {
-    [
-        (
-            "workspace/src/../dist/assets",
-            "workspace/dist/assets",
-            false,
-        ),
-        ("", ".", true),
-        ("./", "./", true),
-        ("a/../", "./", false),
-        ("/a//b/", "/a/b/", false),
-        ("/foo/../../../bar", "/bar", false),
-        ("a//b//../b", "a/b", false),
-        ("a//b//./c", "a/b/c", false),
-        ("a//b//.", "a/b", false),
-        ("/a/b/c/../../../x/y/z", "/x/y/z", false),
-        ("///..//./foo/.//bar", "/foo/bar", false),
-        ("bar/foo../../", "bar/", false),
-        ("bar/foo../..", "bar", false),
-        ("bar/foo../../baz", "bar/baz", false),
-        ("bar/foo../", "bar/foo../", true),
-        ("bar/foo..", "bar/foo..", true),
-        ("../foo../../../bar", "../../bar", false),
-        ("../.../.././.../../../bar", "../../bar", false),
-        ("../../../foo/../../../bar", "../../../../../bar", false),
-        (
-            "../../../foo/../../../bar/../../",
-            "../../../../../../",
-            false,
-        ),
-        ("../foobar/barfoo/foo/../../../bar/../../", "../../", false),
-        (
-            "../../../foobar/../../../bar/../../baz",
-            "../../../../../../baz",
-            false,
-        ),
-        ("fixtures///b/../b/c.js", "fixtures/b/c.js", false),
-        ("/", "/", true),
-        ("//", "/", false),
-        ("///", "/", false),
-        (".", ".", true),
-        ("..", "..", true),
-        ("../", "../", true),
-        ("../..", "../..", true),
-        ("/..", "/", false),
-        ("/../", "/", false),
-        ("/.", "/", false),
-        ("/./", "/", false),
-        ("./a", "a", false),
-        ("a/.", "a", false),
-        ("a/./", "a/", false),
-        ("a/..", ".", true),
-        ("a/../..", "..", false),
-        ("./..", "..", false),
-        ("./.", ".", true),
-        (".//", "./", false),
-        ("...", "...", true),
-        ("a", "a", true),
-        ("a/", "a/", true),
-        ("a/b/c", "a/b/c", true),
-        ("/a/b", "/a/b", true),
-        ("é/../ü", "ü", false),
-    ]
+// Whether a path is the text of a row, and `lent` or `made` as the row says behind it.
+fn is_as(found: &PathCow<'_>, wanted: &str) -> bool {
+    match wanted.rsplit_once(" | ") {
+        Some((text, how)) => { found.as_path().bytes() == text.as_bytes() && how_of(found) == how }
+        None => false,
+    }
+}
+
+fn how_of(found: &PathCow<'_>) -> &'static str {
+    match found {
+        PathCow::Borrowed(_) => "lent",
+        PathCow::Owned(_) => "made",
+    }
+}
+
+// A path and its normal form, on each line, and whether that is lent.
+fn normal_forms() -> &'static str {
+    "workspace/src/../dist/assets | workspace/dist/assets | made
+ | . | lent
+./ | ./ | lent
+a/../ | ./ | made
+/a//b/ | /a/b/ | made
+/foo/../../../bar | /bar | made
+a//b//../b | a/b | made
+a//b//./c | a/b/c | made
+a//b//. | a/b | made
+/a/b/c/../../../x/y/z | /x/y/z | made
+///..//./foo/.//bar | /foo/bar | made
+bar/foo../../ | bar/ | made
+bar/foo../.. | bar | made
+bar/foo../../baz | bar/baz | made
+bar/foo../ | bar/foo../ | lent
+bar/foo.. | bar/foo.. | lent
+../foo../../../bar | ../../bar | made
+../.../.././.../../../bar | ../../bar | made
+../../../foo/../../../bar | ../../../../../bar | made
+../../../foo/../../../bar/../../ | ../../../../../../ | made
+../foobar/barfoo/foo/../../../bar/../../ | ../../ | made
+../../../foobar/../../../bar/../../baz | ../../../../../../baz | made
+fixtures///b/../b/c.js | fixtures/b/c.js | made
+/ | / | lent
+// | / | made
+/// | / | made
+. | . | lent
+.. | .. | lent
+../ | ../ | lent
+../.. | ../.. | lent
+/.. | / | made
+/../ | / | made
+/. | / | made
+/./ | / | made
+./a | a | made
+a/. | a | made
+a/./ | a/ | made
+a/.. | . | lent
+a/../.. | .. | made
+./.. | .. | made
+./. | . | lent
+.// | ./ | made
+... | ... | lent
+a | a | lent
+a/ | a/ | lent
+a/b/c | a/b/c | lent
+/a/b | /a/b | lent
+é/../ü | ü | made"
 }
 
 #[test]
 fn paths_are_normalized(rt: HostRuntime) -> Result<(), Fail> {
-    for (text, normal, lent) in normal_forms() {
-        let path = Path::of_text(text);
-        let found = path.normalize(rt.alloc())?;
-        assert_eq!(rt; found.as_path().bytes(), normal.as_bytes(), "of {text}");
-        assert_eq!(rt; matches!(&found, PathCow::Borrowed(_)), lent, "of {text}");
+    for line in normal_forms().lines() {
+        let (path, wanted) = line.split_once(" | ").ok_or("no normal form")?;
+        let found = Path::of_text(path).normalize(rt.alloc())?;
+        assert!(rt; is_as(&found, wanted), "{line}");
     }
     Ok(())
+}
+
+// Whether an owned path has a normal form, which says whether it is lent from a borrowed path.
+fn is_normalized_to(alloc: Global, path: &str, wanted: &str) -> Result<bool, Fail> {
+    let (normal, _) = wanted.split_once(" | ").ok_or("no normal form")?;
+    let owned = PathBuf::of(alloc, Path::of_text(path))?;
+    Ok(match owned.into_normalized(alloc) {
+        Ok(found) => found.as_path().bytes() == normal.as_bytes(),
+        Err(_) => false,
+    })
 }
 
 #[test]
 fn owned_paths_are_normalized(rt: HostRuntime) -> Result<(), Fail> {
-    for (text, normal, _) in normal_forms() {
-        let path = PathBuf::of(rt.alloc(), Path::of_text(text))?;
-        match path.into_normalized(rt.alloc()) {
-            Ok(found) => {
-                assert_eq!(rt; found.as_path().bytes(), normal.as_bytes(), "of {text}");
-            }
-            Err(_) => panic!(rt; "no memory for {text}"),
-        }
+    for line in normal_forms().lines() {
+        let (path, wanted) = line.split_once(" | ").ok_or("no normal form")?;
+        assert!(rt; is_normalized_to(rt.alloc(), path, wanted)?, "{line}");
     }
     Ok(())
 }
 
-// A path read from `/w/x`, its place, and whether that is lent.
-fn places() -> [(&'static str, &'static str, bool); 16] {
-    [
-        ("src/lib.rs", "/w/x/src/lib.rs", false),
-        ("", "/w/x", false),
-        (".", "/w/x", false),
-        ("./", "/w/x", false),
-        ("..", "/w", false),
-        ("../..", "/", false),
-        ("../../..", "/", false),
-        ("../b", "/w/b", false),
-        ("a/../../b/", "/w/b", false),
-        ("./a/./b//c/", "/w/x/a/b/c", false),
-        ("/a/b/../c/", "/a/c", false),
-        ("/", "/", true),
-        ("/..", "/", false),
-        ("/a/b", "/a/b", true),
-        ("/a/b/", "/a/b", false),
-        ("//a", "/a", false),
-    ]
+// A path read from `/w/x` and its place, on each line, and whether that is lent.
+fn places() -> &'static str {
+    "src/lib.rs | /w/x/src/lib.rs | made
+ | /w/x | made
+. | /w/x | made
+./ | /w/x | made
+.. | /w | made
+../.. | / | made
+../../.. | / | made
+../b | /w/b | made
+a/../../b/ | /w/b | made
+./a/./b//c/ | /w/x/a/b/c | made
+/a/b/../c/ | /a/c | made
+/ | / | lent
+/.. | / | made
+/a/b | /a/b | lent
+/a/b/ | /a/b | made
+//a | /a | made"
 }
 
 #[test]
 fn paths_are_made_absolute(rt: HostRuntime) -> Result<(), Fail> {
     let folder = Path::of_text("/w/x");
-    for (text, place, lent) in places() {
-        let path = Path::of_text(text);
-        let found = path.absolutize_with(rt.alloc(), folder)?;
-        assert_eq!(rt; found.as_path().bytes(), place.as_bytes(), "of {text}");
-        assert_eq!(rt; matches!(&found, PathCow::Borrowed(_)), lent, "of {text}");
+    for line in places().lines() {
+        let (path, wanted) = line.split_once(" | ").ok_or("no place")?;
+        let found = Path::of_text(path).absolutize_with(rt.alloc(), folder)?;
+        assert!(rt; is_as(&found, wanted), "{line}");
     }
     Ok(())
 }
@@ -144,80 +147,60 @@ fn the_working_folder_is_asked_where_needed(rt: HostRuntime) -> Result<(), Fail>
     Ok(())
 }
 
-// A target and a base, and the way from the base to the target, where both are read from `/w/x`,
-// and whether that is lent.
-fn ways() -> [(&'static str, &'static str, &'static str, bool); 41] {
-    [
-        ("/var", "/var/lib", "..", false),
-        ("/bin", "/var/lib", "../../bin", false),
-        ("/var/lib", "/var/lib", "", true),
-        ("/var/apache", "/var/lib", "../apache", false),
-        ("/var/lib", "/var/", "lib", true),
-        ("/var/lib", "/", "var/lib", true),
-        ("/", "/var/lib", "../..", false),
-        (
-            "/foo/test/bar/package.json",
-            "/foo/test",
-            "bar/package.json",
-            true,
-        ),
-        (
-            "/Users/a/web/b",
-            "/Users/a/web/b/test/mails",
-            "../..",
-            false,
-        ),
-        ("/foo/bar/baz", "/foo/bar/baz-quux", "../baz", false),
-        ("/foo/bar/baz-quux", "/foo/bar/baz", "../baz-quux", false),
-        ("/baz", "/baz-quux", "../baz", false),
-        ("/a/b", "/a/c/d", "../../b", false),
-        ("/a/../b", "/b/./", "", false),
-        ("//a//b", "/a/", "b", false),
-        ("/..", "/", "", false),
-        ("src/lib.rs", "/w/x", "src/lib.rs", false),
-        ("/w/y", "z", "../../y", false),
-        ("workspace/dist", "workspace", "dist", false),
-        ("a", "b", "../a", false),
-        ("./a", "a/", "", false),
-        ("../a", "../b", "../a", false),
-        ("../a/b", "../a", "b", false),
-        ("../a", "b", "../../a", false),
-        ("b", "../a", "../x/b", false),
-        ("..", "a", "../..", false),
-        ("", "", "", false),
-        ("a/b", "", "a/b", false),
-        ("", "a/b", "../..", false),
-        ("a/../b", "c/../b", "", false),
-        ("../../a", "../..", "a", false),
-        ("../../..", "a", "../../..", false),
-        ("/a/b/c", "/a", "b/c", true),
-        ("/a/./b", "/a", "b", false),
-        ("/a/b", "/a/.", "b", false),
-        ("/a//b", "/a", "b", false),
-        ("/a/b//", "/a//", "b", true),
-        ("/a/é", "/a", "é", true),
-        ("/", "//", "", true),
-        ("/ab", "/a", "../ab", false),
-        ("a/b", "a", "b", false),
-    ]
+// A target, a base, and the way from the base to the target, where both are read from `/w/x`, on each line, and whether that
+// is lent.
+fn ways() -> &'static str {
+    "/var | /var/lib | .. | made
+/bin | /var/lib | ../../bin | made
+/var/lib | /var/lib |  | lent
+/var/apache | /var/lib | ../apache | made
+/var/lib | /var/ | lib | lent
+/var/lib | / | var/lib | lent
+/ | /var/lib | ../.. | made
+/foo/test/bar/package.json | /foo/test | bar/package.json | lent
+/Users/a/web/b | /Users/a/web/b/test/mails | ../.. | made
+/foo/bar/baz | /foo/bar/baz-quux | ../baz | made
+/foo/bar/baz-quux | /foo/bar/baz | ../baz-quux | made
+/baz | /baz-quux | ../baz | made
+/a/b | /a/c/d | ../../b | made
+/a/../b | /b/./ |  | made
+//a//b | /a/ | b | made
+/.. | / |  | made
+src/lib.rs | /w/x | src/lib.rs | made
+/w/y | z | ../../y | made
+workspace/dist | workspace | dist | made
+a | b | ../a | made
+./a | a/ |  | made
+../a | ../b | ../a | made
+../a/b | ../a | b | made
+../a | b | ../../a | made
+b | ../a | ../x/b | made
+.. | a | ../.. | made
+ |  |  | made
+a/b |  | a/b | made
+ | a/b | ../.. | made
+a/../b | c/../b |  | made
+../../a | ../.. | a | made
+../../.. | a | ../../.. | made
+/a/b/c | /a | b/c | lent
+/a/./b | /a | b | made
+/a/b | /a/. | b | made
+/a//b | /a | b | made
+/a/b// | /a// | b | lent
+/a/é | /a | é | lent
+/ | // |  | lent
+/ab | /a | ../ab | made
+a/b | a | b | made"
 }
 
 #[test]
 fn ways_lead_from_base_to_target(rt: HostRuntime) -> Result<(), Fail> {
     let folder = Path::of_text("/w/x");
-    for (target, base, way, lent) in ways() {
-        let path = Path::of_text(target);
-        let found = path.relative_with(rt.alloc(), Path::of_text(base), folder)?;
-        assert_eq!(rt;
-            found.as_path().bytes(),
-            way.as_bytes(),
-            "from {base} to {target}"
-        );
-        assert_eq!(rt;
-            matches!(&found, PathCow::Borrowed(_)),
-            lent,
-            "from {base} to {target}"
-        );
+    for line in ways().lines() {
+        let (target, behind) = line.split_once(" | ").ok_or("no base")?;
+        let (base, wanted) = behind.split_once(" | ").ok_or("no way")?;
+        let found = Path::of_text(target).relative_with(rt.alloc(), Path::of_text(base), folder)?;
+        assert!(rt; is_as(&found, wanted), "{line}");
     }
     Ok(())
 }

@@ -6,60 +6,57 @@ use sugar_path::{
     common_prefix_len, components, is_clean, join, parent,
 };
 
-// A path and its parent, as `std::path` has it.
-fn parents() -> [(&'static str, Option<&'static str>); 20] {
-    [
-        ("", None),
-        ("/", None),
-        ("//", None),
-        ("/.", None),
-        ("a", Some("")),
-        ("a/", Some("")),
-        ("./", Some("")),
-        (".", Some("")),
-        ("..", Some("")),
-        ("/a", Some("/")),
-        ("//a", Some("/")),
-        ("/a/", Some("/")),
-        ("a/b", Some("a")),
-        ("a//b//", Some("a")),
-        ("./a", Some(".")),
-        ("a/./b", Some("a")),
-        ("a/..", Some("a")),
-        ("../..", Some("..")),
-        ("/a/b/c", Some("/a/b")),
-        ("/./a", Some("/")),
-    ]
+// A path and its parent, as `std::path` has it, on each line; `-` where there is none.
+fn parents() -> &'static str {
+    " | -
+/ | -
+// | -
+/. | -
+a | 
+a/ | 
+./ | 
+. | 
+.. | 
+/a | /
+//a | /
+/a/ | /
+a/b | a
+a//b// | a
+./a | .
+a/./b | a
+a/.. | a
+../.. | ..
+/a/b/c | /a/b
+/./a | /"
 }
 
 #[test]
 fn paths_have_parents(rt: HostRuntime) -> Result<(), Fail> {
-    for (path, above) in parents() {
-        let found = parent(Path::of_text(path)).map(|p| p.bytes());
-        assert_eq!(rt; found, above.map(|text| text.as_bytes()), "of {path}");
+    for line in parents().lines() {
+        let (path, above) = line.split_once(" | ").ok_or("no parent")?;
+        let found = parent(Path::of_text(path)).map_or(b"-".as_slice(), |p| p.bytes());
+        assert_eq!(rt; found, above.as_bytes(), "of {path}");
     }
     Ok(())
 }
 
-// A path, and its components, each behind a blank: `/` for the root, and else as in the path.
-fn component_lists() -> [(&'static str, &'static str); 15] {
-    [
-        ("", ""),
-        ("/", " /"),
-        ("//", " /"),
-        (".", " ."),
-        ("./", " ."),
-        ("./.", " ."),
-        ("./a", " . a"),
-        ("a/.", " a"),
-        ("a/./b", " a b"),
-        ("/./a", " / a"),
-        ("..", " .."),
-        ("a/../b", " a .. b"),
-        ("a//b/", " a b"),
-        ("/a/b/c", " / a b c"),
-        ("...", " ..."),
-    ]
+// A path and its components, on each line, each behind a blank: `/` for the root, and else as in the path.
+fn component_lists() -> &'static str {
+    " |
+/ | /
+// | /
+. | .
+./ | .
+./. | .
+./a | . a
+a/. | a
+a/./b | a b
+/./a | / a
+.. | ..
+a/../b | a .. b
+a//b/ | a b
+/a/b/c | / a b c
+... | ..."
 }
 
 fn told<'a>(component: Component<'a>) -> &'a [u8] {
@@ -82,67 +79,66 @@ fn listed(alloc: Global, path: &str) -> Result<Vec<u8>, AllocError> {
 
 #[test]
 fn paths_are_taken_apart(rt: HostRuntime) -> Result<(), Fail> {
-    for (path, list) in component_lists() {
-        assert_eq!(rt;
-            listed(rt.alloc(), path)?.as_slice(),
-            list.as_bytes(),
-            "in {path}"
-        );
+    for line in component_lists().lines() {
+        let (path, list) = line.split_once(" |").ok_or("no components")?;
+        let found = listed(rt.alloc(), path)?;
+        assert_eq!(rt; found.as_slice(), list.as_bytes(), "in {path}");
     }
     Ok(())
 }
 
-// A folder, a path, and the path behind the folder.
-fn joins() -> [(&'static str, &'static str, &'static str); 8] {
-    [
-        ("d", "", "d/"),
-        ("d", "a", "d/a"),
-        ("d/", "a", "d/a"),
-        ("", "a", "a"),
-        ("", "", ""),
-        ("d", "/a", "/a"),
-        ("/", "a", "/a"),
-        ("d", "../a", "d/../a"),
-    ]
+// A folder, a path, and the path behind the folder, on each line.
+fn joins() -> &'static str {
+    "d |  | d/
+d | a | d/a
+d/ | a | d/a
+ | a | a
+ |  | 
+d | /a | /a
+/ | a | /a
+d | ../a | d/../a"
 }
 
 #[test]
 fn paths_are_joined(rt: HostRuntime) -> Result<(), Fail> {
-    for (base, path, joined) in joins() {
+    for line in joins().lines() {
+        let (base, behind) = line.split_once(" | ").ok_or("no path")?;
+        let (path, joined) = behind.split_once(" | ").ok_or("no join")?;
         let found = join(rt.alloc(), Path::of_text(base), Path::of_text(path))?;
-        assert_eq!(rt;
-            found.as_path().bytes(),
-            joined.as_bytes(),
-            "of {base} and {path}"
-        );
+        assert_eq!(rt; found.as_path().bytes(), joined.as_bytes(), "of {line}");
     }
     Ok(())
 }
 
-// A text read from `/w`, the clean path that it names, and whether the text is clean itself.
-fn clean_texts() -> [(&'static str, &'static str, bool); 10] {
-    [
-        ("a/../b/", "/w/b", false),
-        ("/w/b/", "/w/b", false),
-        ("/w/b", "/w/b", true),
-        ("/", "/", true),
-        ("", "/w", false),
-        ("../..", "/", false),
-        ("/a//b", "/a/b", false),
-        ("/a/./b", "/a/b", false),
-        ("/a/..", "/", false),
-        ("/...", "/...", true),
-    ]
+// A text read from `/w` and the clean path that it names, on each line, and whether the text is clean itself.
+fn clean_texts() -> &'static str {
+    "a/../b/ | /w/b | not
+/w/b/ | /w/b | not
+/w/b | /w/b | clean
+/ | / | clean
+ | /w | not
+../.. | / | not
+/a//b | /a/b | not
+/a/./b | /a/b | not
+/a/.. | / | not
+/... | /... | clean"
+}
+
+// Whether a text, read from `/w`, comes to the clean text and the word of a row.
+fn is_cleaned_to(alloc: Global, text: &str, wanted: &str) -> Result<bool, Fail> {
+    let folder = "/w";
+    let (clean, word) = wanted.split_once(" | ").ok_or("no word")?;
+    if !is_clean(folder) || is_clean(text) != (word == "clean") {
+        return Ok(false);
+    }
+    Ok(clean_text(alloc, folder, text)?.as_str() == clean)
 }
 
 #[test]
 fn texts_are_cleaned(rt: HostRuntime) -> Result<(), Fail> {
-    let folder = "/w";
-    assert!(rt; is_clean(folder));
-    for (text, clean, was_clean) in clean_texts() {
-        let found = clean_text(rt.alloc(), folder, text)?;
-        assert_eq!(rt; found.as_str(), clean, "of {text}");
-        assert_eq!(rt; is_clean(text), was_clean, "of {text}");
+    for line in clean_texts().lines() {
+        let (text, wanted) = line.split_once(" | ").ok_or("no clean text")?;
+        assert!(rt; is_cleaned_to(rt.alloc(), text, wanted)?, "{line}");
     }
     Ok(())
 }

@@ -1,13 +1,8 @@
-// Browser maps, worked out by hand from docs/ORDER.md: what a request comes to by them, the file that was found, if any, and its
-// questions in order.
-use crate::rows::{Row, base_of, came_to, resolver_by, resolver_of, row_of, tree_of};
-use crate::searches::questions_in;
-use std::alloc::Global;
-use std::process::Abort;
+// Browser maps, worked out by hand from docs/ORDER.md: what a request comes to by them, the file that was found,
+// if any, and its questions in order; and the calls for the rules alone.
+use crate::rows::rows_come;
 use std::test::Fail;
-use sugar_path::CleanPath;
-use swc_loader::{ModuleRule, NodeModulesResolver, NodeRefusal, Resolution, Rule, Source};
-use tree_core::{MemoryTree, Recorder, ResolveError};
+use swc_loader::TargetEnv;
 
 // Which package.json counts, and what keys and texts mean.
 fn keys_and_texts() -> &'static str {
@@ -57,6 +52,11 @@ browser |  | /w/a.js; /w/b.js; /x/c.js; /w/package.json {"browser": {"./b.js": "
 browser |  | /w/a.js; /w/b.js; /w/alt/m.js; /w/alt/index.js; /w/package.json {"browser": {"./b.js": "./alt"}}; /w/alt/package.json {"main": "m.js"} | /w/a.js ./b.js = /w/alt/index.js | /w/alt/index.js | /w/package.json read:/w/package.json /w/b.js /w/alt.js /w/alt /w/alt.ts /w/alt.tsx /w/alt.jsx /w/alt.node /w/alt/index.ts /w/alt/index.tsx /w/alt/index.js /w/a.js canon:/w/alt/index.js
 # the empty text means the root, as an open text
 browser |  | /w/a.js; /w/b.js; /w/index.js; /w/package.json {"browser": {"./b.js": ""}} | /w/a.js ./b.js = /w/index.js | /w/index.js | /w/package.json read:/w/package.json /w/b.js /w.js /w.ts /w.tsx /w.jsx /w.node /w/index.ts /w/index.tsx /w/index.js /w/a.js canon:/w/index.js"#
+}
+
+#[test]
+fn keys_and_texts_mean_what_the_order_has(rt: HostRuntime) -> Result<(), Fail> {
+    rows_come(&rt, rt.alloc(), keys_and_texts())
 }
 
 // Which rule counts, for what, and by which name its file is told.
@@ -111,117 +111,32 @@ browser-links |  | /w/a.js; /c.js; /w/package.json {"browser": {"./x": "../c.js"
 browser-links |  | /w/a.js; /w/b.js; /w/package.json {"browser": {"./z.js": true}} | /w/a.js ./b.js = /w/b.js | /w/b.js | /w/package.json read:/w/package.json /w/a.js /w/b.js"#
 }
 
-// The file that was found for a request; no text where there is none.
-fn file_of(came: &Result<Resolution, ResolveError<NodeRefusal>>) -> &str {
-    match came {
-        Ok(resolution) => match &resolution.found {
-            Some(found) => found.file.as_str(),
-            None => "",
-        },
-        Err(_) => "",
-    }
-}
-
-// What a request comes to, as a table has it.
-fn told(alloc: Global, given: &str) -> Result<String, Fail> {
-    let row = row_of(given).ok_or("no request")?;
-    let mut resolver = resolver_of(alloc, &row)?;
-    let mut tree = tree_of(alloc, row.files)?;
-    told_by(alloc, &mut resolver, &mut tree, &row)
-}
-
-fn told_by(
-    alloc: Global,
-    resolver: &mut NodeModulesResolver,
-    tree: &mut MemoryTree,
-    row: &Row<'_>,
-) -> Result<String, Fail> {
-    let base = base_of(alloc, row.base)?;
-    let mut recorder = Recorder::new(alloc, tree);
-    let answer = resolver.resolve(alloc, &mut recorder, &base, row.specifier);
-    let asked = questions_in(alloc, recorder.trail())?;
-    line_of(alloc, answer, asked.as_str())
-}
-
-// The answer, the file that was found, and the questions.
-fn line_of(
-    alloc: Global,
-    answer: Result<Resolution, ResolveError<NodeRefusal>>,
-    asked: &str,
-) -> Result<String, Fail> {
-    let found = format!(in alloc; " | {} |{asked}", file_of(&answer))?;
-    let mut line = came_to(alloc, answer)?;
-    line.push_str(found.as_str())?;
-    Ok(line)
-}
-
-// Each row of a table comes to what it says.
-pub(crate) fn rows_come(rt: &impl Abort, alloc: Global, rows: &str) -> Result<(), Fail> {
-    for line in rows.lines() {
-        if !line.starts_with('#') {
-            let (given, wanted) = line.split_once(" = ").ok_or("no answer")?;
-            let told = told(alloc, given)?;
-            assert_eq!(rt; told.as_str(), wanted, "{given}");
-        }
-    }
-    Ok(())
-}
-
-#[test]
-fn keys_and_texts_mean_what_the_order_has(rt: HostRuntime) -> Result<(), Fail> {
-    rows_come(&rt, rt.alloc(), keys_and_texts())
-}
-
 #[test]
 fn rules_count_as_the_order_has_them(rt: HostRuntime) -> Result<(), Fail> {
     rows_come(&rt, rt.alloc(), rules())
 }
 
-// A rule in words: its source, and the file that stands for it.
-fn rule_told(alloc: Global, rule: &Rule) -> Result<String, Fail> {
-    let source = match &rule.source {
-        Source::File(file) => file.as_str(),
-        Source::Specifier(text) => text.as_str(),
-    };
-    let target = match &rule.target {
-        Some(file) => file.as_str(),
-        None => "nothing",
-    };
-    Ok(format!(in alloc; "{source} is {target}")?)
+// Rules, what they say of a specifier, and what they leave of a location.
+fn calls() -> &'static str {
+    r#"# the rules of a folder, in the byte order of their keys
+browser |  | /w/b.js; /w/c.js; /w/package.json {"browser": {"x": "c", "./b.js": false}} | rules_at: /w = (file /w/b.js is hidden)(specifier x is /w/c.js) | read:/w/package.json /w/b.js /w/c.js
+# what they say of a specifier
+browser |  | /w/b.js; /w/c.js; /w/package.json {"browser": {"x": "c", "./b.js": false}} | module_rule: a.js x = file /w/c.js | /w/package.json read:/w/package.json /w/b.js /w/c.js
+browser |  | /w/b.js; /w/c.js; /w/package.json {"browser": {"x": "c", "./b.js": false}} | module_rule: a.js y = no rule | /w/package.json read:/w/package.json /w/b.js /w/c.js
+# one of Node's own modules, hidden
+browser |  | /w/package.json {"browser": {"fs": false}} | rules_at: /w = (specifier fs is hidden) | read:/w/package.json
+browser |  | /w/package.json {"browser": {"fs": false}} | module_rule: a.js fs = ignored | /w/package.json read:/w/package.json
+# the file at a package's location, hidden by the package's own map
+browser |  | /p/lib.js; /p/package.json {"main": "lib.js", "browser": {"./lib.js": false}} | resolve_at: /p = ignored /p/lib.js | /p/package.json read:/p/package.json /p/lib.js"#
 }
 
-// A package with a rule about a specifier, and one about a file.
-fn packages() -> &'static str {
-    r#"/w/b.js; /w/c.js; /w/package.json {"browser": {"x": "c", "./b.js": false}}"#
-}
-
-// Rules have a call of their own.
 #[test]
-fn rules_are_told(rt: HostRuntime) -> Result<(), Fail> {
-    let alloc = rt.alloc();
-    let resolver = resolver_by(alloc, "browser", "")?;
-    let mut tree = tree_of(alloc, packages())?;
-    let mut recorder = Recorder::new(alloc, &mut tree);
-    let rules = resolver.rules_at(alloc, &mut recorder, resolver.cwd())?;
-    let [hidden, standing] = rules.as_slice() else {
-        return Err(Fail::from("two rules"));
-    };
-    assert_eq!(rt; rule_told(alloc, hidden)?.as_str(), "/w/b.js is nothing");
-    assert_eq!(rt; rule_told(alloc, standing)?.as_str(), "x is /w/c.js");
-    Ok(())
+fn rules_have_calls_of_their_own(rt: HostRuntime) -> Result<(), Fail> {
+    rows_come(&rt, rt.alloc(), calls())
 }
 
-// And so has what they say of a specifier.
+// Rules hold where nothing is said of the target.
 #[test]
-fn a_rule_says_what_stands_for_a_specifier(rt: HostRuntime) -> Result<(), Fail> {
-    let alloc = rt.alloc();
-    let resolver = resolver_by(alloc, "browser", "")?;
-    let mut tree = tree_of(alloc, packages())?;
-    let mut recorder = Recorder::new(alloc, &mut tree);
-    let importer = CleanPath::read(alloc, resolver.cwd(), "a.js")?;
-    let ModuleRule::File(file) = resolver.module_rule(alloc, &mut recorder, &importer, "x")? else {
-        return Err(Fail::from("a file"));
-    };
-    assert_eq!(rt; file.as_str(), "/w/c.js");
-    Ok(())
+fn a_target_is_a_browser_unless_it_is_set(rt: HostRuntime) {
+    assert_eq!(rt; TargetEnv::default(), TargetEnv::Browser);
 }

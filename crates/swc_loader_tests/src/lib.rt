@@ -4,6 +4,8 @@
 #[cfg(test)]
 mod browser_maps;
 #[cfg(test)]
+mod calls;
+#[cfg(test)]
 mod example;
 #[cfg(test)]
 mod node_orders;
@@ -13,3 +15,5 @@ mod rows;
 mod searches;
 #[cfg(test)]
 mod shared_readings;
+#[cfg(test)]
+mod words;

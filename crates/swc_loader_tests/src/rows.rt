@@ -1,80 +1,132 @@
-// Rows of requests: each is a line of text, and lines that begin with `#` say what the next ones show.
+// Rows of calls: each is a line of text, and lines that begin with `#` say what the next ones show.
+use crate::calls::{tell_call, tell_text_call};
+use crate::words::tell_questions;
 use indexmap::IndexMap;
 use std::alloc::Global;
+use std::process::Abort;
 use std::test::Fail;
 use sugar_path::{Text, is_clean};
-use swc_loader::{FileName, NodeModulesResolver, NodeRefusal, Resolution, TargetEnv};
-use tree_core::{MemoryTree, ResolveError};
+use swc_loader::{NodeModulesResolver, TargetEnv};
+use tree_core::{MemoryTree, PutError, Recorder};
 
-// A request: with which settings and aliases it is asked, over which files, from which base, and its specifier.
-#[derive(Clone, Copy)]
-pub(crate) struct Row<'a> {
-    settings: &'a str,
-    aliases: &'a str,
-    pub(crate) files: &'a str,
-    pub(crate) base: &'a str,
-    pub(crate) specifier: &'a str,
+// Each row of a table comes to what it says behind ` = `.
+pub(crate) fn rows_come(rt: &impl Abort, alloc: Global, rows: &str) -> Result<(), Fail> {
+    for line in rows.lines() {
+        if !line.starts_with('#') {
+            let (given, wanted) = line.split_once(" = ").ok_or("no answer")?;
+            let told = told(alloc, given)?;
+            assert_eq!(rt; told.as_str(), wanted, "{given}");
+        }
+    }
+    Ok(())
 }
 
-// A request that is written as `SETTINGS | ALIASES | FILES | BASE SPECIFIER`.
-pub(crate) fn row_of(given: &str) -> Option<Row<'_>> {
+// A call: by a resolver of which settings and alias it is made, and over which files.
+#[derive(Clone, Copy)]
+struct Row<'a> {
+    settings: &'a str,
+    alias: &'a str,
+    files: &'a str,
+    call: &'a str,
+}
+
+// A call that is written as `SETTINGS | ALIAS | FILES | CALL`.
+fn row_of(given: &str) -> Option<Row<'_>> {
     let (settings, behind) = given.split_once(" | ")?;
-    let (aliases, behind) = behind.split_once(" | ")?;
-    let (files, request) = behind.split_once(" | ")?;
-    let (base, specifier) = request.split_once(' ')?;
+    let (alias, behind) = behind.split_once(" | ")?;
+    let (files, call) = behind.split_once(" | ")?;
     Some(Row {
         settings,
-        aliases,
+        alias,
         files,
-        base,
-        specifier,
+        call,
     })
 }
 
-// A tree with these files, apart by `;`, each with its content behind a blank.
-pub(crate) fn tree_of(alloc: Global, files: &str) -> Result<MemoryTree, Fail> {
+// What a row comes to. One that is a call alone takes a text, without a resolver and files.
+fn told(alloc: Global, given: &str) -> Result<String, Fail> {
+    let mut out = String::new(alloc);
+    match row_of(given) {
+        Some(row) => tell_row(alloc, &mut out, row)?,
+        None => tell_text_call(alloc, &mut out, given)?,
+    }
+    Ok(out)
+}
+
+fn tell_row(alloc: Global, out: &mut String, row: Row<'_>) -> Result<(), Fail> {
+    let mut tree = tree_of(alloc, files_of(row.files))?;
+    let mut resolver = resolver_of(alloc, row.settings, row.alias)?;
+    tell_over(alloc, out, &mut resolver, &mut tree, row.call)
+}
+
+// Tells what a call over a tree comes to, and its questions.
+fn tell_over(
+    alloc: Global,
+    out: &mut String,
+    resolver: &mut NodeModulesResolver,
+    tree: &mut MemoryTree,
+    call: &str,
+) -> Result<(), Fail> {
+    let mut recorder = Recorder::new(alloc, tree);
+    tell_call(alloc, out, resolver, &mut recorder, call)?;
+    Ok(tell_questions(out, recorder.trail())?)
+}
+
+// The files that a row names; `project` names those below.
+fn files_of(files: &str) -> &str {
+    if files == "project" { project() } else { files }
+}
+
+// The files of a project in `/w`, in which one has another canonical name.
+fn project() -> &'static str {
+    r#"/w/main.js;
+/w/both.js;
+/w/both/index.ts;
+/w/lib/part.ts->/real/part.ts;
+/w/lib/index.js;
+/w/lib/node_modules/near/index.tsx;
+/w/pkg/package.json {"module": "./m", "main": "./n"};
+/w/pkg/m.ts;
+/w/pkg/n.js;
+/w/bad/package.json {;
+/w/bad/index.js;
+/w/odd/package.json {"main": 1};
+/w/node_modules/q/package.json {"main": "lib"};
+/w/node_modules/q/lib/package.json {"main": "other"};
+/w/node_modules/q/lib/index.js;
+/w/node_modules/broken/package.json [];
+/node_modules/broken/index.js;
+/w/node_modules/@s/x/y.js"#
+}
+
+// A tree with these files, apart by `;`.
+fn tree_of(alloc: Global, files: &str) -> Result<MemoryTree, PutError> {
     let mut tree = MemoryTree::new(alloc);
     for file in files.split(';') {
-        let file = file.trim();
-        if !file.is_empty() {
-            let (path, content) = file.split_once(' ').unwrap_or((file, ""));
-            tree.put(path, content.as_bytes(), path)?;
-        }
+        put_file(&mut tree, file.trim())?;
     }
     Ok(tree)
 }
 
-// Aliases, apart by blanks: each a specifier and its target, with a colon between.
-fn aliases_of(alloc: Global, aliases: &str) -> Result<IndexMap<Text, Text>, Fail> {
-    let mut alias = IndexMap::new(alloc);
-    for pair in aliases.split_whitespace() {
-        let (name, target) = pair.split_once(':').ok_or("no target")?;
-        alias.insert(Text::of(alloc, name)?, Text::of(alloc, target)?)?;
+// Puts a file: its path, behind `->` its canonical name where that is another, and behind a blank its content.
+fn put_file(tree: &mut MemoryTree, file: &str) -> Result<(), PutError> {
+    if file.is_empty() {
+        return Ok(());
     }
-    Ok(alias)
+    let (names, content) = file.split_once(' ').unwrap_or((file, ""));
+    let (path, canonical) = names.split_once("->").unwrap_or((names, names));
+    tree.put(path, content.as_bytes(), canonical)
 }
 
 // A resolver in `/w`: for a browser or for Node, where links are preserved, or without `node_modules`.
-pub(crate) fn resolver_of(alloc: Global, row: &Row<'_>) -> Result<NodeModulesResolver, Fail> {
-    resolver_by(alloc, row.settings, row.aliases)
-}
-
-pub(crate) fn resolver_by(
-    alloc: Global,
-    settings: &str,
-    aliases: &str,
-) -> Result<NodeModulesResolver, Fail> {
+fn resolver_of(alloc: Global, settings: &str, alias: &str) -> Result<NodeModulesResolver, Fail> {
     let cwd = Text::of(alloc, "/w")?;
     if !is_clean(cwd.as_str()) {
         return Err(Fail::from("a clean working folder"));
     }
-    let target = if settings.starts_with("browser") {
-        TargetEnv::Browser
-    } else {
-        TargetEnv::Node
-    };
+    let alias = aliases_of(alloc, alias)?;
+    let target = target_of(settings);
     let preserve_symlinks = settings.ends_with("-links");
-    let alias = aliases_of(alloc, aliases)?;
     Ok(if settings.ends_with("-alone") {
         NodeModulesResolver::without_node_modules(cwd, target, alias, preserve_symlinks)
     } else {
@@ -82,43 +134,19 @@ pub(crate) fn resolver_by(
     })
 }
 
-// A base: `-` is a source without a name, and what begins with `<` is no path.
-pub(crate) fn base_of(alloc: Global, base: &str) -> Result<FileName, Fail> {
-    if base == "-" {
-        return Ok(FileName::Anon);
+fn target_of(settings: &str) -> TargetEnv {
+    if settings.starts_with("browser") {
+        TargetEnv::Browser
+    } else {
+        TargetEnv::Node
     }
-    let name = Text::of(alloc, base)?;
-    if base.starts_with('<') {
-        return Ok(FileName::Custom(name));
-    }
-    Ok(FileName::Real(name))
 }
 
-pub(crate) fn name_told(alloc: Global, name: &FileName) -> Result<String, Fail> {
-    Ok(match name {
-        FileName::Real(name) => String::from_str(alloc, name.as_str())?,
-        FileName::Custom(name) => format!(in alloc; "custom {}", name.as_str())?,
-        FileName::Anon => String::from_str(alloc, "anonymous")?,
-    })
-}
-
-// What a request came to, in words.
-pub(crate) fn came_to(
-    alloc: Global,
-    came: Result<Resolution, ResolveError<NodeRefusal>>,
-) -> Result<String, Fail> {
-    match came {
-        Ok(resolution) => name_told(alloc, &resolution.filename),
-        Err(ResolveError::Refused(NodeRefusal::NotFound { text })) => {
-            Ok(format!(in alloc; "nothing {}", text.as_str())?)
-        }
-        Err(ResolveError::Refused(NodeRefusal::BaseNotAFile)) => {
-            Ok(String::from_str(alloc, "no path")?)
-        }
-        Err(ResolveError::Refused(NodeRefusal::MalformedPackage { path })) => {
-            Ok(format!(in alloc; "malformed {}", path.as_str())?)
-        }
-        Err(ResolveError::TreeFault) => Err(Fail::from("a fault")),
-        Err(ResolveError::NoMemory) => Err(Fail::from("no memory")),
+// One alias or none: a specifier and its target, with a colon between.
+fn aliases_of(alloc: Global, alias: &str) -> Result<IndexMap<Text, Text>, Fail> {
+    let mut aliases = IndexMap::new(alloc);
+    if let Some((specifier, target)) = alias.split_once(':') {
+        aliases.insert(Text::of(alloc, specifier)?, Text::of(alloc, target)?)?;
     }
+    Ok(aliases)
 }

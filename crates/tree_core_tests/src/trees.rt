@@ -1,10 +1,10 @@
 // Values from outside, and that calls succeed.
-use std::alloc::Global;
+use std::alloc::{AllocError, Global};
 use std::test::Fail;
 use sugar_path::{Bytes, CleanPath, List, Text, is_clean};
 use tree_core::{
-    MemoryTree, NODE_BUILTINS, PutError, Question, ReadError, Recorder, Reply, Trail, Tree,
-    is_node_builtin,
+    FailingTree, MemoryTree, NODE_BUILTINS, PutError, Question, ReadError, Recorder, Reply, Trail,
+    Tree, is_node_builtin,
 };
 
 // Each file's bytes are its path, and its canonical name is `/real` before that.
@@ -20,72 +20,108 @@ fn sample(alloc: Global) -> Result<MemoryTree, PutError> {
     Ok(tree)
 }
 
+// A path of the sample, and what is there, on each line.
+fn kinds() -> &'static str {
+    "/ folder
+/w folder
+/w/lib folder
+/w/a.js file
+/w/lib/index.js file
+/w/a nothing
+/w/a.js/b nothing
+/w- nothing
+/x nothing
+/w/a/path/longer/than/that/of/each/file nothing"
+}
+
+// What a tree says of a path by its three flags.
+fn kind_at(tree: &mut MemoryTree, path: &str) -> Result<&'static str, ReadError> {
+    if !is_clean(path) {
+        return Ok("no clean path");
+    }
+    Ok(
+        match (tree.is_file(path)?, tree.is_dir(path)?, tree.exists(path)?) {
+            (true, false, true) => "file",
+            (false, true, true) => "folder",
+            (false, false, false) => "nothing",
+            _ => "flags that differ",
+        },
+    )
+}
+
 #[test]
 fn a_tree_tells_files_from_folders(rt: HostRuntime) -> Result<(), Fail> {
     let mut tree = sample(rt.alloc())?;
-    for (path, file, folder) in [
-        ("/", false, true),
-        ("/w", false, true),
-        ("/w/lib", false, true),
-        ("/w/a.js", true, false),
-        ("/w/lib/index.js", true, false),
-        ("/w/a", false, false),
-        ("/w/a.js/b", false, false),
-        ("/w-", false, false),
-        ("/x", false, false),
-        ("/w/a/path/longer/than/that/of/each/file", false, false),
-    ] {
-        assert!(rt; is_clean(path));
-        assert_eq!(rt; tree.is_file(path)?, file, "file {path}");
-        assert_eq!(rt; tree.is_dir(path)?, folder, "folder {path}");
-        assert_eq!(rt; tree.exists(path)?, file || folder, "either {path}");
+    for line in kinds().lines() {
+        let (path, kind) = line.split_once(' ').ok_or("no kind")?;
+        assert_eq!(rt; kind_at(&mut tree, path)?, kind, "at {path}");
     }
     assert_eq!(rt; tree.questions(), 30);
     Ok(())
 }
 
+// Whether a path of the sample is read and named as its file, or has neither bytes nor name.
+fn is_read_as(alloc: Global, path: &str, canonical: Option<&str>) -> Result<bool, Fail> {
+    let mut tree = sample(alloc)?;
+    if !is_clean(path) {
+        return Ok(false);
+    }
+    let content = tree.read(alloc, path)?;
+    let name = tree.canonical(alloc, path)?;
+    Ok(match (content, name) {
+        (Some(content), Some(name)) => {
+            content.as_slice() == path.as_bytes() && canonical == Some(name.as_str())
+        }
+        (None, None) => canonical.is_none(),
+        _ => false,
+    })
+}
+
 #[test]
 fn a_tree_reads_and_names_files(rt: HostRuntime) -> Result<(), Fail> {
-    let mut tree = sample(rt.alloc())?;
-    for (path, canonical) in [("/w/a.js", Some("/real/w/a.js")), ("/w", None)] {
-        assert!(rt; is_clean(path));
-        let content = tree.read(rt.alloc(), path)?;
-        assert_eq!(rt; content.is_some(), canonical.is_some(), "bytes of {path}");
-        if let Some(content) = content {
-            assert_eq!(rt; content.as_slice(), path.as_bytes());
-        }
-        match tree.canonical(rt.alloc(), path)? {
-            Some(name) => assert_eq!(rt; Some(name.as_str()), canonical),
-            None => assert!(rt; canonical.is_none()),
-        }
-    }
+    assert!(rt; is_read_as(rt.alloc(), "/w/a.js", Some("/real/w/a.js"))?);
+    assert!(rt; is_read_as(rt.alloc(), "/w", None)?);
     Ok(())
+}
+
+// A path and a canonical name of a file, and why it isn't put into the sample, on each line.
+fn refusals() -> &'static str {
+    "a | /a | unclean
+/ | /a | unclean
+ | /a | unclean
+/a/ | /a | unclean
+/a//b | /a | unclean
+/a/../b | /a | unclean
+/a | / | unclean
+/a | b | unclean
+/w | /w | in the way of /w/a.js
+/w/lib | /w/lib | in the way of /w/lib/index.js
+/w/a.js/b/c | /b | in the way of /w/a.js
+/w/lib/index.js/b/c/d | /b | in the way of /w/lib/index.js"
+}
+
+// Why a file isn't put, in words.
+fn refusal_told(
+    alloc: Global,
+    tree: &mut MemoryTree,
+    path: &str,
+    canonical: &str,
+) -> Result<String, AllocError> {
+    match tree.put(path, b"", canonical) {
+        Err(PutError::Unclean) => String::from_str(alloc, "unclean"),
+        Err(PutError::Conflict { other }) => format!(in alloc; "in the way of {other}"),
+        _ => String::from_str(alloc, "put"),
+    }
 }
 
 #[test]
 fn a_file_is_refused(rt: HostRuntime) -> Result<(), Fail> {
     let mut tree = sample(rt.alloc())?;
-    for (path, canonical, other) in [
-        ("a", "/a", None),
-        ("/", "/a", None),
-        ("", "/a", None),
-        ("/a/", "/a", None),
-        ("/a//b", "/a", None),
-        ("/a/../b", "/a", None),
-        ("/a", "/", None),
-        ("/a", "b", None),
-        ("/w", "/w", Some("/w/a.js")),
-        ("/w/lib", "/w/lib", Some("/w/lib/index.js")),
-        ("/w/a.js/b/c", "/b", Some("/w/a.js")),
-        ("/w/lib/index.js/b/c/d", "/b", Some("/w/lib/index.js")),
-    ] {
-        match tree.put(path, b"", canonical) {
-            Err(PutError::Unclean) => assert!(rt; other.is_none(), "{path}"),
-            Err(PutError::Conflict { other: told }) => {
-                assert_eq!(rt; Some(told.as_str()), other, "{path}");
-            }
-            _ => assert!(rt; false, "{path} is put"),
-        }
+    for line in refusals().lines() {
+        let (path, behind) = line.split_once(" | ").ok_or("no canonical name")?;
+        let (canonical, wanted) = behind.split_once(" | ").ok_or("no refusal")?;
+        let told = refusal_told(rt.alloc(), &mut tree, path, canonical)?;
+        assert_eq!(rt; told.as_str(), wanted, "{line}");
     }
     assert!(rt; tree.put("/w/b", b"b", "/w/b").is_ok());
     Ok(())
@@ -130,31 +166,37 @@ fn a_repeated_question_is_put_once(rt: HostRuntime) -> Result<(), Fail> {
     Ok(())
 }
 
+// The question of a number about a file of the sample, and whether the tree refused it.
+fn is_refused(alloc: Global, tree: &mut FailingTree, number: u64) -> bool {
+    let path = "/w/a.js";
+    if !is_clean(path) {
+        return false;
+    }
+    let refused = match number {
+        1 => tree.is_file(path).err(),
+        2 => tree.is_dir(path).err(),
+        3 => tree.exists(path).err(),
+        4 => tree.read(alloc, path).err(),
+        _ => tree.canonical(alloc, path).err(),
+    };
+    refused == Some(ReadError::Fault)
+}
+
+// A sample that fails at one question.
+fn failing_at(alloc: Global, number: u64) -> Result<FailingTree, Fail> {
+    let calls = List::from(vec![in alloc; number]?);
+    Ok(sample(alloc)?.fail_at(calls))
+}
+
 #[test]
 fn a_tree_fails_at_each_question(rt: HostRuntime) -> Result<(), Fail> {
-    let path = "/w/a.js";
-    assert!(rt; is_clean(path));
     for failing in 1..6 {
-        let mut calls = List::new(rt.alloc());
-        assert!(rt; calls.push(failing).is_ok());
-        let mut tree = sample(rt.alloc())?.fail_at(calls);
+        let mut tree = failing_at(rt.alloc(), failing)?;
         for number in 1..6 {
-            let refused = match number {
-                1 => tree.is_file(path).err(),
-                2 => tree.is_dir(path).err(),
-                3 => tree.exists(path).err(),
-                4 => tree.read(rt.alloc(), path).err(),
-                _ => tree.canonical(rt.alloc(), path).err(),
-            };
-            let wanted = if number == failing {
-                Some(ReadError::Fault)
-            } else {
-                None
-            };
-            assert_eq!(rt; refused, wanted, "question {number}");
+            let refused = is_refused(rt.alloc(), &mut tree, number);
+            assert_eq!(rt; refused, number == failing, "question {number}");
         }
-        assert_eq!(rt; tree.faults(), 1);
-        assert_eq!(rt; tree.questions(), 5);
+        assert_eq!(rt; (tree.faults(), tree.questions()), (1, 5));
     }
     Ok(())
 }
@@ -222,16 +264,10 @@ fn a_shared_file_is_read_and_its_trail_copied(rt: HostRuntime) -> Result<(), Fai
 #[test]
 fn names_of_modules(rt: HostRuntime) {
     assert_eq!(rt; NODE_BUILTINS.len(), 66);
-    for (name, known) in [
-        ("fs", true),
-        ("fs/promises", true),
-        ("_tls_wrap", true),
-        ("zlib", true),
-        ("node:fs", false),
-        ("fs/", false),
-        ("test", false),
-        ("", false),
-    ] {
-        assert_eq!(rt; is_node_builtin(name), known, "{name}");
+    for name in "fs fs/promises _tls_wrap zlib".split(' ') {
+        assert!(rt; is_node_builtin(name), "{name}");
+    }
+    for name in "node:fs fs/ test  fs2".split(' ') {
+        assert!(rt; !is_node_builtin(name), "{name}");
     }
 }
