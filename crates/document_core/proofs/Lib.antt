@@ -1,4 +1,3 @@
 pub mod Causes
 pub mod Documents
 pub mod Items
-pub mod OutcomesOnTrees

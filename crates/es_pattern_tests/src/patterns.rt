@@ -455,30 +455,57 @@ fn nested(alloc: Global, open: &str, close: &str, times: u32) -> Result<String, 
     Ok(text)
 }
 
-// Patterns that are found nowhere in `a` alone, and take their time where walks are tried one
-// after another.
-#[test]
-fn hostile_patterns_take_pattern_times_text(rt: HostRuntime) -> Result<(), Fail> {
-    let alloc = rt.alloc();
+// Whether a pattern is found in 20,000 times `a`. Each of the following isn't, and takes its time where walks are tried one after
+// another.
+fn is_found_in_a_row(alloc: Global, pattern: &str) -> Result<bool, Fail> {
     let text = repeated(alloc, "a", 20_000)?;
+    Ok(Pattern::parse(alloc, pattern)?.is_found(alloc, text.as_str())?)
+}
+
+#[test]
+fn alternatives_take_pattern_times_text(rt: HostRuntime) -> Result<(), Fail> {
+    let alloc = rt.alloc();
+    assert!(rt; !is_found_in_a_row(alloc, "(a|a)*b")?);
     let alternatives = repeated(alloc, "b|", 16_000)?;
+    assert!(rt; !is_found_in_a_row(alloc, format!(in alloc; "{alternatives}b")?.as_str())?);
+    Ok(())
+}
+
+#[test]
+fn lookaheads_take_pattern_times_text(rt: HostRuntime) -> Result<(), Fail> {
+    let alloc = rt.alloc();
+    assert!(rt; !is_found_in_a_row(alloc, "(?!b)c")?);
+    for open in ["(?=", "(?!"] {
+        let lookaheads = nested(alloc, open, ")", 200)?;
+        assert!(rt; !is_found_in_a_row(alloc, format!(in alloc; "{lookaheads}b")?.as_str())?);
+    }
+    Ok(())
+}
+
+#[test]
+fn nested_repetitions_take_pattern_times_text(rt: HostRuntime) -> Result<(), Fail> {
+    let alloc = rt.alloc();
+    let repetitions = nested(alloc, "(?:", ")+", 199)?;
+    assert!(rt; !is_found_in_a_row(alloc, format!(in alloc; "{repetitions}b")?.as_str())?);
+    Ok(())
+}
+
+#[test]
+fn nested_bounds_take_pattern_times_text(rt: HostRuntime) -> Result<(), Fail> {
+    let alloc = rt.alloc();
+    for (close, times) in [("){1,}", 199), ("){2,}", 9)] {
+        let bounds = nested(alloc, "(?:", close, times)?;
+        assert!(rt; !is_found_in_a_row(alloc, format!(in alloc; "{bounds}b")?.as_str())?);
+    }
+    Ok(())
+}
+
+#[test]
+fn optional_parts_take_pattern_times_text(rt: HostRuntime) -> Result<(), Fail> {
+    let alloc = rt.alloc();
     let maybes = repeated(alloc, "a?", 500)?;
     let many = repeated(alloc, "a", 500)?;
-    let patterns = [
-        format!(in alloc; "(?!b)c")?,
-        format!(in alloc; "(a|a)*b")?,
-        format!(in alloc; "{}b", nested(alloc, "(?=", ")", 200)?)?,
-        format!(in alloc; "{}b", nested(alloc, "(?!", ")", 200)?)?,
-        format!(in alloc; "{}b", nested(alloc, "(?:", ")+", 199)?)?,
-        format!(in alloc; "{}b", nested(alloc, "(?:", "){1,}", 199)?)?,
-        format!(in alloc; "{}b", nested(alloc, "(?:", "){2,}", 9)?)?,
-        format!(in alloc; "{alternatives}b")?,
-        format!(in alloc; "{maybes}{many}b")?,
-    ];
-    for pattern in &patterns {
-        let parsed = Pattern::parse(alloc, pattern.as_str())?;
-        assert!(rt; !parsed.is_found(alloc, text.as_str())?);
-    }
+    assert!(rt; !is_found_in_a_row(alloc, format!(in alloc; "{maybes}{many}b")?.as_str())?);
     Ok(())
 }
 

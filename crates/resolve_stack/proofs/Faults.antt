@@ -76,3 +76,8 @@ ends_starved {A = A} {old = old} {new = new} {plan = plan} {now = now} r empty a
         };
       };
 }
+
+-- the top call's error is the one that was raised
+pub raised_same : {A : Type 0} (e : ImportError) (R : Result A ImportError) → IsErrAnd R (λ x. x ≡ e) → R ≡ Err e
+raised_same e (Ok _) from = elim from [ ]
+raised_same e (Err x) from = ap Err from

@@ -8,3 +8,4 @@ pub mod AlikePlans
 pub mod KnownOrders
 pub mod ManifestRows
 pub mod KnownFiles
+pub mod Outcomes

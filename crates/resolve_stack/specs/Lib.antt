@@ -7,5 +7,7 @@ pub mod Verdict
 pub mod OnTree
 pub mod Through
 pub mod ImportFault
+pub mod Decides
+pub mod Outcomes
 pub mod ResolverView
 pub mod Known

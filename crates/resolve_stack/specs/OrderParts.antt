@@ -22,19 +22,14 @@ folder_rows project bound folder subpath = do
   file ← decided (contained folder found.0)
   refuses_by (answered_through project (via_of bound folder) file found.1)
 
--- behind the binding: its checks, and the search at the location of the row
-abbrev pub package_rows : ProjectSettings → Contents → PackageLocator → List ℕ → PackageLocator → Option (List ℕ) → Row Resolution Resolution JoinRefusal
-package_rows project manifest owner name locator subpath = do
-  location ← refuses_by (checked_row project manifest owner name locator)
-  folder ← decided (folder_of location)
-  folder_rows project locator folder subpath
-
--- behind a bare target: its binding by the owner's row
+-- behind a bare target: its binding by the owner's row, the checks of that, and the search at the location of the row
 abbrev pub bare_rows : ProjectSettings → Contents → PackageLocator → Path → List ℕ → Row Resolution Resolution JoinRefusal
 bare_rows project manifest owner importer target = do
   identifier ← decided (identifier_of target)
   locator ← decided (bound_of manifest owner importer target identifier.0)
-  package_rows project manifest owner identifier.0 locator identifier.1
+  location ← refuses_by (checked_row project manifest owner identifier.0 locator)
+  folder ← decided (folder_of location)
+  folder_rows project locator folder identifier.1
 
 -- behind the owner: what is known before a search, and then the target
 abbrev pub owned_rows : ProjectSettings → Request → List ℕ → Contents → PackageLocator → Row Resolution Resolution JoinRefusal

@@ -1,17 +1,14 @@
 // The top call: the verdict of a request over any tree, with the trail that decides it.
-ghost use Rattle.std.specs.Prelude.{◌≡◌, IsTrue, IfOk, IsErrOf, length};
-ghost use Rattle.tree_core.specs.Tree.{Files, Agrees, HasCause, put_times};
-ghost use Rattle.tree_core.specs.Asks.{Asks, Settles, AgreeWith, seen};
+ghost use Rattle.std.specs.Prelude.{◌≡◌};
+ghost use Rattle.tree_core.specs.Asks.{Asks, seen};
 ghost use Rattle.tree_core.specs.RecorderView.{asking_of};
 ghost use Rattle.tree_core.specs.Resolving.{Resolves, resolving};
 ghost use Rattle.resolve_stack.specs.Known.{AreRight, project_order_by, verdict_by};
 ghost use Rattle.resolve_stack.specs.Verdict.{verdict};
 ghost use Rattle.resolve_stack.specs.OrderParts.{raised_result};
-ghost use Rattle.resolve_stack.specs.Through.{IsFound};
+ghost use Rattle.resolve_stack.specs.Decides.{Decides};
 ghost use Rattle.resolve_stack.specs.Request.{asked_for, request_of};
-ghost use Rattle.resolve_stack.specs.ImportFault.{as_read, EndsInFault, EndsStarved};
 ghost use Rattle.resolver_core.specs.declared.refusal.TsRefusal.TheVariants.{Inner};
-ghost use Rattle.resolve_stack.specs.declared.import.ImportError.TheVariants.{TreeFault, NoMemory};
 
 use crate::join::join;
 use crate::kept::KeptManifest;
@@ -57,28 +54,8 @@ pub fn resolve_import<T: Tree>(
     importer: &FileName,
     specifier: &str,
 ) -> Result<Outcome, ImportError>
-    // The verdict and the trail are those of the order on each tree that agrees with the trail.
-    ensures settled { IfOk result (λ o. Settles o.verdict o.trail
-        (verdict project.now (asked_for importer.now specifier.now))) }
-    // Each tree that the object stands for agrees with the trail.
-    ensures agree { IfOk result (λ o. AgreeWith (T.state tree.old).stands_for o.trail) }
-    // A file found through a row lies below the location of the row that binds the name asked for, or that of its alias.
-    ensures found { IfOk result (λ o. (t : Files) → Agrees t o.trail →
-        IsFound t project.now (asked_for importer.now specifier.now) o.verdict) }
-    ensures stands { (T.state tree.new).stands_for ≡ (T.state tree.old).stands_for }
-    ensures cause { HasCause (T.state tree.old).faults (T.state tree.new).faults (as_read result) }
-    // The tree was asked once for each question of the trail.
-    ensures put { IfOk result (λ o. (T.state tree.new).questions ≡
-        put_times (length o.trail) (T.state tree.old).questions) }
-    // A fault refused one of the order's questions: the tree was asked once for each question before it and once for that one,
-    // and where the tree tells a question, it is that one.
-    ensures fails { IsErrOf result TreeFault → EndsInFault (T.state tree.old).stands_for
-        (T.state tree.old).questions (T.state tree.new).questions (T.state tree.new).told
-        (verdict project.now (asked_for importer.now specifier.now)) }
-    // Where memory was wanting, the tree was asked as often as there are different questions before, or once more.
-    ensures starves { IsErrOf result NoMemory → EndsStarved (T.state tree.old).stands_for
-        (T.state tree.old).questions (T.state tree.new).questions
-        (verdict project.now (asked_for importer.now specifier.now)) }
+    ensures { Decides project.now (asked_for importer.now specifier.now)
+        (T.state tree.old) (T.state tree.new) result }
 {
     Resolver::new(alloc, project).resolve_import(alloc, tree, importer, specifier)
 }
@@ -92,28 +69,8 @@ pub fn resolve_import_with<T: Tree>(
     importer: &FileName,
     specifier: &str,
 ) -> Result<Outcome, ImportError>
-    // The verdict and the trail are those of the order on each tree that agrees with the trail.
-    ensures settled { IfOk result (λ o. Settles o.verdict o.trail
-        (verdict project.now (asked_for importer.now specifier.now))) }
-    // Each tree that the object stands for agrees with the trail.
-    ensures agree { IfOk result (λ o. AgreeWith (T.state tree.old).stands_for o.trail) }
-    // A file found through a row lies below the location of the row that binds the name asked for, or that of its alias.
-    ensures found { IfOk result (λ o. (t : Files) → Agrees t o.trail →
-        IsFound t project.now (asked_for importer.now specifier.now) o.verdict) }
-    ensures stands { (T.state tree.new).stands_for ≡ (T.state tree.old).stands_for }
-    ensures cause { HasCause (T.state tree.old).faults (T.state tree.new).faults (as_read result) }
-    // The tree was asked once for each question of the trail.
-    ensures put { IfOk result (λ o. (T.state tree.new).questions ≡
-        put_times (length o.trail) (T.state tree.old).questions) }
-    // A fault refused one of the order's questions: the tree was asked once for each question before it and once for that one,
-    // and where the tree tells a question, it is that one.
-    ensures fails { IsErrOf result TreeFault → EndsInFault (T.state tree.old).stands_for
-        (T.state tree.old).questions (T.state tree.new).questions (T.state tree.new).told
-        (verdict project.now (asked_for importer.now specifier.now)) }
-    // Where memory was wanting, the tree was asked as often as there are different questions before, or once more.
-    ensures starves { IsErrOf result NoMemory → EndsStarved (T.state tree.old).stands_for
-        (T.state tree.old).questions (T.state tree.new).questions
-        (verdict project.now (asked_for importer.now specifier.now)) }
+    ensures { Decides project.now (asked_for importer.now specifier.now)
+        (T.state tree.old) (T.state tree.new) result }
 {
     let nothing = Vec::new(alloc);
     let request = Request {
@@ -133,28 +90,8 @@ pub(crate) fn import_by<T: Tree>(
     request: &Request<'_>,
 ) -> Result<Outcome, ImportError>
     requires { AreRight (T.state tree.old).stands_for known.now }
-    // The verdict and the trail are those of the order on each tree that agrees with the trail.
-    ensures settled { IfOk result (λ o. Settles o.verdict o.trail
-        (verdict project.now (request_of request.now))) }
-    // Each tree that the object stands for agrees with the trail.
-    ensures agree { IfOk result (λ o. AgreeWith (T.state tree.old).stands_for o.trail) }
-    // A file found through a row lies below the location of the row that binds the name asked for, or that of its alias.
-    ensures found { IfOk result (λ o. (t : Files) → Agrees t o.trail →
-        IsFound t project.now (request_of request.now) o.verdict) }
-    ensures stands { (T.state tree.new).stands_for ≡ (T.state tree.old).stands_for }
-    ensures cause { HasCause (T.state tree.old).faults (T.state tree.new).faults (as_read result) }
-    // The tree was asked once for each question of the trail.
-    ensures put { IfOk result (λ o. (T.state tree.new).questions ≡
-        put_times (length o.trail) (T.state tree.old).questions) }
-    // A fault refused one of the order's questions: the tree was asked once for each question before it and once for that one,
-    // and where the tree tells a question, it is that one.
-    ensures fails { IsErrOf result TreeFault → EndsInFault (T.state tree.old).stands_for
-        (T.state tree.old).questions (T.state tree.new).questions (T.state tree.new).told
-        (verdict project.now (request_of request.now)) }
-    // Where memory was wanting, the tree was asked as often as there are different questions before, or once more.
-    ensures starves { IsErrOf result NoMemory → EndsStarved (T.state tree.old).stands_for
-        (T.state tree.old).questions (T.state tree.new).questions
-        (verdict project.now (request_of request.now)) }
+    ensures { Decides project.now (request_of request.now)
+        (T.state tree.old) (T.state tree.new) result }
 {
     let mut recorder = Recorder::new(alloc, tree);
     let decided = decide_with(alloc, &mut recorder, project, known, kept, request);

@@ -3,21 +3,20 @@
 ghost use Rattle.std.specs.Prelude.{◌≡◌};
 ghost use Rattle.tree_core.specs.Resolving.{Resolves};
 ghost use Rattle.tree_core.specs.Rows.{order};
-ghost use Rattle.pnp_core.specs.Owner.{IsReady};
 ghost use Rattle.resolve_stack.specs.Settings.{path_of};
 ghost use Rattle.resolve_stack.specs.Request.{request_of};
 ghost use Rattle.resolve_stack.specs.Known.{join_by};
-ghost use Rattle.resolve_stack.specs.OrderParts.{manifest_rows, owned_rows, bare_rows, package_rows, folder_rows};
+ghost use Rattle.resolve_stack.specs.OrderParts.{owned_rows, bare_rows, folder_rows};
 ghost use Rattle.resolve_stack.specs.Rows.{node_rows_of};
 
 use crate::join_rows::{
-    bare_base, bound_of, checked_row, contained, folder_of, found_at, identifier_of, raised,
-    read_manifest,
+    Asking, bare_base, bound_of, checked_row, contained, folder_of, found_at, identifier_of,
+    raised, read_manifest,
 };
 use crate::kept::KeptManifest;
 use crate::request::Request;
 use crate::{JoinRefusal, KeptReadings, Project};
-use pnp_core::{Manifest, PackageLocator, closest_manifest, find_locator};
+use pnp_core::{PackageLocator, closest_manifest, find_locator};
 use std::alloc::Global;
 use sugar_path::{CleanPath, Text};
 use swc_loader::{Before, Placed, Readings, Resolution, Via, is_bare};
@@ -47,9 +46,16 @@ pub(crate) fn join<R: Asker>(
         return by_node_rows(alloc, tree, packages, project, request);
     };
     let manifest = read_manifest(alloc, tree, known, manifests, file)?;
-    join_by_manifest(
-        alloc, tree, packages, project, request, base, manifest, &importer,
-    )
+    let Some(owner) = find_locator(alloc, manifest, importer.as_str())? else {
+        return by_node_rows(alloc, tree, packages, project, request);
+    };
+    let asking = Asking {
+        base,
+        importer: &importer,
+        manifest,
+        owner,
+    };
+    join_owned(alloc, tree, packages, project, request, &asking)
 }
 
 // The node rows of the whole request.
@@ -68,30 +74,6 @@ fn by_node_rows<R: Asker>(
     raised(found)
 }
 
-// The rows behind the reading of the manifest.
-fn join_by_manifest<R: Asker>(
-    alloc: Global,
-    tree: &mut R,
-    readings: &mut Readings,
-    project: &Project<'_>,
-    request: &Request<'_>,
-    base: &str,
-    manifest: &Manifest,
-    importer: &CleanPath,
-) -> Result<Resolution, ResolveError<JoinRefusal>>
-    requires importer { importer.now ≡ path_of project.now base.now }
-    requires ready { IsReady manifest.now }
-    ensures { Resolves (R.asking tree.old) (R.asking tree.new) result
-        (order (manifest_rows project.now (request_of request.now) base.now manifest.now)) }
-{
-    match find_locator(alloc, manifest, importer.as_str())? {
-        Some(owner) => join_owned(
-            alloc, tree, readings, project, request, base, manifest, owner, importer,
-        ),
-        None => by_node_rows(alloc, tree, readings, project, request),
-    }
-}
-
 // The rows behind the owner of the importer.
 fn join_owned<R: Asker>(
     alloc: Global,
@@ -99,35 +81,25 @@ fn join_owned<R: Asker>(
     readings: &mut Readings,
     project: &Project<'_>,
     request: &Request<'_>,
-    base: &str,
-    manifest: &Manifest,
-    owner: &PackageLocator,
-    importer: &CleanPath,
+    asking: &Asking<'_>,
 ) -> Result<Resolution, ResolveError<JoinRefusal>>
-    requires { importer.now ≡ path_of project.now base.now }
+    requires { asking.now.importer.now ≡ path_of project.now asking.now.base.now }
     ensures { Resolves (R.asking tree.old) (R.asking tree.new) result
-        (order (owned_rows project.now (request_of request.now) base.now manifest.now owner.now)) }
+        (order (owned_rows project.now (request_of request.now) asking.now.base.now
+        asking.now.manifest.now asking.now.owner.now)) }
 {
     let node = project.node();
+    let importer = asking.importer;
     let before = node.before_search_with(alloc, tree, readings, importer, request.specifier)?;
     let target = match before {
         Before::Decided(resolution) => return Ok(resolution),
         Before::Target(target) => target,
     };
     if !is_bare(target.as_str()) {
-        let found = node.search_with(alloc, tree, readings, base, target.as_str());
+        let found = node.search_with(alloc, tree, readings, asking.base, target.as_str());
         return raised(found);
     }
-    join_bare(
-        alloc,
-        tree,
-        readings,
-        project,
-        manifest,
-        owner,
-        importer,
-        target.as_str(),
-    )
+    join_bare(alloc, tree, readings, project, asking, target.as_str())
 }
 
 // The rows behind a bare target.
@@ -136,39 +108,18 @@ fn join_bare<R: Asker>(
     tree: &mut R,
     readings: &mut Readings,
     project: &Project<'_>,
-    manifest: &Manifest,
-    owner: &PackageLocator,
-    importer: &CleanPath,
+    asking: &Asking<'_>,
     target: &str,
 ) -> Result<Resolution, ResolveError<JoinRefusal>>
     ensures { Resolves (R.asking tree.old) (R.asking tree.new) result
-        (order (bare_rows project.now manifest.now owner.now importer.now target.now)) }
+        (order (bare_rows project.now asking.now.manifest.now asking.now.owner.now
+        asking.now.importer.now target.now)) }
 {
     let (name, subpath) = identifier_of(alloc, target)?;
-    let locator = bound_of(alloc, manifest, owner, importer, target, &name)?;
-    join_in_package(
-        alloc, tree, readings, project, manifest, owner, &name, locator, &subpath,
-    )
-}
-
-// The rows behind the binding of the name.
-fn join_in_package<R: Asker>(
-    alloc: Global,
-    tree: &mut R,
-    readings: &mut Readings,
-    project: &Project<'_>,
-    manifest: &Manifest,
-    owner: &PackageLocator,
-    name: &Text,
-    locator: PackageLocator,
-    subpath: &Option<Text>,
-) -> Result<Resolution, ResolveError<JoinRefusal>>
-    ensures { Resolves (R.asking tree.old) (R.asking tree.new) result
-        (order (package_rows project.now manifest.now owner.now name.now locator subpath.now)) }
-{
-    let location = checked_row(alloc, tree, project, manifest, owner, name, &locator)?;
+    let locator = bound_of(alloc, asking, target, &name)?;
+    let location = checked_row(alloc, tree, project, asking, &name, &locator)?;
     let folder = folder_of(alloc, location)?;
-    join_in_folder(alloc, tree, readings, project, locator, &folder, subpath)
+    join_in_folder(alloc, tree, readings, project, locator, &folder, &subpath)
 }
 
 // The rows behind the location of the package.

@@ -23,6 +23,16 @@ use sugar_path::{CleanPath, Text};
 use swc_loader::{FileName, NodeRefusal, Placed, Readings, is_bare};
 use tree_core::{Asker, ResolveError};
 
+// A file that asks for a bare specifier: its path as it was written, its clean path, the manifest nearest to it, and the package
+// that owns it there.
+#[derive(Clone, Copy)]
+pub(crate) struct Asking<'a> {
+    pub base: &'a str,
+    pub importer: &'a CleanPath,
+    pub manifest: &'a Manifest,
+    pub owner: &'a PackageLocator,
+}
+
 // The path that a bare specifier is asked from, as it was written.
 pub(crate) fn bare_base<'a>(request: &Request<'a>) -> Option<&'a str>
     ensures { option_copied result ≡ rows.bare_base (request_of request.now) }
@@ -102,15 +112,19 @@ pub(crate) fn identifier_of(
 // The package that a name is bound to, by the owner's row or by a fallback.
 pub(crate) fn bound_of(
     alloc: Global,
-    manifest: &Manifest,
-    owner: &PackageLocator,
-    importer: &CleanPath,
+    asking: &Asking<'_>,
     target: &str,
     name: &Text,
 ) -> Result<PackageLocator, ResolveError<JoinRefusal>>
-    ensures { IsDecided result
-        (rows.bound_of manifest.now owner.now importer.now target.now name.now) }
+    ensures { IsDecided result (rows.bound_of asking.now.manifest.now asking.now.owner.now
+        asking.now.importer.now target.now name.now) }
 {
+    let Asking {
+        importer,
+        manifest,
+        owner,
+        ..
+    } = *asking;
     let issuer = importer.as_str();
     match binding_of_name(alloc, manifest, owner, name)? {
         Binding::Bound(locator) => Ok(locator),
@@ -130,15 +144,19 @@ pub(crate) fn checked_row<'m, R: Asker>(
     alloc: Global,
     tree: &mut R,
     project: &Project<'_>,
-    manifest: &'m Manifest,
-    owner: &PackageLocator,
+    asking: &Asking<'m>,
     name: &Text,
     bound: &PackageLocator,
 ) -> Result<&'m str, ResolveError<JoinRefusal>>
     ensures { Resolves (R.asking tree.old) (R.asking tree.new) (lent result)
-        (rows.checked_row project.now manifest.now owner.now name.now bound.now) }
+        (rows.checked_row project.now asking.now.manifest.now asking.now.owner.now name.now bound.now) }
 {
     let lock = project.lock();
+    let Asking {
+        manifest,
+        owner,
+        ..
+    } = *asking;
     match checked_location(alloc, tree, lock, manifest, owner, name.as_str(), bound) {
         Ok(location) => Ok(location),
         Err(ResolveError::Refused(fault)) => Err(refused_binding(alloc, bound, fault)),

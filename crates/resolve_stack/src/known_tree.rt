@@ -1,17 +1,15 @@
 // A tree in memory whose manifests are known.
-ghost use Rattle.std.specs.Prelude.{◌≡◌, ◌≢◌, None, Some, OnOk, OnErr, IfOk, IfErr, IsErrOf, length, bytes_eq};
+ghost use Rattle.std.specs.Prelude.{◌≡◌, ◌≢◌, None, Some, OnOk, OnErr, IfOk, IfErr, bytes_eq};
 ghost use Rattle.std.specs.FinMap as map;
 ghost use Rattle.std.specs.List.{list_any};
 ghost use Rattle.sugar_path.specs.Path.{text_of};
 ghost use Rattle.tree_core.specs.Memory.{memory_state, refusal, with_file};
-ghost use Rattle.tree_core.specs.Tree.{Files, Agrees, is_file, put_times};
-ghost use Rattle.tree_core.specs.Asks.{Settles, AgreeWith};
+ghost use Rattle.tree_core.specs.Tree.{Files, Agrees, is_file};
 ghost use Rattle.tree_core.specs.declared.memory.PutError.TheVariants as put_error;
 ghost use Rattle.resolve_stack.specs.Known.{IsSameBeside, AreKnownOn};
-ghost use Rattle.resolve_stack.specs.Verdict.{verdict};
-ghost use Rattle.resolve_stack.specs.Through.{IsFound};
+ghost use Rattle.resolve_stack.specs.Decides.{Decides};
+ghost use Rattle.resolve_stack.specs.Outcomes.{request_outcome};
 ghost use Rattle.resolve_stack.specs.Request.{asked_for};
-ghost use Rattle.resolve_stack.specs.ImportFault.{EndsStarved};
 ghost use Rattle.resolve_stack.specs.declared.import.ImportError.TheVariants.{NoMemory};
 
 use crate::import::import_by;
@@ -106,23 +104,13 @@ impl KnownTree {
         importer: &FileName,
         specifier: &str,
     ) -> Result<Outcome, ImportError>
-        // The verdict and the trail are those of the order on each tree that agrees with the trail.
-        ensures settled { IfOk result (λ o. Settles o.verdict o.trail
-            (verdict project.now (asked_for importer.now specifier.now))) }
-        // The tree itself agrees with the trail.
-        ensures agree { IfOk result (λ o. AgreeWith (memory_state self.old).stands_for o.trail) }
-        // A file found through a row lies below the location of the row that binds the name asked for, or that of its alias.
-        ensures found { IfOk result (λ o. (t : Files) → Agrees t o.trail →
-            IsFound t project.now (asked_for importer.now specifier.now) o.verdict) }
+        ensures decides { Decides project.now (asked_for importer.now specifier.now)
+            (memory_state self.old) (memory_state self.new) result }
+        // The outcome is the one on the tree's own files.
+        ensures outcome { IfOk result (λ o. o ≡ request_outcome self.old.files project.now
+            (asked_for importer.now specifier.now)) }
         ensures files { self.new.files ≡ self.old.files }
-        // The tree was asked once for each question of the trail.
-        ensures put { IfOk result (λ o.
-            self.new.questions ≡ put_times (length o.trail) self.old.questions) }
         ensures memory { IfErr result (λ e. e ≡ NoMemory) }
-        // Where memory was wanting, the tree was asked as often as there are different questions before, or once more.
-        ensures starves { IsErrOf result NoMemory → EndsStarved (memory_state self.old).stands_for
-            self.old.questions self.new.questions
-            (verdict project.now (asked_for importer.now specifier.now)) }
     {
         let request = Request {
             importer,

@@ -1,5 +1,5 @@
 // The join as a resolver, and where manifests are known.
-ghost use Rattle.std.specs.Prelude.{◌≡◌, IsOkAnd};
+ghost use Rattle.std.specs.Prelude.{◌≡◌};
 ghost use Rattle.tree_core.specs.Resolving.{Resolves};
 ghost use Rattle.tree_core.specs.RecorderView.{asking_of};
 ghost use Rattle.resolver_core.specs.Resolving.{IsRefused};
@@ -13,7 +13,7 @@ use crate::kept::KeptManifest;
 use crate::request::Request;
 use crate::{JoinRefusal, KeptReadings, Project};
 use resolver_core::Resolve;
-use std::alloc::{AllocError, Global};
+use std::alloc::Global;
 use swc_loader::{FileName, Resolution};
 use tree_core::{Recorder, ResolveError, Tree};
 
@@ -26,11 +26,11 @@ pub struct PnpResolver<'p, 'l> {
 
 impl<'p, 'l> PnpResolver<'p, 'l> {
     /// The join of this project. It takes no memory.
-    pub fn of(alloc: Global, project: &'p Project<'l>) -> Result<PnpResolver<'p, 'l>, AllocError>
-        ensures { IsOkAnd result (λ r. joined_project r ≡ project.now) }
+    pub fn of(alloc: Global, project: &'p Project<'l>) -> PnpResolver<'p, 'l>
+        ensures { joined_project result ≡ project.now }
     {
         let kept = KeptReadings::new(alloc);
-        Ok(PnpResolver { project, kept })
+        PnpResolver { project, kept }
     }
 }
 

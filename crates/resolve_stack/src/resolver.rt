@@ -1,12 +1,7 @@
 // A resolver of a project that keeps what it has read.
-ghost use Rattle.std.specs.Prelude.{◌≡◌, IsTrue, IfOk, IsErrOf, length};
-ghost use Rattle.tree_core.specs.Tree.{Files, Agrees, HasCause, put_times};
-ghost use Rattle.tree_core.specs.Asks.{Settles, AgreeWith};
-ghost use Rattle.resolve_stack.specs.Verdict.{verdict};
-ghost use Rattle.resolve_stack.specs.Through.{IsFound};
+ghost use Rattle.std.specs.Prelude.{◌≡◌};
+ghost use Rattle.resolve_stack.specs.Decides.{Decides};
 ghost use Rattle.resolve_stack.specs.Request.{asked_for};
-ghost use Rattle.resolve_stack.specs.ImportFault.{as_read, EndsInFault, EndsStarved};
-ghost use Rattle.resolve_stack.specs.declared.import.ImportError.TheVariants.{TreeFault, NoMemory};
 
 use crate::{FileName, ImportError, KeptReadings, Outcome, Project, resolve_import_with};
 use std::alloc::Global;
@@ -49,28 +44,8 @@ impl<'p, 'l> Resolver<'p, 'l> {
         importer: &FileName,
         specifier: &str,
     ) -> Result<Outcome, ImportError>
-        // The verdict and the trail are those of the order on each tree that agrees with the trail.
-        ensures settled { IfOk result (λ o. Settles o.verdict o.trail
-            (verdict self.old (asked_for importer.now specifier.now))) }
-        // Each tree that the object stands for agrees with the trail.
-        ensures agree { IfOk result (λ o. AgreeWith (T.state tree.old).stands_for o.trail) }
-        // A file found through a row lies below the location of the row that binds the name asked for, or that of its alias.
-        ensures found { IfOk result (λ o. (t : Files) → Agrees t o.trail →
-            IsFound t self.old (asked_for importer.now specifier.now) o.verdict) }
-        ensures stands { (T.state tree.new).stands_for ≡ (T.state tree.old).stands_for }
-        ensures cause { HasCause (T.state tree.old).faults (T.state tree.new).faults (as_read result) }
-        // The tree was asked once for each question of the trail.
-        ensures put { IfOk result (λ o. (T.state tree.new).questions ≡
-            put_times (length o.trail) (T.state tree.old).questions) }
-        // A fault refused one of the order's questions: the tree was asked once for each question before it and once for that one,
-        // and where the tree tells a question, it is that one.
-        ensures fails { IsErrOf result TreeFault → EndsInFault (T.state tree.old).stands_for
-            (T.state tree.old).questions (T.state tree.new).questions (T.state tree.new).told
-            (verdict self.old (asked_for importer.now specifier.now)) }
-        // Where memory was wanting, the tree was asked as often as there are different questions before, or once more.
-        ensures starves { IsErrOf result NoMemory → EndsStarved (T.state tree.old).stands_for
-            (T.state tree.old).questions (T.state tree.new).questions
-            (verdict self.old (asked_for importer.now specifier.now)) }
+        ensures decides { Decides self.old (asked_for importer.now specifier.now)
+            (T.state tree.old) (T.state tree.new) result }
         ensures same { self.new ≡ self.old }
     {
         resolve_import_with(

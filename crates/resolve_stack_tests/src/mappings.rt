@@ -40,14 +40,14 @@ where
 
 // The project's own mapping is left aside.
 fn is_refused_by_the_join(alloc: Global, project: &Project<'_>) -> Result<bool, Fail> {
-    let mut join = PnpResolver::of(alloc, project)?;
+    let mut join = PnpResolver::of(alloc, project);
     finds(alloc, &mut join, "q", "")
 }
 
 // Another mapping, or a cache, can be put in front of it.
 fn is_found_by_a_cache(alloc: Global, project: &Project<'_>) -> Result<bool, Fail> {
     let ts = ts_of(alloc, "/w", "x/*:foo")?;
-    let join = PnpResolver::of(alloc, project)?;
+    let join = PnpResolver::of(alloc, project);
     let Ok(mapped) = TsConfigResolver::new(alloc, join, ts.base_url, ts.paths) else {
         return Err(Fail::from("no mapping"));
     };

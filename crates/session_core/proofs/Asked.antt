@@ -1,13 +1,18 @@
 -- What an ask leaves, and which outcome stands in front then.
-use Rattle.std.proofs.Common.{◌≡◌, ◌-◌, ℕ, Bool, false, not, List, [], map, Option, Some, None, is_some, Result, Ok, Err, OnOk, OnErr, All, refl, sym, ap, ◌∙◌, subst}
+use Rattle.std.proofs.Common.{append-nil, ◌≡◌, ◌-◌, ℕ, Bool, false, not, List, [], length, map, arith, Option, Some, None, is_some, Result, Ok, Err, OnOk, OnErr, All, refl, sym, ap, ◌∙◌, subst}
 use Rattle.std.specs.Prelude.{slice_get}
 use Rattle.std.specs.List.{AllByRecursion}
 use Rattle.std.proofs.lemmas.List.Elements.{All-from_recursion, recursion_from_All}
-use Rattle.tree_core.specs.Tree.{Files}
+use Rattle.tree_core.specs.Plan.{asked}
+use Rattle.tree_core.specs.Tree.{Files, recorded, put_times}
 use Rattle.tree_core.specs.Memory.{Memory}
 use Rattle.swc_loader.specs.declared.resolution.FileName.{FileName}
 use Rattle.resolve_stack.specs.declared.verdict.Outcome.{Outcome}
+use Rattle.resolve_stack.specs.ImportFault.{StarvedAt}
+use Rattle.resolve_stack.specs.Outcomes.{request_outcome}
+use Rattle.resolve_stack.specs.Request.{Request, asked_for}
 use Rattle.resolve_stack.specs.Settings.{ProjectSettings}
+use Rattle.resolve_stack.specs.Verdict.{verdict}
 use Rattle.session_core.specs.declared.latest.Entry.{Entry}
 use Rattle.session_core.specs.Entries.{is_for, kept_for, moved_first, put_first}
 use Rattle.session_core.specs.Session.{Session, IsRight, outcome_on, asked_by, after_ask}
@@ -41,14 +46,30 @@ right-put (Err _) t u project capacity e kept now same on ok err all =
     let P : Files → Type 0 = λ f. All (IsOn f project) now in
     subst P (sym same) (rw err all)
 
+-- A request that was asked to its end was asked each of its different questions once.
+pub asked_whole : (t : Files) (project : ProjectSettings) (request : Request) (o : Outcome) (before now : ℕ) → o ≡ request_outcome t project request → now ≡ put_times (length o.trail) before → StarvedAt t before now (verdict project request)
+unfolding request_outcome
+asked_whole t project request o before now is put = record {
+  put = asked t (verdict project request);
+  left = [];
+  in_order = sym (append-nil (asked t (verdict project request)));
+  counted = record {
+    times = length (recorded t [] (asked t (verdict project request)));
+    enough = omega arith;
+    few = omega arith;
+    counted = put ∙ ap (λ (x : Outcome). put_times (length x.trail) before) is;
+  };
+}
+
 -- where memory was wanting
-pub starved : (s : Session) (tree : Memory) (capacity : ℕ) (kept : List Entry) → tree.files ≡ s.tree.files → capacity ≡ s.capacity → kept ≡ s.kept → IsStarved s (record { project = s.project; tree = tree; capacity = capacity; kept = kept })
-starved s tree capacity kept files same_capacity same_kept = record {
+pub starved : (s : Session) (importer : FileName) (specifier : List ℕ) (tree : Memory) (capacity : ℕ) (kept : List Entry) → tree.files ≡ s.tree.files → capacity ≡ s.capacity → kept ≡ s.kept → StarvedAt s.tree.files s.tree.questions tree.questions (verdict s.project (asked_for importer specifier)) → IsStarved importer specifier s (record { project = s.project; tree = tree; capacity = capacity; kept = kept })
+starved s importer specifier tree capacity kept files same_capacity same_kept asked = record {
   questions = tree.questions;
   same =
       ap (λ (f : Files). record { project = s.project; tree = record { files = f; questions = tree.questions }; capacity = capacity; kept = kept }) files
       ∙ ap (λ (n : ℕ). record { project = s.project; tree = record { files = s.tree.files; questions = tree.questions }; capacity = n; kept = kept }) same_capacity
       ∙ ap (λ (es : List Entry). record { project = s.project; tree = record { files = s.tree.files; questions = tree.questions }; capacity = s.capacity; kept = es }) same_kept;
+  asked = asked;
 }
 
 pub on_err : {A E : Type 0} (r : Result A E) (P : Type 0) → P → OnErr r P

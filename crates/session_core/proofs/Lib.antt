@@ -2,7 +2,6 @@ pub mod Replies
 pub mod Lists
 pub mod Requests
 pub mod Sessions
-pub mod Requested
 pub mod Numbers
 pub mod Indexes
 pub mod Firsts

@@ -23,6 +23,7 @@ use Rattle.swc_loader.specs.declared.resolution.FileName.{FileName}
 use Rattle.resolve_stack.specs.Settings.{ProjectSettings}
 use Rattle.resolve_stack.specs.Request.{asked_for}
 use Rattle.resolve_stack.specs.Verdict.{verdict}
+use Rattle.resolve_stack.specs.Outcomes.{request_outcome}
 use Rattle.session_core.specs.Entries.{bears_on, asks}
 use Rattle.session_core.specs.Session.{outcome_on}
 
@@ -150,7 +151,7 @@ agrees-nothing t = λ q r known. cc
 
 -- An edit that doesn't touch the trail of an outcome leaves the outcome as it is.
 pub outcome-same : (t u : Files) (path : List ℕ) (project : ProjectSettings) (importer : FileName) (specifier : List ℕ) → SameBut t u path → asks (bears_on path) (outcome_on t project importer specifier).trail ≡ false → outcome_on u project importer specifier ≡ outcome_on t project importer specifier
-unfolding outcome_on
+unfolding request_outcome
 outcome-same t u path project importer specifier same untouched =
     let plan = verdict project (asked_for importer specifier) in
     let agree : AgreeOn t u (asked t plan) = agree_on-recorded t u [] (asked t plan) (agrees-nothing t) (λ q r known.

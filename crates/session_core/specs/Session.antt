@@ -3,15 +3,14 @@ use Rattle.std.specs.Prelude.{◌≡◌, ◌<◌, ◌≤◌, ℕ, List, [], ◌�
 use Rattle.std.specs.List.{IsDistinct}
 use Rattle.std.specs.FinMap as finite
 use Rattle.tree_core.specs.declared.tree.TreeFile.{TreeFile}
-use Rattle.tree_core.specs.Tree.{Files, recorded, put_times, is_file}
+use Rattle.tree_core.specs.Tree.{Files, put_times, is_file}
 use Rattle.tree_core.specs.Memory.{Memory, refusal, with_file}
-use Rattle.tree_core.specs.Plan.{answer, asked}
 use Rattle.tree_core.specs.declared.memory.PutError.{PutError}
 use Rattle.swc_loader.specs.declared.resolution.FileName.{FileName}
 use Rattle.resolve_stack.specs.declared.verdict.Outcome.{Outcome}
 use Rattle.resolve_stack.specs.Settings.{ProjectSettings}
 use Rattle.resolve_stack.specs.Request.{asked_for}
-use Rattle.resolve_stack.specs.Verdict.{verdict}
+use Rattle.resolve_stack.specs.Outcomes.{request_outcome}
 use Rattle.session_core.specs.declared.latest.Entry.{Entry}
 use Rattle.session_core.specs.Entries.{same_request, kept_for, moved_first, put_first, untouched}
 
@@ -22,12 +21,9 @@ pub record Session : Type 0 where
   pub capacity : ℕ
   pub kept : List Entry
 
--- the outcome of a request on a tree: the verdict, and the questions that decide it, with the tree's replies
-unfoldable pub outcome_on : Files → ProjectSettings → FileName → List ℕ → Outcome
-outcome_on t project importer specifier = record {
-  verdict = answer t (verdict project (asked_for importer specifier));
-  trail = recorded t [] (asked t (verdict project (asked_for importer specifier)));
-}
+-- the outcome of a request on a tree
+abbrev pub outcome_on : Files → ProjectSettings → FileName → List ℕ → Outcome
+outcome_on t project importer specifier = request_outcome t project (asked_for importer specifier)
 
 -- that outcome with its request
 abbrev pub entry_on : Files → ProjectSettings → FileName → List ℕ → Entry

@@ -1,10 +1,13 @@
 // A session: a project with a tree of its own, and the latest outcomes on that tree.
-ghost use Rattle.std.specs.Prelude.{◌≡◌, ◌≢◌, ◌<◌, [], None, Some, is_some, IfOk, IfErr, IfNone, IfSome, IsOk, IsSome, OnOk, OnErr, OnSome, count_by, map, length, slice_get};
+ghost use Rattle.std.specs.Prelude.{◌≡◌, ◌≢◌, ◌<◌, [], None, Some, is_some, IfOk, IfErr, IfNone, IfSome, IsOk, IsSome, MatchResult, OnOk, OnErr, OnSome, count_by, map, length, slice_get};
 ghost use Rattle.std.specs.Borrow.{sem};
 ghost use Rattle.std.specs.FinMap as finite;
 ghost use Rattle.tree_core.specs.Tree.{is_file, put_times};
 ghost use Rattle.tree_core.specs.Memory.{refusal};
 ghost use Rattle.tree_core.specs.declared.memory.PutError.TheVariants.{NoMemory};
+ghost use Rattle.resolve_stack.specs.ImportFault.{StarvedAt};
+ghost use Rattle.resolve_stack.specs.Request.{asked_for};
+ghost use Rattle.resolve_stack.specs.Verdict.{verdict};
 ghost use Rattle.session_core.specs.Entries.{is_touched, kept_for};
 ghost use Rattle.session_core.specs.Numbered.{kept_in};
 ghost use Rattle.session_core.specs.Session.{IsRight, IsSession, outcome_on, after_ask, after_put, after_remove};
@@ -34,7 +37,7 @@ pub struct Session<'l> {
 
 impl<'l> Session<'l> {
     ghost use Rattle.session_core.specs.SessionView.{state_of, keys_in};
-    ghost use Rattle.session_core.specs.Asked.{EndsAsked, IsStarved};
+    ghost use Rattle.session_core.specs.Asked.{AfterLoan, IsStarved};
 
     /// A session without files and outcomes, which keeps at most this many outcomes.
     pub fn new(
@@ -79,7 +82,9 @@ impl<'l> Session<'l> {
     /// The outcome of a request on the tree as it is now. One that is kept takes no memory and puts no question.
     pub fn ask(&mut self, importer: &FileName, specifier: &str) -> Result<&Outcome, AllocError>
         // What the session is like then: the outcome stands in front, or nothing but the count of questions changed.
-        ensures* ends { sem 𝓛 (EndsAsked self.entry importer.now specifier.now result) }
+        ensures* ends { sem 𝓛 (AfterLoan self.entry (λ then. MatchResult result
+            (λ _. state_of then ≡ after_ask (state_of self.old) importer.now specifier.now)
+            (λ _. IsStarved importer.now specifier.now (state_of self.old) (state_of then)))) }
         ensures outcome { IfOk result (λ o. o.now ≡ outcome_on (state_of self.old).tree.files
             (state_of self.old).project importer.now specifier.now) }
         ensures kept { IsSome (kept_for importer.now specifier.now (state_of self.old).kept)
@@ -93,7 +98,8 @@ impl<'l> Session<'l> {
     fn bring_first(&mut self, importer: &FileName, specifier: &str) -> Result<(), AllocError>
         ensures ok { OnOk result
             (state_of self.new ≡ after_ask (state_of self.old) importer.now specifier.now) }
-        ensures err { OnErr result (IsStarved (state_of self.old) (state_of self.new)) }
+        ensures err { OnErr result (IsStarved importer.now specifier.now
+            (state_of self.old) (state_of self.new)) }
         ensures kept { IsSome (kept_for importer.now specifier.now (state_of self.old).kept)
             → IsOk result }
     {
@@ -183,6 +189,8 @@ fn outcome_of(
         o ≡ outcome_on tree.old.files project.now importer.now specifier.now) }
     ensures asked { IfOk result (λ o. tree.new.questions
         ≡ put_times (length o.trail) tree.old.questions) }
+    ensures starved { OnErr result (StarvedAt tree.old.files tree.old.questions tree.new.questions
+        (verdict project.now (asked_for importer.now specifier.now))) }
     ensures same { tree.new.files ≡ tree.old.files }
 {
     match tree.resolve_import(alloc, project, importer, specifier) {

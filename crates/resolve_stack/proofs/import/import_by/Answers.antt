@@ -1,4 +1,4 @@
-use Rattle.std.proofs.Common.{Err, arith, sym, subst}
+use Rattle.std.proofs.Common.{Err, arith, sym, subst, rules}
 use Rattle.std.proofs.lemmas.Grind.{common_steps}
 use Rattle.tree_core.proofs.Asking.{settles, put_all}
 use Rattle.resolve_stack.specs.Request.{request_of}
@@ -8,29 +8,34 @@ use Rattle.resolve_stack.proofs.Faults.{is_fault, is_starved, ends_in_fault, end
 use Rattle.resolve_stack.proofs.ThroughRows.{found}
 use Rattle.resolve_stack.proofs.import.import_by.Goals as goal
 
-pub returns-clause-settled : goal.returns-clause-settled
-returns-clause-settled g c = rw c.into_parts-trail.ensures.trail (settles c.new-recorder.ensures.trail c.in_ok-decided.ensures)
-
-pub returns-clause-agree : goal.returns-clause-agree
-returns-clause-agree g c = λ t stands.
-    c.into_parts-trail.ensures.agree t
-    (rw c.in_ok-decided.ensures.stands (rw c.new-recorder.ensures.at stands))
-
-pub returns-clause-found : goal.returns-clause-found
-returns-clause-found g c = λ t agrees.
+pub returns : goal.returns
+returns g c =
     let settled = settles c.new-recorder.ensures.trail c.in_ok-decided.ensures in
-    let P : Verdict → Type 0 = IsFound t c.args.project.now (request_of c.args.request.now) in
-    subst P (sym (settled.verdict t (rw c.into_parts-trail.ensures.trail at agrees))) (found t c.args.project.now (request_of c.args.request.now))
+    record {
+      settled = rw c.into_parts-trail.ensures.trail settled;
+      agree = λ t stands. c.into_parts-trail.ensures.agree t (rw c.in_ok-decided.ensures.stands (rw c.new-recorder.ensures.at stands));
+      found = λ t agrees.
+          let P : Verdict → Type 0 = IsFound t c.args.project.now (request_of c.args.request.now) in
+          subst P (sym (settled.verdict t (rw c.into_parts-trail.ensures.trail at agrees))) (found t c.args.project.now (request_of c.args.request.now));
+      stands = grind (arith, common_steps);
+      cause = grind (arith, common_steps);
+      put = rw (← c.new-recorder.ensures.at, c.into_parts-trail.ensures.trail) (grind (arith, common_steps, put_all c.new-recorder.ensures.trail c.in_ok-decided.ensures));
+      fails = λ is. cc;
+      starves = λ is. cc;
+    }
 
-pub returns-clause-put : goal.returns-clause-put
-returns-clause-put g c = rw (← c.new-recorder.ensures.at, c.into_parts-trail.ensures.trail) (grind (arith, common_steps, put_all c.new-recorder.ensures.trail c.in_ok-decided.ensures))
-
-pub returns-in_err-decided-clause-fails : goal.returns-in_err-decided-clause-fails
-returns-in_err-decided-clause-fails g c = λ is.
-    rw (← c.new-recorder.ensures.at)
-    (ends_in_fault (Err c.in_err-decided.field-0.0) c.new-recorder.ensures.trail (λ t stands. c.decide_with-decided.new.tree.agrees t (rw c.in_err-decided.ensures.stands stands)) c.in_err-decided.ensures (is_fault _ _ c.from_residual.ensures.1 is) (grind (arith, common_steps)) (grind (arith, common_steps)))
-
-pub returns-in_err-decided-clause-starves : goal.returns-in_err-decided-clause-starves
-returns-in_err-decided-clause-starves g c = λ is.
-    rw (← c.new-recorder.ensures.at)
-    (ends_starved (Err c.in_err-decided.field-0.0) c.new-recorder.ensures.trail (λ t stands. c.decide_with-decided.new.tree.agrees t (rw c.in_err-decided.ensures.stands stands)) c.in_err-decided.ensures (is_starved _ _ c.from_residual.ensures.1 is) (grind (arith, common_steps)))
+pub returns-in_err-decided : goal.returns-in_err-decided
+returns-in_err-decided g c = record {
+  settled = search rules;
+  agree = search rules;
+  found = search rules;
+  stands = grind (arith, common_steps);
+  cause = grind (arith, common_steps);
+  put = search rules;
+  fails = λ is.
+      rw (← c.new-recorder.ensures.at)
+      (ends_in_fault (Err c.in_err-decided.field-0.0) c.new-recorder.ensures.trail (λ t stands. c.decide_with-decided.new.tree.agrees t (rw c.in_err-decided.ensures.stands stands)) c.in_err-decided.ensures (is_fault _ _ c.from_residual.ensures.1 is) (grind (arith, common_steps)) (grind (arith, common_steps)));
+  starves = λ is.
+      rw (← c.new-recorder.ensures.at)
+      (ends_starved (Err c.in_err-decided.field-0.0) c.new-recorder.ensures.trail (λ t stands. c.decide_with-decided.new.tree.agrees t (rw c.in_err-decided.ensures.stands stands)) c.in_err-decided.ensures (is_starved _ _ c.from_residual.ensures.1 is) (grind (arith, common_steps)));
+}

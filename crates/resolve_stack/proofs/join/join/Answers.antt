@@ -1,4 +1,4 @@
-use Rattle.std.proofs.Common.{sym}
+use Rattle.std.proofs.Common.{refl, sym}
 use Rattle.tree_core.specs.Resolving.{resolving}
 use Rattle.tree_core.proofs.Asking.{asks_starved_in}
 use Rattle.resolve_stack.specs.Known.{join_by, nearest_manifest_by, manifest_in_by}
@@ -32,8 +32,25 @@ returns-in_err-manifest g c =
     let nearest = rw (c.in_ok-importer.ensures, c.cwd.ensures) at c.in_ok-file.ensures in
     some_row c.args.project.now _ _ _ (sym c.in-Some.ensures) (row_then (manifest_in_by c.args.known.now c.args.project.now _) _ nearest c.in-Some-2.is (stops_row _ _ _ c.from_residual-in_err-manifest.ensures.1 c.in_err-manifest.ensures.asks))
 
+pub returns-in_err-owner : goal.returns-in_err-owner
+unfolding join_by nearest_manifest_by
+returns-in_err-owner g c =
+    let nearest = rw (c.in_ok-importer.ensures, c.cwd.ensures) at c.in_ok-file.ensures in
+    some_row c.args.project.now _ _ _ (sym c.in-Some.ensures) (row_then (manifest_in_by c.args.known.now c.args.project.now _) _ nearest c.in-Some-2.is (after_row _ c.in_ok-manifest.ensures.asks (asks_starved_in resolving _ c.from_residual-in_err-owner.ensures.1)))
+
+pub returns-in_default-3 : goal.returns-in_default-3
+unfolding join_by nearest_manifest_by
+returns-in_default-3 g c =
+    let nearest = rw (c.in_ok-importer.ensures, c.cwd.ensures) at c.in_ok-file.ensures in
+    let owner = sym (rw (c.as_str.ensures.text, c.in_ok-importer.ensures, c.cwd.ensures, c.in_default-3.is) at c.in_ok-owner.ensures) in
+    some_row c.args.project.now _ _ _ (sym c.in-Some.ensures) (row_then (manifest_in_by c.args.known.now c.args.project.now _) _ nearest c.in-Some-2.is (after_row _ c.in_ok-manifest.ensures.asks (none_row c.args.project.now _ _ _ owner c.by_node_rows-in_default-3.ensures)))
+
+pub join_owned-requires : goal.join_owned-requires
+join_owned-requires g c = rw (c.in_ok-importer.ensures, c.cwd.ensures) refl
+
 pub returns : goal.returns
 unfolding join_by nearest_manifest_by
 returns g c =
     let nearest = rw (c.in_ok-importer.ensures, c.cwd.ensures) at c.in_ok-file.ensures in
-    some_row c.args.project.now _ _ _ (sym c.in-Some.ensures) (row_then (manifest_in_by c.args.known.now c.args.project.now _) _ nearest c.in-Some-2.is (after_row _ c.in_ok-manifest.ensures.asks c.join_by_manifest.ensures))
+    let owner = sym (rw (c.as_str.ensures.text, c.in_ok-importer.ensures, c.cwd.ensures, c.in-Some-3.is) at c.in_ok-owner.ensures) in
+    some_row c.args.project.now _ _ _ (sym c.in-Some.ensures) (row_then (manifest_in_by c.args.known.now c.args.project.now _) _ nearest c.in-Some-2.is (after_row _ c.in_ok-manifest.ensures.asks (some_row c.args.project.now _ _ _ owner c.join_owned.ensures)))
