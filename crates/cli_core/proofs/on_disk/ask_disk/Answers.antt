@@ -14,14 +14,18 @@ returns-in-Err-Refused-clause-asks g c =
 
 pub returns-in-Err-TreeFault-clause-asks : goal.returns-in-Err-TreeFault-clause-asks
 returns-in-Err-TreeFault-clause-asks g c =
-    asks_disk_fault _ c.in-Err-TreeFault.ensures.refused c.in-Err-TreeFault.ensures.cause
+    let accepted = rw c.in-Err-TreeFault.field-0-is at c.in-Err-TreeFault.ensures.refused in
+    let rose = rw c.in-Err-TreeFault.field-0-is at c.in-Err-TreeFault.ensures.cause in
+    asks_disk_fault _ accepted rose
 
 pub returns-in-Err-NoMemory-clause-asks : goal.returns-in-Err-NoMemory-clause-asks
 returns-in-Err-NoMemory-clause-asks g c =
     asks_starved _ (λ cause is. ap g.T.Tree.state (c.line_on_tree.ensures.unasked (ap is_err is)))
 
-pub returns-in-Ok-2-clause-asks : goal.returns-in-Ok-2-clause-asks
-returns-in-Ok-2-clause-asks g c = asks_whole _ _ _ c.in-Ok.ensures.outcome c.as_bytes.ensures.value c.in-Ok-2.ensures.all
+pub returns-in-Ok-write_all-clause-asks : goal.returns-in-Ok-write_all-clause-asks
+returns-in-Ok-write_all-clause-asks g c =
+    asks_whole _ _ _ c.in-Ok.ensures.outcome c.as_bytes.ensures.value c.in-Ok-write_all.ensures.all
 
-pub returns-in_default-clause-asks : goal.returns-in_default-clause-asks
-returns-in_default-clause-asks g c = asks_cut _ _ _ c.in-Ok.ensures.outcome c.as_bytes.ensures.value c.in_default.ensures.front c.in_default.ensures.counted.1
+pub returns-clause-asks : goal.returns-clause-asks
+returns-clause-asks g c =
+    asks_cut _ _ _ c.in-Ok.ensures.outcome c.as_bytes.ensures.value c.in-Err.ensures.front c.in-Err.ensures.counted.1
