@@ -1,5 +1,5 @@
 -- How a request over the disk ends, by whether its project is accepted.
-use Rattle.std.proofs.Common.{◌≡◌, List, ℕ, Result, Ok, Err, IsOk, is_ok, inl, inr, refl, ap, ◌∙◌, subst}
+use Rattle.std.proofs.Common.{◌≡◌, List, ℕ, Result, Err, IsOk, is_ok, inl, inr, refl, ap, ◌∙◌, subst}
 use Rattle.tree_core.specs.Tree.{Rose, TreeState}
 use Rattle.document_core.specs.declared.cause.Cause.{Cause}
 use Rattle.disk_report.specs.Asked.{Asked}
