@@ -1,3 +1,5 @@
+pub mod Ends
+pub mod OnDisk
 pub mod Reports
 pub mod Sizes
 pub mod Turns

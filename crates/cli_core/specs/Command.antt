@@ -2,11 +2,11 @@
 use Rattle.std.specs.Prelude.{ℕ, ◌+◌, ◌-◌, ◌*◌, Bool, true, false, ◌&&◌, nat_le, List, [], ◌∷◌, map, codes, bytes_eq, Option, Some, None, option_map, String, string_bytes, if◌then◌else◌}
 use Rattle.std.specs.Str.{all_ascii_digits}
 use Rattle.std.specs.declared.alloc.Global.{Global}
-use Rattle.disk_report.specs.DiskRequest.{Asked}
-use Rattle.cli_core.specs.OnDisk.{disk_request_in}
+use Rattle.swc_loader.specs.declared.target.TargetEnv.{TargetEnv}
+use Rattle.swc_loader.specs.declared.target.TargetEnv.TheVariants.{Browser, Node}
+use Rattle.disk_report.specs.Asked.{Asked}
 use Rattle.cli_core.specs.declared.command.Command.{Command}
-use Rattle.cli_core.specs.declared.command.Command.TheVariants.{Resolve, Session, Generate, Disk}
-use Rattle.cli_core.specs.declared.document_kind.DocumentKind.{DocumentKind}
+use Rattle.cli_core.specs.declared.command.Command.TheVariants.{Report, Generate, Disk}
 use Rattle.cli_core.specs.declared.document_kind.DocumentKind.TheVariants.{Requests, Steps}
 use Rattle.cli_core.specs.declared.command.TheConstants.{LARGEST}
 
@@ -26,35 +26,41 @@ size_of word =
     if begins_above_zero word && (all_ascii_digits word && nat_le (number_after 0 word) LARGEST) then Some (number_after 0 word)
     else None
 
+-- the target that a word names
+abbrev pub target_of : List ℕ → Option TargetEnv
+target_of word =
+    if bytes_eq word (codes "browser") then Some Browser
+    else if bytes_eq word (codes "node") then Some Node
+    else None
+
 -- one word: `resolve` or `session`
 abbrev pub command_of_one : List ℕ → Option Command
 command_of_one word =
-    if bytes_eq word (codes "resolve") then Some (Resolve false)
-    else if bytes_eq word (codes "session") then Some Session
+    if bytes_eq word (codes "resolve") then Some (Report (Requests false))
+    else if bytes_eq word (codes "session") then Some (Report Steps)
     else None
 
 -- two words: `resolve --trail`, or `generate` and a size
 abbrev pub command_of_two : List ℕ → List ℕ → Option Command
 command_of_two word next =
-    if bytes_eq word (codes "resolve") && bytes_eq next (codes "--trail") then Some (Resolve true)
+    if bytes_eq word (codes "resolve") && bytes_eq next (codes "--trail") then Some (Report (Requests true))
     else if bytes_eq word (codes "generate") then option_map Generate (size_of next)
     else None
+
+-- five words: `disk`, a working folder, a target, an importer and a specifier
+abbrev pub disk_request_in : List (List ℕ) → Option Asked
+disk_request_in (word ∷ cwd ∷ target ∷ importer ∷ specifier ∷ []) =
+    if bytes_eq word (codes "disk") then option_map (λ env. record { cwd = cwd; target = env; importer = importer; specifier = specifier }) (target_of target)
+    else None
+disk_request_in _ = None
 
 abbrev pub command_in : List (List ℕ) → Option Command
 command_in [] = None
 command_in (word ∷ []) = command_of_one word
 command_in (word ∷ next ∷ []) = command_of_two word next
 command_in (word ∷ next ∷ third ∷ words) =
-    option_map (λ _. Disk) (disk_request_in (word ∷ next ∷ third ∷ words))
+    option_map Disk (disk_request_in (word ∷ next ∷ third ∷ words))
 
+-- the command that words ask for, with what they say of it
 abbrev pub asked : List (String Global) → Option Command
 asked words = command_in (map string_bytes words)
-
--- the request over a tree that words ask for
-abbrev pub asked_on_disk : List (String Global) → Option Asked
-asked_on_disk words = disk_request_in (map string_bytes words)
-
--- the command that reads a document of a kind
-abbrev pub reader_of : DocumentKind → Command
-reader_of (Requests trails) = Resolve trails
-reader_of Steps = Session

@@ -1,8 +1,10 @@
 pub mod Command
+pub mod Generates
 pub mod MemoryStreams
+pub mod OnDisk
 pub mod Reading
 pub mod Report
+pub mod Reports
 pub mod Run
 pub mod Streams
 pub mod Writing
-pub mod OnDisk

@@ -1,43 +1,45 @@
--- What the command `disk` is asked for by its words, and how it ends.
-use Rattle.std.specs.Prelude.{◌≡◌, ℕ, ◌⊎◌, Bool, true, false, List, [], ◌∷◌, codes, bytes_eq, Option, Some, None, option_map, if◌then◌else◌}
-use Rattle.tree_core.specs.Tree.{Rose}
-use Rattle.swc_loader.specs.declared.target.TargetEnv.{TargetEnv}
-use Rattle.swc_loader.specs.declared.target.TargetEnv.TheVariants.{Browser, Node}
-use Rattle.disk_report.specs.DiskRequest.{Asked}
+-- How the command `disk` runs.
+use Rattle.std.specs.Prelude.{◌≡◌, ◌⊎◌, IsOk}
+use Rattle.std.specs.Result.{ForErr}
+use Rattle.tree_core.specs.Tree.{TreeState}
+use Rattle.document_core.specs.CauseLine.{cause_line}
+use Rattle.document_core.specs.declared.cause.Cause.{Cause}
+use Rattle.disk_report.specs.Asked.{Asked}
+use Rattle.disk_report.specs.DiskRequest.{project_of}
+use Rattle.disk_report.specs.Outcome.{HasOutcome}
+use Rattle.cli_core.specs.Run.{IsSteady}
+use Rattle.cli_core.specs.Streams.{Appends, SinkState}
+use Rattle.cli_core.specs.Writing.{AppendsFront}
 use Rattle.cli_core.specs.declared.status.Status.{Status}
-use Rattle.cli_core.specs.declared.status.Status.TheVariants.{Done, Refused, Usage, ReadFault, WriteFault, TooLong, NoMemory, TreeFault}
+use Rattle.cli_core.specs.declared.status.Status.TheVariants.{Done, Refused, WriteFault, NoMemory, TreeFault}
 
--- the target that a word names
-abbrev pub target_of : List ℕ → Option TargetEnv
-target_of word =
-    if bytes_eq word (codes "browser") then Some Browser
-    else if bytes_eq word (codes "node") then Some Node
-    else None
+-- A request whose project is refused for a cause. The disk is left as it was.
+pub record TellsCause (cause : Cause) (status : Status) (sink_old sink_new : SinkState)
+    (disk_old disk_new : TreeState) : Type 0 where
+  -- Refused: the line of the cause was written
+  pub refused : status ≡ Refused → Appends (cause_line cause) sink_old.written sink_new.written
+  -- WriteFault: a first part of it was
+  pub cut : status ≡ WriteFault → AppendsFront (cause_line cause) sink_old.written sink_new.written
+  -- no other status comes
+  pub ends : (status ≡ Refused) ⊎ ((status ≡ WriteFault) ⊎ (status ≡ NoMemory))
+  -- the disk isn't asked
+  pub unasked : disk_new ≡ disk_old
 
--- five words: `disk`, a working folder, a target, an importer and a specifier
-abbrev pub disk_request_in : List (List ℕ) → Option Asked
-disk_request_in (word ∷ cwd ∷ target ∷ importer ∷ specifier ∷ []) =
-    if bytes_eq word (codes "disk") then option_map (λ env. record { cwd = cwd; target = env; importer = importer; specifier = specifier }) (target_of target)
-    else None
-disk_request_in _ = None
+-- A request whose project is accepted. What is written is of the line of an outcome, over any disk.
+pub record TellsOutcome (request : Asked) (status : Status) (sink_old sink_new : SinkState)
+    (disk_old disk_new : TreeState) : Type 0 where
+  -- Done: the line of an outcome was written
+  pub done : status ≡ Done → HasOutcome disk_old.stands_for request (λ line. Appends line sink_old.written sink_new.written)
+  -- WriteFault: a first part of it was
+  pub cut : status ≡ WriteFault → HasOutcome disk_old.stands_for request (λ line. AppendsFront line sink_old.written sink_new.written)
+  -- where neither the disk nor the sink failed, it was written whole, or no memory was found
+  pub complete : IsSteady disk_old.faults disk_new.faults → IsSteady sink_old.faults sink_new.faults
+      → (status ≡ Done) ⊎ (status ≡ NoMemory)
+  -- no other status comes: a fault of the disk only here
+  pub ends : (status ≡ Done) ⊎ ((status ≡ WriteFault) ⊎ ((status ≡ NoMemory) ⊎ (status ≡ TreeFault)))
 
--- the status is that of a tree's fault
-abbrev pub is_of_tree : Status → Bool
-is_of_tree Done = false
-is_of_tree Refused = false
-is_of_tree Usage = false
-is_of_tree ReadFault = false
-is_of_tree WriteFault = false
-is_of_tree TooLong = false
-is_of_tree NoMemory = false
-is_of_tree TreeFault = true
-
--- a tree's count of faults after a call: where the tree failed it rose, or stands at its last value; else it stayed
-abbrev pub CountsTreeFault : Bool → ℕ → ℕ → Type 0
-CountsTreeFault true before now = Rose before now
-CountsTreeFault false before now = now ≡ before
-
--- a status with which a request over a tree ends
-abbrev pub EndsOnTree : Status → Type 0
-EndsOnTree status =
-    (status ≡ Done) ⊎ ((status ≡ Refused) ⊎ ((status ≡ WriteFault) ⊎ ((status ≡ NoMemory) ⊎ (status ≡ TreeFault))))
+-- One request over the disk: its project is refused, and the cause is told, or it is accepted, and an outcome is.
+pub record AsksDisk (request : Asked) (status : Status) (sink_old sink_new : SinkState)
+    (disk_old disk_new : TreeState) : Type 0 where
+  pub refused : ForErr (project_of request) (λ cause. TellsCause cause status sink_old sink_new disk_old disk_new)
+  pub accepted : IsOk (project_of request) → TellsOutcome request status sink_old sink_new disk_old disk_new

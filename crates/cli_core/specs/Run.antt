@@ -1,11 +1,11 @@
--- What each status says of the words, the source and the sink.
-use Rattle.std.specs.Prelude.{◌≡◌, ℕ, ◌≤◌, ◌⊎◌, Bool, true, false, List, [], length, Option, Some, Result, Ok, Err}
-use Rattle.tree_core.specs.Tree.{Rose}
+-- What each status says of the source, the sink and the disk.
+use Rattle.std.specs.Prelude.{◌≡◌, ℕ, ◌≤◌, Bool, true, false, List, [], length, Option, Some, Result, Ok, Err}
+use Rattle.tree_core.specs.Tree.{Rose, TreeState}
 use Rattle.document_core.specs.CauseLine.{cause_line}
 use Rattle.document_core.specs.declared.cause.Cause.{Cause}
 use Rattle.cli_core.specs.Report.{report_of}
 use Rattle.cli_core.specs.declared.document_kind.DocumentKind.{DocumentKind}
-use Rattle.cli_core.specs.Streams.{Appends}
+use Rattle.cli_core.specs.Streams.{Appends, CountsFault, SinkState, SourceState}
 use Rattle.cli_core.specs.declared.reading.TheConstants.{LONGEST}
 use Rattle.cli_core.specs.declared.status.Status.{Status}
 use Rattle.cli_core.specs.declared.status.Status.TheVariants.{Done, Refused, Usage, ReadFault, WriteFault, TooLong, NoMemory, TreeFault}
@@ -62,6 +62,32 @@ is_of_sink TooLong = false
 is_of_sink NoMemory = false
 is_of_sink TreeFault = false
 
+-- the status is that of a tree's fault
+abbrev pub is_of_tree : Status → Bool
+is_of_tree Done = false
+is_of_tree Refused = false
+is_of_tree Usage = false
+is_of_tree ReadFault = false
+is_of_tree WriteFault = false
+is_of_tree TooLong = false
+is_of_tree NoMemory = false
+is_of_tree TreeFault = true
+
+-- a tree's count of faults after a call: where the tree failed it rose, or stands at its last value; else it stayed
+abbrev pub CountsTreeFault : Bool → ℕ → ℕ → Type 0
+CountsTreeFault true before now = Rose before now
+CountsTreeFault false before now = now ≡ before
+
+-- Each fault has its cause, and none is passed over: the counts after a run of a status.
+pub record CountsFaults (status : Status) (source_old source_new : SourceState)
+    (sink_old sink_new : SinkState) (disk_old disk_new : TreeState) : Type 0 where
+  -- the source failed just where the status is ReadFault
+  pub source : CountsFault (is_of_source status) source_old.faults source_new.faults
+  -- the sink failed just where it is WriteFault
+  pub sink : CountsFault (is_of_sink status) sink_old.faults sink_new.faults
+  -- the disk failed just where it is TreeFault
+  pub disk : CountsTreeFault (is_of_tree status) disk_old.faults disk_new.faults
+
 -- the status says that nothing was written
 abbrev pub is_silent : Status → Bool
 is_silent Done = false
@@ -72,10 +98,6 @@ is_silent WriteFault = false
 is_silent TooLong = true
 is_silent NoMemory = true
 is_silent TreeFault = true
-
--- a status with which a command that reads nothing ends
-abbrev pub EndsUnread : Status → Type 0
-EndsUnread status = (status ≡ Done) ⊎ ((status ≡ WriteFault) ⊎ (status ≡ NoMemory))
 
 -- a count of faults neither rose nor stands at its last value
 abbrev pub IsSteady : ℕ → ℕ → Type 0

@@ -1,39 +1,59 @@
 // The commands, by the words that ask for them.
-ghost use Rattle.std.specs.Prelude.{◌≡◌};
-ghost use Rattle.cli_core.specs.Command.{asked, begins_above_zero, size_of};
+ghost use Rattle.std.specs.Prelude.{◌≡◌, map, string_bytes};
+ghost use Rattle.cli_core.specs.Command.{asked, begins_above_zero, command_of_one, command_of_two, disk_request_in, size_of, target_of};
 
-use crate::on_disk::disk_request;
+use crate::document_kind::DocumentKind;
+use disk_report::DiskRequest;
+use resolve_stack::TargetEnv;
 
-/// What the program is asked to do.
-#[derive(Clone, Copy, Debug, PartialEq, Eq)]
-pub enum Command {
-    /// Reads one document, and writes a line for each of its requests, with trails or without.
-    Resolve { trails: bool },
-    /// Reads one session document, and writes a line for each of its steps.
-    Session,
+/// What the program is asked to do, with what the words say of it.
+#[derive(Debug, Drop)]
+pub enum Command<'w> {
+    /// Reads one document of a kind, and writes the report on it: `resolve`, `session`.
+    Report(DocumentKind),
     /// Resolves the generated project of so many packages, and writes the counts of its outcomes.
     Generate { size: u16 },
     /// Resolves one request over the disk, and writes its line.
-    Disk,
+    Disk(DiskRequest<'w>),
 }
 
 /// The most packages that a generated project has.
 pub const LARGEST: u16 = 1000;
 
 /// The command that the words behind the program's name ask for, and `None` where they are none.
-pub fn command_of(words: &[String]) -> Option<Command>
+pub fn command_of(words: &[String]) -> Option<Command<'_>>
     ensures { result ≡ asked words.now }
 {
     match words {
-        [word] if word.as_str() == "resolve" => Some(Command::Resolve { trails: false }),
-        [word] if word.as_str() == "session" => Some(Command::Session),
-        [word, option] if word.as_str() == "resolve" && option.as_str() == "--trail" => {
-            Some(Command::Resolve { trails: true })
+        [word] => command_of_one(word.as_str()),
+        [word, next] => command_of_two(word.as_str(), next.as_str()),
+        words => disk_request(words).map(Command::Disk),
+    }
+}
+
+// The command of one word.
+fn command_of_one(word: &str) -> Option<Command<'_>>
+    ensures { result ≡ command_of_one word.now }
+{
+    match word {
+        "resolve" => Some(Command::Report(DocumentKind::Requests { trails: false })),
+        "session" => Some(Command::Report(DocumentKind::Steps)),
+        _ => None,
+    }
+}
+
+// The command of two words.
+fn command_of_two<'w>(word: &'w str, next: &'w str) -> Option<Command<'w>>
+    ensures { result ≡ command_of_two word.now next.now }
+{
+    match word {
+        "resolve" if next == "--trail" => {
+            Some(Command::Report(DocumentKind::Requests { trails: true }))
         }
-        [word, size] if word.as_str() == "generate" => {
-            size_in(size.as_str()).map(|size| Command::Generate { size })
-        }
-        words => disk_request(words).map(|_| Command::Disk),
+        "generate" => Some(Command::Generate {
+            size: size_in(next)?,
+        }),
+        _ => None,
     }
 }
 
@@ -54,4 +74,30 @@ fn begins_above_zero(word: &[u8]) -> bool
     ensures { result ≡ begins_above_zero word.now }
 {
     matches!(word, [b'1'..=b'9', ..])
+}
+
+// The request that the words behind the program's name ask for over the disk.
+fn disk_request(words: &[String]) -> Option<DiskRequest<'_>>
+    ensures { result ≡ disk_request_in (map string_bytes words.now) }
+{
+    match words {
+        [word, cwd, target, importer, specifier] if word.as_str() == "disk" => Some(DiskRequest {
+            cwd: cwd.as_str(),
+            target: target_of(target.as_str())?,
+            importer: importer.as_str(),
+            specifier: specifier.as_str(),
+        }),
+        _ => None,
+    }
+}
+
+// The target that a word names.
+fn target_of(word: &str) -> Option<TargetEnv>
+    ensures { result ≡ target_of word.now }
+{
+    match word {
+        "browser" => Some(TargetEnv::Browser),
+        "node" => Some(TargetEnv::Node),
+        _ => None,
+    }
 }

@@ -18,6 +18,7 @@ mod status;
 mod writing;
 
 pub use command::{Command, LARGEST, command_of};
+pub use disk_report::DiskRequest;
 pub use document_core::{Cause, DocumentError, Field};
 pub use document_kind::{DocumentKind, report_of};
 pub use memory_sinks::{BytesSink, PlainSink};

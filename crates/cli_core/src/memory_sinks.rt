@@ -1,6 +1,6 @@
 // Sinks in memory.
-ghost use Rattle.std.specs.Prelude.{◌≡◌, ◌-◌, ◌≤◌, ◌++◌, [], Some, if◌then◌else◌, min, IfOk, OnErr, is_err, length, take};
-ghost use Rattle.cli_core.specs.Streams.{Appends, CountsFault, is_fault_of_sink};
+ghost use Rattle.std.specs.Prelude.{◌≡◌, ◌-◌, ◌≤◌, ◌++◌, [], Some, true, if◌then◌else◌, min, IfOk, OnErr, is_err, length, take};
+ghost use Rattle.cli_core.specs.Streams.{Appends, CountsFault, is_fault_of_sink, takes_nothing};
 ghost use Rattle.cli_core.specs.MemoryStreams.{is_listed};
 ghost use Rattle.tree_core.specs.Tree.{one_more};
 
@@ -87,14 +87,40 @@ impl PlainSink {
     {
         self.room.written()
     }
+
+    // Takes as much of a piece as there is room for, and tells how much. A piece that finds no room is counted.
+    fn append(&mut self, piece: &[u8]) -> usize
+        ensures count { result ≡ min (length piece.now) (self.old.room - length self.old.written) }
+        ensures after { self.new ≡ record self.old {
+          written = self.old.written ++ take result piece.now;
+          faults =
+              if takes_nothing piece.now result then one_more self.old.faults
+              else self.old.faults;
+        } }
+        ensures counted { CountsFault (takes_nothing piece.now result)
+            self.old.faults self.new.faults }
+    {
+        let n = self.room.append(piece);
+        if n == 0 && !piece.is_empty() {
+            self.faults = self.faults.saturating_add(1);
+        }
+        n
+    }
+
+    // Counts a write that is refused.
+    fn refuse(&mut self) -> SinkFault
+        ensures after { self.new ≡ record self.old { faults = one_more self.old.faults } }
+        ensures counted { CountsFault true self.old.faults self.new.faults }
+    {
+        self.faults = self.faults.saturating_add(1);
+        SinkFault
+    }
 }
 
 impl Sink for PlainSink {
     ghost use Rattle.std.specs.Prelude.{Some};
 
-    ghost written = { λ s. Some s.written };
-
-    ghost faults = { λ s. s.faults };
+    ghost state = { λ s. record { written = Some s.written; faults = s.faults } };
 
     fn write(&mut self, piece: &[u8]) -> Result<usize, SinkFault>
         ensures fills { result
@@ -114,21 +140,16 @@ impl Sink for PlainSink {
         ensures counted { CountsFault (is_fault_of_sink piece.now result)
             self.old.faults self.new.faults }
     {
-        let n = self.room.append(piece);
-        if n == 0 && !piece.is_empty() {
-            self.faults = self.faults.saturating_add(1);
-        }
-        Ok(n)
+        Ok(self.append(piece))
     }
 }
 
 /// A room of bytes that refuses the calls with given numbers, the first being 1.
 #[derive(Drop)]
 pub struct BytesSink {
-    room: Room,
+    sink: PlainSink,
     fail_at: List<u64>,
     calls: u64,
-    faults: u64,
 }
 
 impl Model for BytesSink {
@@ -137,11 +158,11 @@ impl Model for BytesSink {
     ghost Value = { FailingRoom };
 
     ghost view = { λ s. record {
-      written = s.room.written;
-      room = s.room.room;
+      written = s.sink.written;
+      room = s.sink.room;
       fail_at = s.fail_at;
       calls = s.calls;
-      faults = s.faults;
+      faults = s.sink.faults;
     } };
 }
 
@@ -152,10 +173,9 @@ impl BytesSink {
             s ≡ record { written = []; room = room; fail_at = fail_at; calls = 0; faults = 0 }) }
     {
         Ok(BytesSink {
-            room: Room::new(alloc, room)?,
+            sink: PlainSink::new(alloc, room)?,
             fail_at,
             calls: 0,
-            faults: 0,
         })
     }
 
@@ -163,18 +183,17 @@ impl BytesSink {
     pub fn written(&self) -> &[u8]
         ensures { result.now ≡ self.now.written }
     {
-        self.room.written()
+        self.sink.written()
     }
 }
 
 impl Sink for BytesSink {
     ghost use Rattle.std.specs.Prelude.{Some};
 
-    ghost written = { λ s. Some s.written };
+    ghost state = { λ s. record { written = Some s.written; faults = s.faults } };
 
-    ghost faults = { λ s. s.faults };
-
-    /// Refuses exactly the calls whose numbers are listed, and else takes all of the piece or as much as there is room for.
+    /// Refuses exactly the calls whose numbers are listed, and else takes all of the piece or as much as there is room
+    /// for.
     fn write(&mut self, piece: &[u8]) -> Result<usize, SinkFault>
         ensures fails { is_err result ≡ is_listed self.old.fail_at (one_more self.old.calls) }
         ensures after_fault { OnErr result (self.new ≡ record self.old {
@@ -201,13 +220,8 @@ impl Sink for BytesSink {
     {
         self.calls = self.calls.saturating_add(1);
         if self.fail_at.as_slice().contains(&self.calls) {
-            self.faults = self.faults.saturating_add(1);
-            return Err(SinkFault);
+            return Err(self.sink.refuse());
         }
-        let n = self.room.append(piece);
-        if n == 0 && !piece.is_empty() {
-            self.faults = self.faults.saturating_add(1);
-        }
-        Ok(n)
+        Ok(self.sink.append(piece))
     }
 }

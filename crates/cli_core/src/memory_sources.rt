@@ -9,28 +9,28 @@ use crate::source::{Source, SourceFault};
 use std::marker::Model;
 use sugar_path::{Bytes, List};
 
-// What is left of some bytes.
+/// Bytes in memory that are never refused, seen as what is left of them.
 #[derive(Drop)]
-struct Rest {
+pub struct PlainSource {
     bytes: Bytes,
     taken: usize,
 }
 
-impl Model for Rest {
+impl Model for PlainSource {
     ghost use Rattle.std.specs.Prelude.{List, ℕ, ◌≤◌, length, drop};
 
     ghost Value = { List ℕ };
 
-    ghost view = { λ r. drop r.taken r.bytes };
+    ghost view = { λ s. drop s.taken s.bytes };
 
-    ghost invariant = { λ r. r.taken ≤ length r.bytes };
+    ghost invariant = { λ s. s.taken ≤ length s.bytes };
 }
 
-impl Rest {
-    fn new(bytes: Bytes) -> Rest
+impl PlainSource {
+    pub fn new(bytes: Bytes) -> PlainSource
         ensures { result ≡ bytes }
     {
-        Rest { bytes, taken: 0 }
+        PlainSource { bytes, taken: 0 }
     }
 
     // Puts as many of the next bytes at the front of the buffer as it holds or are left, and tells how many.
@@ -47,36 +47,10 @@ impl Rest {
     }
 }
 
-/// Bytes in memory that are never refused, seen as what is left of them.
-#[derive(Drop)]
-pub struct PlainSource {
-    rest: Rest,
-}
-
-impl Model for PlainSource {
-    ghost use Rattle.std.specs.Prelude.{List, ℕ};
-
-    ghost Value = { List ℕ };
-
-    ghost view = { λ s. s.rest };
-}
-
-impl PlainSource {
-    pub fn new(bytes: Bytes) -> PlainSource
-        ensures { result ≡ bytes }
-    {
-        PlainSource {
-            rest: Rest::new(bytes),
-        }
-    }
-}
-
 impl Source for PlainSource {
     ghost use Rattle.std.specs.Prelude.{Some};
 
-    ghost left = { λ s. Some s };
-
-    ghost faults = { λ s. 0 };
+    ghost state = { λ s. record { left = Some s; faults = 0 } };
 
     /// Fills the buffer from the front of what is left, as far as either goes.
     fn read(&mut self, buffer: &mut [u8]) -> Result<usize, SourceFault>
@@ -91,14 +65,14 @@ impl Source for PlainSource {
         ensures kept { OnErr result (self.new ≡ self.old) }
         ensures counted { CountsFault (is_err result) 0 0 }
     {
-        Ok(self.rest.take_into(buffer))
+        Ok(self.take_into(buffer))
     }
 }
 
 /// Bytes in memory that are refused at the calls with given numbers, the first being 1.
 #[derive(Drop)]
 pub struct BytesSource {
-    rest: Rest,
+    source: PlainSource,
     fail_at: List<u64>,
     calls: u64,
     faults: u64,
@@ -110,7 +84,7 @@ impl Model for BytesSource {
     ghost Value = { FailingReads };
 
     ghost view = { λ s.
-        record { left = s.rest; fail_at = s.fail_at; calls = s.calls; faults = s.faults } };
+        record { left = s.source; fail_at = s.fail_at; calls = s.calls; faults = s.faults } };
 }
 
 impl BytesSource {
@@ -118,7 +92,7 @@ impl BytesSource {
         ensures { result ≡ record { left = bytes; fail_at = fail_at; calls = 0; faults = 0 } }
     {
         BytesSource {
-            rest: Rest::new(bytes),
+            source: PlainSource::new(bytes),
             fail_at,
             calls: 0,
             faults: 0,
@@ -129,9 +103,7 @@ impl BytesSource {
 impl Source for BytesSource {
     ghost use Rattle.std.specs.Prelude.{Some};
 
-    ghost left = { λ s. Some s.left };
-
-    ghost faults = { λ s. s.faults };
+    ghost state = { λ s. record { left = Some s.left; faults = s.faults } };
 
     /// Refuses exactly the calls whose numbers are listed. Any other call fills the buffer from the front
     /// of what is left, as far as either goes.
@@ -160,6 +132,6 @@ impl Source for BytesSource {
             self.faults = self.faults.saturating_add(1);
             return Err(SourceFault);
         }
-        Ok(self.rest.take_into(buffer))
+        Ok(self.source.take_into(buffer))
     }
 }

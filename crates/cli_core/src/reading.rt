@@ -50,17 +50,17 @@ impl From<AllocError> for ReadAllError {
 
 /// All that a source has left. It reads on only while it has taken at most `LONGEST` bytes.
 pub fn read_all<S: Source>(alloc: Global, source: &mut S) -> Result<Vec<u8>, ReadAllError>
-    ensures all { IfOk result (λ v. ForSome (S.left source.old) (λ bytes.
-        (v.items ≡ bytes) × (S.left source.new ≡ Some []))) }
+    ensures all { IfOk result (λ v. ForSome (S.state source.old).left (λ bytes.
+        (v.items ≡ bytes) × ((S.state source.new).left ≡ Some []))) }
     ensures short { IfOk result (λ v. vec_len v ≤ LONGEST) }
-    ensures too_long { IsErrOf result TooLong → ForSome (S.left source.old) (λ bytes.
+    ensures too_long { IsErrOf result TooLong → ForSome (S.state source.old).left (λ bytes.
         LONGEST < length bytes) }
-    ensures early { IsErrOf result Fault → ForSome (S.left source.old) (λ bytes.
-        LeavesEnd LONGEST bytes (S.left source.new)) }
-    ensures end { ForSome (S.left source.old) (λ bytes.
-        LeavesEnd (LONGEST + CHUNK) bytes (S.left source.new)) }
+    ensures early { IsErrOf result Fault → ForSome (S.state source.old).left (λ bytes.
+        LeavesEnd LONGEST bytes (S.state source.new).left) }
+    ensures end { ForSome (S.state source.old).left (λ bytes.
+        LeavesEnd (LONGEST + CHUNK) bytes (S.state source.new).left) }
     ensures counted { CountsFault (is_read_fault result)
-        (S.faults source.old) (S.faults source.new) }
+        (S.state source.old).faults (S.state source.new).faults }
 {
     let mut all = Vec::new(alloc);
     let mut buffer = [0u8; CHUNK];

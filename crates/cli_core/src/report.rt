@@ -16,8 +16,8 @@ use std::alloc::{AllocError, Global};
 use sugar_path::Text;
 use tree_core::MemoryTree;
 
-/// The report on a document's bytes: the lines of its requests, in order, with trails where they are asked for; or the first
-/// cause against it.
+/// The report on a document's bytes: the lines of its requests, in order, with trails where they are asked for; or the
+/// first cause against it.
 pub fn report_for(alloc: Global, bytes: &[u8], trails: bool) -> Result<String, DocumentError>
     ensures { Meets (result_map_both string_bytes (λ e. e) result) (report trails bytes.now) }
 {

@@ -1,4 +1,5 @@
-// Any reader as a source and any writer as a sink, so that `run` can be given the standard streams. They tell nothing of content.
+// Any reader as a source and any writer as a sink, so that `run` can be given the standard streams. They tell nothing of
+// content.
 use crate::sink::{Sink, SinkFault};
 use crate::source::{Source, SourceFault};
 use std::io::{Read, Write};
@@ -19,9 +20,7 @@ impl<R: Read + Drop> ReaderSource<R> {
 impl<R: Read + Drop> Source for ReaderSource<R> {
     ghost use Rattle.std.specs.Prelude.{None};
 
-    ghost left = { λ s. None };
-
-    ghost faults = { λ s. s.faults };
+    ghost state = { λ s. record { left = None; faults = s.faults } };
 
     fn read(&mut self, buffer: &mut [u8]) -> Result<usize, SourceFault> {
         match self.reader.read(buffer) {
@@ -50,9 +49,7 @@ impl<W: Write + Drop> WriterSink<W> {
 impl<W: Write + Drop> Sink for WriterSink<W> {
     ghost use Rattle.std.specs.Prelude.{None};
 
-    ghost written = { λ s. None };
-
-    ghost faults = { λ s. s.faults };
+    ghost state = { λ s. record { written = None; faults = s.faults } };
 
     fn write(&mut self, piece: &[u8]) -> Result<usize, SinkFault> {
         match self.writer.write(piece) {

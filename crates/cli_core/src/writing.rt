@@ -7,9 +7,12 @@ use crate::sink::{Sink, SinkFault};
 
 /// Writes all of a text, or a front of it where the sink refuses. A sink that takes nothing of a piece refuses it.
 pub fn write_all<K: Sink>(sink: &mut K, text: &[u8]) -> Result<(), SinkFault>
-    ensures all { OnOk result (Appends text.now (K.written sink.old) (K.written sink.new)) }
-    ensures front { OnErr result (AppendsFront text.now (K.written sink.old) (K.written sink.new)) }
-    ensures counted { CountsFault (is_err result) (K.faults sink.old) (K.faults sink.new) }
+    ensures all { OnOk result (Appends text.now
+        (K.state sink.old).written (K.state sink.new).written) }
+    ensures front { OnErr result (AppendsFront text.now
+        (K.state sink.old).written (K.state sink.new).written) }
+    ensures counted { CountsFault (is_err result)
+        (K.state sink.old).faults (K.state sink.new).faults }
 {
     let mut done = 0;
     while done < text.len() {

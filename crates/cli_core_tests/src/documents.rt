@@ -282,9 +282,7 @@ struct Endless;
 impl Source for Endless {
     ghost use Rattle.std.specs.Prelude.{None};
 
-    ghost left = { λ _. None };
-
-    ghost faults = { λ _. 0 };
+    ghost state = { λ _. record { left = None; faults = 0 } };
 
     fn read(&mut self, buffer: &mut [u8]) -> Result<usize, SourceFault> {
         Ok(buffer.len())

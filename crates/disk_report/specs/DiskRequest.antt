@@ -1,14 +1,14 @@
 -- One request over a tree of files: the project that it is asked in, and the line of its verdict.
-use Rattle.std.specs.Prelude.{◌≡◌, ℕ, true, false, List, [], Option, Some, None, Result, Ok, Err}
-use Rattle.tree_core.specs.Plan.{answer}
+use Rattle.std.specs.Prelude.{◌≡◌, ℕ, true, false, List, [], Option, Some, None, Result, Ok, Err, IsOk}
+use Rattle.tree_core.specs.Plan.{Plan, answer}
 use Rattle.tree_core.specs.Tree.{Files}
 use Rattle.tree_core.specs.declared.tree.ReadError.{ReadError}
 use Rattle.tree_core.specs.declared.tree.ReadError.TheVariants as read_error
 use Rattle.resolve_stack.specs.Settings.{GivenSettings, ProjectSettings}
 use Rattle.resolve_stack.specs.Request.{asked_for}
 use Rattle.resolve_stack.specs.Verdict.{verdict}
+use Rattle.resolve_stack.specs.declared.verdict.Verdict.{Verdict}
 use Rattle.swc_loader.specs.declared.resolution.FileName.TheVariants.{Real}
-use Rattle.swc_loader.specs.declared.target.TargetEnv.{TargetEnv}
 use Rattle.document_core.specs.Document.{project_in}
 use Rattle.document_core.specs.declared.cause.Cause.{Cause}
 use Rattle.report_core.specs.Lines.{verdict_line}
@@ -16,19 +16,9 @@ use Rattle.document_core.specs.declared.cause.DocumentError.{DocumentError}
 use Rattle.document_core.specs.declared.cause.DocumentError.TheVariants as document_error
 use Rattle.resolve_stack.specs.declared.import.ImportError.{ImportError}
 use Rattle.resolve_stack.specs.declared.import.ImportError.TheVariants as import_error
-use Rattle.disk_report.specs.declared.disk_request.DiskRequest.{DiskRequest}
+use Rattle.disk_report.specs.Asked.{Asked}
 use Rattle.disk_report.specs.declared.disk_request.DiskError.{DiskError}
 use Rattle.disk_report.specs.declared.disk_request.DiskError.TheVariants.{Refused, TreeFault, NoMemory}
-
--- what is asked: a specifier, by a file's path, from a working folder and for a target
-pub record Asked : Type 0 where
-  pub cwd : List ℕ
-  pub target : TargetEnv
-  pub importer : List ℕ
-  pub specifier : List ℕ
-
-abbrev pub asked_in : DiskRequest → Asked
-asked_in r = record { cwd = r.cwd.now; target = r.target; importer = r.importer.now; specifier = r.specifier.now }
 
 -- all other settings are as they are by default
 abbrev pub settings_for : Asked → GivenSettings
@@ -46,17 +36,13 @@ settings_for r = record {
 abbrev pub project_of : Asked → Result ProjectSettings Cause
 project_of r = project_in (settings_for r)
 
+-- the plan of the verdict, in a project
+abbrev pub plan_of : ProjectSettings → Asked → Plan Verdict
+plan_of project r = verdict project (asked_for (Real r.importer) r.specifier)
+
 -- the line of the verdict on a tree, in a project
 unfoldable pub line_in : Files → ProjectSettings → Asked → List ℕ
-line_in t project r = verdict_line (answer t (verdict project (asked_for (Real r.importer) r.specifier)))
-
-abbrev pub report_in : Files → Asked → Result ProjectSettings Cause → Result (List ℕ) Cause
-report_in t r (Ok project) = Ok (line_in t project r)
-report_in t r (Err cause) = Err cause
-
--- the line of the verdict on a tree, or the cause against the project
-abbrev pub report_on : Files → Asked → Result (List ℕ) Cause
-report_on t r = report_in t r (project_of r)
+line_in t project r = verdict_line (answer t (plan_of project r))
 
 -- an error as one of the tree's: a refusal isn't one
 abbrev pub as_read : {A : Type 0} → Result A DiskError → Result (Option A) ReadError
@@ -74,10 +60,10 @@ abbrev pub of_import : ImportError → DiskError
 of_import import_error.TreeFault = TreeFault
 of_import import_error.NoMemory = NoMemory
 
--- a refusal is the cause against the project
+-- a refusal is the cause against the project, and the tree fails only where the project is accepted
 abbrev pub IsCauseOf : Asked → DiskError → Type 0
 IsCauseOf r (Refused cause) = project_of r ≡ Err cause
-IsCauseOf r TreeFault = Unit {0}
+IsCauseOf r TreeFault = IsOk (project_of r)
 IsCauseOf r NoMemory = Unit {0}
 
 -- no refusal

@@ -1,19 +1,21 @@
 // One request over any tree, asked in a project of default settings.
-ghost use Rattle.std.specs.Prelude.{◌≡◌, IsTrue, IsOk, IfOk, IfErr, OnOk, Ok, None, string_bytes};
-ghost use Rattle.tree_core.specs.Tree.{Files, HasCause};
+ghost use Rattle.std.specs.Prelude.{◌≡◌, IfOk, IfErr, IsErr, None, Ok, string_bytes};
+ghost use Rattle.tree_core.specs.Tree.{HasCause};
 ghost use Rattle.document_core.specs.Document.{settings_in};
-ghost use Rattle.disk_report.specs.DiskRequest.{asked_in, project_of, settings_for, line_in, report_on, as_read, IsCauseOf, IsUnrefused};
+ghost use Rattle.disk_report.specs.DiskRequest.{project_of, settings_for, as_read, IsCauseOf, IsUnrefused};
+ghost use Rattle.disk_report.specs.Outcome.{HasOutcome};
 
 use document_core::{Cause, DocumentError, GivenSettings, project_in};
 use json_reading::Object;
 use report_core::line_of_verdict;
 use resolve_stack::{FileName, ImportError, Project, TargetEnv, resolve_import};
 use std::alloc::{AllocError, Global};
+use std::marker::Model;
 use sugar_path::Text;
 use tree_core::Tree;
 
 /// A request over a tree: the importer is a path, and what isn't said here is as in a document that doesn't say it.
-#[derive(Clone, Copy)]
+#[derive(Debug, Drop)]
 pub struct DiskRequest<'w> {
     /// The working folder, a clean absolute path where the project isn't to be refused.
     pub cwd: &'w str,
@@ -21,6 +23,19 @@ pub struct DiskRequest<'w> {
     /// The path of the file that asks, read from the working folder.
     pub importer: &'w str,
     pub specifier: &'w str,
+}
+
+impl<'w> Model for DiskRequest<'w> {
+    ghost use Rattle.disk_report.specs.Asked.{Asked};
+
+    ghost Value = { Asked };
+
+    ghost view = { λ r. record {
+      cwd = r.cwd.now;
+      target = r.target;
+      importer = r.importer.now;
+      specifier = r.specifier.now;
+    } };
 }
 
 /// Why a request over a tree has no line.
@@ -79,12 +94,12 @@ pub fn line_on_tree<T: Tree>(
     tree: &mut T,
     request: &DiskRequest<'_>,
 ) -> Result<String, DiskError>
-    // The line is that of the verdict on each tree of files that the object stands for.
-    ensures line { IfOk result (λ line. (t : Files) → IsTrue ((T.state tree.old).stands_for t)
-        → report_on t (asked_in request.now) ≡ Ok (string_bytes line)) }
-    // A refusal is the project's, and a project that is refused has no line.
-    ensures accepted { OnOk result (IsOk (project_of (asked_in request.now))) }
-    ensures refused { IfErr result (IsCauseOf (asked_in request.now)) }
+    // The line is that of an outcome, whose trail decides it.
+    ensures outcome { IfOk result (λ line. HasOutcome (T.state tree.old).stands_for request.now
+        (λ told. string_bytes line ≡ told)) }
+    // A refusal is the project's, and over a project that is refused the tree isn't asked.
+    ensures refused { IfErr result (IsCauseOf request.now) }
+    ensures unasked { IsErr (project_of request.now) → tree.new ≡ tree.old }
     ensures stands { (T.state tree.new).stands_for ≡ (T.state tree.old).stands_for }
     ensures cause { HasCause (T.state tree.old).faults (T.state tree.new).faults (as_read result) }
 {
@@ -97,7 +112,7 @@ pub fn line_on_tree<T: Tree>(
 // The settings of a document that says nothing but the working folder and the target.
 fn settings_for(alloc: Global, request: &DiskRequest<'_>) -> Result<GivenSettings, AllocError>
     ensures { IfOk result (λ settings.
-        settings_in settings None ≡ settings_for (asked_in request.now)) }
+        settings_in settings None ≡ settings_for request.now) }
 {
     Ok(GivenSettings {
         cwd: Text::of(alloc, request.cwd)?,
@@ -109,15 +124,16 @@ fn settings_for(alloc: Global, request: &DiskRequest<'_>) -> Result<GivenSetting
     })
 }
 
-// The line of the verdict in a project.
+// The line of the verdict in the request's project.
 fn line_in<T: Tree>(
     alloc: Global,
     tree: &mut T,
     project: &Project<'_>,
     request: &DiskRequest<'_>,
 ) -> Result<String, DiskError>
-    ensures line { IfOk result (λ line. (t : Files) → IsTrue ((T.state tree.old).stands_for t)
-        → string_bytes line ≡ line_in t project.now (asked_in request.now)) }
+    requires { project_of request.now ≡ Ok project.now }
+    ensures outcome { IfOk result (λ line. HasOutcome (T.state tree.old).stands_for request.now
+        (λ told. string_bytes line ≡ told)) }
     ensures unrefused { IfErr result IsUnrefused }
     ensures stands { (T.state tree.new).stands_for ≡ (T.state tree.old).stands_for }
     ensures cause { HasCause (T.state tree.old).faults (T.state tree.new).faults (as_read result) }

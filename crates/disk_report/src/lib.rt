@@ -1,4 +1,5 @@
-//! One request over a tree that isn't a document's, such as the real disk: its project by default settings, and its line.
+//! One request over a tree that isn't a document's, such as the real disk: its project by default settings, and its
+//! line.
 #![tactic(auto)]
 
 mod disk_request;

@@ -4,8 +4,9 @@
 #![tactic(auto)]
 
 ghost use Rattle.std.specs.Prelude.{◌≡◌, true, Some, IfOk, IfSome};
-ghost use Rattle.cli_core.specs.Command.{asked, reader_of};
+ghost use Rattle.cli_core.specs.Command.{asked};
 ghost use Rattle.cli_core.specs.Run.{reply_for};
+ghost use Rattle.cli_core.specs.declared.command.Command.TheVariants.{Report};
 
 mod cut_short;
 mod replays;
@@ -138,7 +139,7 @@ fn written(
 
 // The words that ask for the command which reads a document of a kind.
 fn words(alloc: Global, kind: DocumentKind) -> Result<Vec<String>, AllocError>
-    ensures { IfOk result (λ words. asked words.items ≡ Some (reader_of kind)) }
+    ensures { IfOk result (λ words. asked words.items ≡ Some (Report kind)) }
 {
     match kind {
         DocumentKind::Requests { trails: false } => {

@@ -72,6 +72,17 @@ fn a_disk_that_fails_has_no_answer(rt: HostRuntime) -> Result<(), Fail> {
     Ok(())
 }
 
+// Its first question would be refused.
+#[test]
+fn a_refused_project_asks_no_disk(rt: HostRuntime) -> Result<(), Fail> {
+    let mut disk = bound(rt.alloc())?.fail_at(List::from(vec![in rt.alloc(); 1u64]?));
+    let refused = "1 refused: bad-project SettingsFault cwd\n";
+    let words = "disk w node /w/a.js foo";
+    assert_eq!(rt; told_by(rt.alloc(), words, &mut disk)?.as_str(), refused);
+    assert_eq!(rt; disk.questions(), 0);
+    Ok(())
+}
+
 // Writes a package below the folder that the test runs in, and answers that folder.
 fn written<R: Files + Env + AllocGlobal>(rt: &R) -> io::Result<String> {
     fs::create_dir_all(rt, "shop/node_modules/q/lib")?;

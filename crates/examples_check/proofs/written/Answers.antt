@@ -9,11 +9,11 @@ returns-in-Done c =
     let named = ap asked c.deref.ensures.value ∙ c.in_ok-words.ensures in
     let given = ap (λ b. Some b) (c.new-source.ensures ∙ c.in_ok-from_vec.ensures) in
     let empty = ap (λ (s : CountingRoom). s.written) c.in_ok-sink.ensures in
-    holds_report c.args.kind _ _ _ _ empty (c.run.ensures.done c.args.kind named c.in-Done.is _ given)
+    holds_report c.args.kind _ _ _ _ empty ((c.run.ensures.reports c.args.kind named).1.done c.in-Done.is _ given)
 
 pub returns-in-Refused : goal.returns-in-Refused
 returns-in-Refused c =
     let named = ap asked c.deref.ensures.value ∙ c.in_ok-words.ensures in
     let given = ap (λ b. Some b) (c.new-source.ensures ∙ c.in_ok-from_vec.ensures) in
     let empty = ap (λ (s : CountingRoom). s.written) c.in_ok-sink.ensures in
-    holds_cause c.args.kind _ _ _ _ empty (c.run.ensures.refused c.args.kind named c.in-Refused.is _ given)
+    holds_cause c.args.kind _ _ _ _ empty ((c.run.ensures.reports c.args.kind named).1.refused c.in-Refused.is _ given)

@@ -7,7 +7,7 @@ use Rattle.cli_core.proofs.reading.read_all.Goals as goal
 
 pub returns-then-n-eq0-clause-all : goal.returns-then-n-eq0-clause-all
 returns-then-n-eq0-clause-all g c = λ bytes is.
-    let T : ℕ → Type 0 = λ n. (rest : List ℕ) → g.S.Source.left c.loop-buffer.source ≡ Some rest → Takes n c.read.new.buffer rest (g.S.Source.left c.read.new.self) in
+    let T : ℕ → Type 0 = λ n. (rest : List ℕ) → (g.S.Source.state c.loop-buffer.source).left ≡ Some rest → Takes n c.read.new.buffer rest (g.S.Source.state c.read.new.self).left in
     let some : 0 < length c.read.new.buffer = search rules in
     at_end bytes _ c.read.new.buffer _ _ (c.loop-buffer.invariant.front bytes is) some (subst T c.if-n-eq0.true c.in_ok-n.ensures.taken)
 

@@ -8,8 +8,8 @@ abbrev pub invariant-loop-buffer : goal.invariant-loop-buffer
 invariant-loop-buffer g l = record {
   size : length l.buffer ≡ CHUNK;
   bounded : length l.all.items ≤ LONGEST + CHUNK;
-  count : g.S.Source.faults l.source ≡ g.S.Source.faults l.fn.source;
-  front : (bytes : List ℕ) → g.S.Source.left l.fn.source ≡ Some bytes → Front bytes l.all.items (g.S.Source.left l.source);
+  count : (g.S.Source.state l.source).faults ≡ (g.S.Source.state l.fn.source).faults;
+  front : (bytes : List ℕ) → (g.S.Source.state l.fn.source).left ≡ Some bytes → Front bytes l.all.items (g.S.Source.state l.source).left;
 }
 
 -- each turn but the last takes a byte

@@ -1,43 +1,57 @@
-use Rattle.std.proofs.Common.{sym}
-use Rattle.cli_core.proofs.Words.{same_requests, same_steps}
+use Rattle.std.proofs.Common.{refl}
+use Rattle.cli_core.proofs.Ends.{asks_ends, generates_ends, no_disk_fault, no_read_fault}
+use Rattle.cli_core.proofs.Words.{same_kind, same_size, same_request}
 use Rattle.cli_core.proofs.running.run.Goals as goal
 
-pub returns-in-Resolve-clause-done : goal.returns-in-Resolve-clause-done
-returns-in-Resolve-clause-done g c = λ kind named is.
-    let same = same_requests _ kind c.in-Resolve.trails named (sym c.in-Some.ensures) c.in-Resolve.is in
-    rw same (c.resolve.ensures.done is)
+-- a command that reads a document
 
-pub returns-in-Session-clause-done : goal.returns-in-Session-clause-done
-returns-in-Session-clause-done g c = λ kind named is.
-    let same = same_steps _ kind named (sym c.in-Some.ensures) c.in-Session.is in
-    rw same (c.resolve-in-Session.ensures.done is)
+pub returns-in-Report-clause-usage : goal.returns-in-Report-clause-usage
+returns-in-Report-clause-usage g c = (λ usage. absurd (c.resolve.ensures.reports.ends.0 usage), λ none. cc c.in-Some.ensures)
 
-pub returns-in-Resolve-clause-refused : goal.returns-in-Resolve-clause-refused
-returns-in-Resolve-clause-refused g c = λ kind named is.
-    let same = same_requests _ kind c.in-Resolve.trails named (sym c.in-Some.ensures) c.in-Resolve.is in
-    rw same (c.resolve.ensures.refused is)
+pub returns-in-Report-clause-reports : goal.returns-in-Report-clause-reports
+returns-in-Report-clause-reports g c = λ kind named.
+    let same = same_kind _ kind c.in-Report.kind named c.in-Some.ensures c.in-Report.is in
+    rw (← same) (refl, c.resolve.ensures.reports)
 
-pub returns-in-Session-clause-refused : goal.returns-in-Session-clause-refused
-returns-in-Session-clause-refused g c = λ kind named is.
-    let same = same_steps _ kind named (sym c.in-Some.ensures) c.in-Session.is in
-    rw same (c.resolve-in-Session.ensures.refused is)
+pub returns-in-Report-clause-faults : goal.returns-in-Report-clause-faults
+returns-in-Report-clause-faults g c = record {
+  source = c.resolve.ensures.source_faults;
+  sink = c.resolve.ensures.sink_faults;
+  disk = no_disk_fault _ _ c.resolve.ensures.reports.ends.1;
+}
 
-pub returns-in-Resolve-clause-cut : goal.returns-in-Resolve-clause-cut
-returns-in-Resolve-clause-cut g c = λ kind named is.
-    let same = same_requests _ kind c.in-Resolve.trails named (sym c.in-Some.ensures) c.in-Resolve.is in
-    rw same (c.resolve.ensures.cut is)
+-- a generated project
 
-pub returns-in-Session-clause-cut : goal.returns-in-Session-clause-cut
-returns-in-Session-clause-cut g c = λ kind named is.
-    let same = same_steps _ kind named (sym c.in-Some.ensures) c.in-Session.is in
-    rw same (c.resolve-in-Session.ensures.cut is)
+pub returns-in-Generate-clause-usage : goal.returns-in-Generate-clause-usage
+returns-in-Generate-clause-usage g c = (λ usage. absurd ((generates_ends c.generate.ensures.generates.ends).0.usage usage), λ none. cc c.in-Some.ensures)
 
-pub returns-in-Resolve-clause-complete : goal.returns-in-Resolve-clause-complete
-returns-in-Resolve-clause-complete g c = λ kind named.
-    let same = same_requests _ kind c.in-Resolve.trails named (sym c.in-Some.ensures) c.in-Resolve.is in
-    rw same c.resolve.ensures.complete
+pub returns-in-Generate-clause-generates : goal.returns-in-Generate-clause-generates
+returns-in-Generate-clause-generates g c = λ size named.
+    let same = same_size _ size c.in-Generate.size named c.in-Some.ensures c.in-Generate.is in
+    rw (← same) (refl, refl, c.generate.ensures.generates)
 
-pub returns-in-Session-clause-complete : goal.returns-in-Session-clause-complete
-returns-in-Session-clause-complete g c = λ kind named.
-    let same = same_steps _ kind named (sym c.in-Some.ensures) c.in-Session.is in
-    rw same c.resolve-in-Session.ensures.complete
+pub returns-in-Generate-clause-faults : goal.returns-in-Generate-clause-faults
+returns-in-Generate-clause-faults g c =
+    let ends = generates_ends c.generate.ensures.generates.ends in
+    record {
+      source = no_read_fault _ _ ends.0.source;
+      sink = c.generate.ensures.sink_faults;
+      disk = no_disk_fault _ _ ends.1;
+    }
+
+-- a request over the disk
+
+pub returns-in-Disk-clause-usage : goal.returns-in-Disk-clause-usage
+returns-in-Disk-clause-usage g c = (λ usage. absurd ((asks_ends c.ask_disk.ensures.asks).usage usage), λ none. cc c.in-Some.ensures)
+
+pub returns-in-Disk-clause-asks : goal.returns-in-Disk-clause-asks
+returns-in-Disk-clause-asks g c = λ request named.
+    let same = same_request _ request c.in-Disk.request named c.in-Some.ensures c.in-Disk.is in
+    rw (← same) (refl, c.ask_disk.ensures.asks)
+
+pub returns-in-Disk-clause-faults : goal.returns-in-Disk-clause-faults
+returns-in-Disk-clause-faults g c = record {
+  source = no_read_fault _ _ (asks_ends c.ask_disk.ensures.asks).source;
+  sink = c.ask_disk.ensures.sink_faults;
+  disk = c.ask_disk.ensures.tree_faults;
+}

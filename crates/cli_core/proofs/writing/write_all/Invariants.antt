@@ -6,8 +6,8 @@ use Rattle.cli_core.proofs.writing.write_all.Given as goal
 abbrev pub invariant-loop-done : goal.invariant-loop-done
 invariant-loop-done g l = record {
   within : l.done ≤ length l.text;
-  count : g.K.Sink.faults l.sink ≡ g.K.Sink.faults l.fn.sink;
-  front : Appends (take l.done l.text) (g.K.Sink.written l.fn.sink) (g.K.Sink.written l.sink);
+  count : (g.K.Sink.state l.sink).faults ≡ (g.K.Sink.state l.fn.sink).faults;
+  front : Appends (take l.done l.text) (g.K.Sink.state l.fn.sink).written (g.K.Sink.state l.sink).written;
 }
 
 -- each turn but the last takes a byte
