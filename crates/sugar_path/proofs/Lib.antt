@@ -26,3 +26,4 @@ pub mod StdPaths
 pub mod PlainNames
 pub mod Upwards
 pub mod StdParents
+pub mod Words

@@ -10,7 +10,8 @@ use Rattle.yarn_lock_parser.specs.Cut.{after_empty_line, after_later_empty_line,
 use Rattle.yarn_lock_parser.specs.Laws.{AllButLast, EndsWithEmptyLine, EntriesEndWithEmptyLines, IsLineEnd}
 use Rattle.yarn_lock_parser.proofs.Cuts.{run-cons}
 use Rattle.yarn_lock_parser.proofs.Every.{every-none, every-more}
-use Rattle.yarn_lock_parser.proofs.Fronts.{after-some, front-append}
+use Rattle.sugar_path.proofs.Words.{after-some}
+use Rattle.yarn_lock_parser.proofs.Fronts.{front-append}
 use Rattle.yarn_lock_parser.proofs.Locks.{entry_text-shortens}
 use Rattle.yarn_lock_parser.proofs.Rests.{either_form, run-whole}
 
@@ -48,7 +49,7 @@ record CutHere (t r : List ℕ) : Type 0 where
   is : t ≡ front ++ r
   ends : EndsWithEmptyLine front
 
--- the same, where the empty line isn't the first one
+-- a text cut behind an empty line that isn't its first line
 record CutLater (t r : List ℕ) : Type 0 where
   before : List ℕ
   blanks : List ℕ

@@ -7,9 +7,10 @@ use Rattle.std.proofs.lemmas.List.{reverse-append, reverse-reverse, take-append-
 use Rattle.std.proofs.lemmas.Bool.Decides.{eqb_tells}
 use Rattle.std.proofs.lemmas.Str.{len_utf8_ascii}
 use Rattle.yarn_lock_parser.specs.ByteSet.{is_quote}
-use Rattle.yarn_lock_parser.specs.Front.{before, run}
+use Rattle.sugar_path.specs.Front.{before}
+use Rattle.yarn_lock_parser.specs.Front.{run}
 use Rattle.yarn_lock_parser.specs.Dependencies.{before_quotes, trimmed}
-use Rattle.yarn_lock_parser.proofs.Fronts.{before-some, before-append, before-lacks}
+use Rattle.sugar_path.proofs.Words.{before-some, before-append, before-lacks}
 use Rattle.yarn_lock_parser.proofs.Cuts.{run-cons, run-nil}
 
 pub before_quotes-quote : (s t : List ℕ) → before (34 ∷ []) s ≡ Some t → before_quotes s ≡ before_quotes t

@@ -12,14 +12,14 @@ use Rattle.yarn_lock_parser.specs.ByteSet.{is_blank, is_no_line_feed, is_no_quot
 use Rattle.sugar_path.specs.Front.{◌>>=◌, after}
 use Rattle.yarn_lock_parser.specs.Front.{after_optional, run, some_run, after_blanks, after_line_end, line_at, quoted_at, IsRest, some}
 use Rattle.yarn_lock_parser.specs.Metadata.{after_compression}
-use Rattle.yarn_lock_parser.proofs.Fronts.{after-some}
+use Rattle.sugar_path.proofs.Words.{after-some}
 
 -- where two parts fit one after the other, the first fits, and then the next
 pub first_and_next : {A B : Type 0} (o : Option A) (next : A → Option B) (y : B) → (o >>= next) ≡ Some y → (x : A) × (o ≡ Some x) × (next x ≡ Some y)
 first_and_next None next y e = cc
 first_and_next (Some x) next y e = (x, refl, e)
 
--- the same, for a proof that goes on with what the first part gives
+-- two parts that fit, for a proof that goes on with what the first part gives
 pub step : {A B P : Type 0} (o : Option A) (next : A → Option B) (y : B) → (o >>= next) ≡ Some y → ((x : A) → o ≡ Some x → next x ≡ Some y → P) → P
 step None next y e go = cc
 step (Some x) next y e go = go x refl e

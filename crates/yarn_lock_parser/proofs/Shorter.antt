@@ -10,7 +10,7 @@ use Rattle.yarn_lock_parser.specs.Front.{after_optional, run, after_line_end, Is
 use Rattle.yarn_lock_parser.specs.Descriptors.{descriptor_at, next_descriptor}
 use Rattle.yarn_lock_parser.specs.Dependencies.{deeper, line_rest, dependency_version, dependency_at}
 use Rattle.yarn_lock_parser.specs.Metas.{property_at, noted, flag_under, meta_at}
-use Rattle.yarn_lock_parser.proofs.Fronts.{after-some}
+use Rattle.sugar_path.proofs.Words.{after-some}
 use Rattle.yarn_lock_parser.proofs.Rests.{first_and_next, step, either_form, tested, IsLater, behind, later, then_later, after-rest, after_optional-rest, run-rest, run-whole, some_run-later, after_line_end-later, line_at-later, quoted_at-later}
 use Rattle.yarn_lock_parser.proofs.Every.{Shortens, some-rest}
 

@@ -4,11 +4,11 @@ use Rattle.std.specs.Prelude.{unwrap_or}
 use Rattle.std.specs.List.{AllByRecursion}
 use Rattle.std.proofs.lemmas.List.{take-append-drop, reverse-append, reverse-reverse}
 use Rattle.yarn_lock_parser.specs.ByteSet.{is_quote, is_no_line_feed, is_no_quote}
-use Rattle.sugar_path.specs.Front.{after}
-use Rattle.yarn_lock_parser.specs.Front.{before, before_optional, run, some_run, line_at, quoted_at, front, IsRest, up_to, every, some}
+use Rattle.sugar_path.specs.Front.{after, before}
+use Rattle.yarn_lock_parser.specs.Front.{before_optional, run, some_run, line_at, quoted_at, front, IsRest, up_to, every, some}
 use Rattle.yarn_lock_parser.specs.Dependencies.{before_quotes, trimmed}
 use Rattle.yarn_lock_parser.specs.Slices.{IsSlice}
-use Rattle.yarn_lock_parser.proofs.Fronts.{before-some}
+use Rattle.sugar_path.proofs.Words.{before-some}
 use Rattle.yarn_lock_parser.proofs.Rests.{step, tested, itself, behind, run-rest, run-whole, some_run-run, after-rest}
 use Rattle.yarn_lock_parser.proofs.Every.{Leaves, up_to-none, up_to-some}
 

@@ -1,9 +1,10 @@
 -- The descriptors on an entry's first line.
+-- A `do` here is over readings: it goes on with what a reading gives, and gives nothing where one of them doesn't read.
 use Rattle.std.specs.Prelude.{ℕ, List, [], ◌∷◌, ◌++◌, Option, Some, option_map, codes}
 use Rattle.std.specs.Option.{option_or}
 use Rattle.yarn_lock_parser.specs.ByteSet.{is_descriptor_byte, is_no_at}
-use Rattle.sugar_path.specs.Front.{◌>>=◌, after}
-use Rattle.yarn_lock_parser.specs.Front.{after_optional, before, run, some_run, line_at, front, every}
+use Rattle.sugar_path.specs.Front.{◌>>=◌, after, before}
+use Rattle.yarn_lock_parser.specs.Front.{after_optional, run, some_run, line_at, front, every}
 
 -- the line's text before its `:`, which a carriage return may follow
 unfoldable pub before_colon : List ℕ → Option (List ℕ)

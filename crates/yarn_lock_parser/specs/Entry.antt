@@ -1,4 +1,5 @@
 -- An entry of a lock file, and what a text is refused for as an entry.
+-- A `do` here is over results: it goes on with what a step gives, and ends by the first error.
 use Rattle.std.specs.Prelude.{ℕ, Bool, true, false, ◌==◌, ◌-◌, List, [], ◌∷◌, length, map, Result, Ok, Err, ok_or, slice_get}
 use Rattle.std.specs.Option.{option_map_or}
 use Rattle.yarn_lock_parser.specs.ByteSet.{is_blank}

@@ -24,7 +24,7 @@ meta_eq = eq_of_both (on (λ m. m.0) bytes_eq) (on (λ m. m.1.optional) (option_
 meta_eq_equiv : IsEquivalence meta_eq
 meta_eq_equiv = and_equiv (on_equiv (λ m. m.0) nat_list_eq_equiv) (on_equiv (λ m. m.1.optional) (options_equiv bool_eq_equiv))
 
--- the same, by what a meta's flag means
+-- metas are equal, by what a meta's flag means
 abbrev pub flagged_eq : List ℕ × Flag → List ℕ × Flag → Bool
 flagged_eq = on as_meta meta_eq
 

@@ -1,17 +1,14 @@
 -- What a text's front is, and what follows it. A reading of a front is what the front says, and the text that follows it.
-use Rattle.std.specs.Prelude.{◌≡◌, ◌++◌, ℕ, Bool, zero, suc, ◌==◌, ◌-◌, if◌then◌else◌, List, [], ◌∷◌, length, take, drop, reverse, Option, Some, None, option_map, unwrap_or}
+-- A `do` here is over readings: it goes on with what a reading gives, and gives nothing where one of them doesn't read.
+use Rattle.std.specs.Prelude.{◌≡◌, ◌++◌, ℕ, Bool, zero, suc, ◌==◌, ◌-◌, if◌then◌else◌, List, [], ◌∷◌, length, take, drop, Option, Some, None, option_map, unwrap_or}
 use Rattle.std.specs.Option.{option_or}
 use Rattle.std.specs.List.{prefix_len}
-use Rattle.sugar_path.specs.Front.{◌>>=◌, after}
+use Rattle.sugar_path.specs.Front.{◌>>=◌, after, before}
 use Rattle.yarn_lock_parser.specs.ByteSet.{is_blank, is_no_line_feed, is_no_quote}
 
 -- what follows a word that may stand at the front
 abbrev pub after_optional : List ℕ → List ℕ → List ℕ
 after_optional word t = unwrap_or (after word t) t
-
--- what stands before a word at the end
-unfoldable pub before : List ℕ → List ℕ → Option (List ℕ)
-before word t = option_map reverse (after (reverse word) (reverse t))
 
 -- what stands before a word that may stand at the end
 abbrev pub before_optional : List ℕ → List ℕ → List ℕ
@@ -21,7 +18,7 @@ before_optional word t = unwrap_or (before word t) t
 unfoldable pub run : (ℕ → Bool) → List ℕ → List ℕ × List ℕ
 run set t = (take (prefix_len set t) t, drop (prefix_len set t) t)
 
--- the same run, of one byte or more
+-- the longest run of a set's bytes at the front, where it has one byte or more
 unfoldable pub some_run : (ℕ → Bool) → List ℕ → Option (List ℕ × List ℕ)
 some_run set t = if length (run set t).0 == 0 then None else Some (run set t)
 
@@ -67,6 +64,6 @@ up_to part (suc n) t = elim (part t) [
 unfoldable pub every : {A : Type 0} → (List ℕ → Option (A × List ℕ)) → List ℕ → List A × List ℕ
 every part t = up_to part (length t) t
 
--- the same, of one part or more
+-- as many parts as fit, where one or more do
 unfoldable pub some : {A : Type 0} → (List ℕ → Option (A × List ℕ)) → List ℕ → Option (List A × List ℕ)
 some part t = if length (every part t).0 == 0 then None else Some (every part t)

@@ -1,4 +1,5 @@
 -- The comment lines that a lock file begins with.
+-- A `do` here is over readings: it goes on with what a reading gives, and gives nothing where one of them doesn't read.
 use Rattle.std.specs.Prelude.{ℕ, Bool, List, Option, Some, codes, is_some, unwrap_or}
 use Rattle.std.specs.Option.{option_map_or}
 use Rattle.yarn_lock_parser.specs.ByteSet.{is_white_space}

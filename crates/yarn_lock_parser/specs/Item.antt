@@ -1,4 +1,5 @@
 -- The items of an entry, each by the first form that fits at its place.
+-- A `do` here is over readings: it goes on with what a reading gives, and gives nothing where one of them doesn't read.
 use Rattle.std.specs.Prelude.{ℕ, List, Option, option_map}
 use Rattle.std.specs.Option.{option_or}
 use Rattle.sugar_path.specs.Front.{◌>>=◌}

@@ -1,4 +1,5 @@
 -- A whole lock file, and where and why a text is none.
+-- A `do` here is over results: it goes on with what a step gives, and ends by the first error.
 use Rattle.std.specs.Prelude.{ℕ, Bool, true, false, ◌+◌, ◌-◌, List, [], ◌∷◌, ◌≡◌, length, Option, Some, None, Result, Ok, Err, ok_or}
 use Rattle.yarn_lock_parser.specs.declared.error.LockCause.{LockCause}
 use Rattle.yarn_lock_parser.specs.declared.error.LockCause.TheVariants as causes

@@ -1,4 +1,5 @@
 -- What an entry says of its dependencies under a heading.
+-- A `do` here is over readings: it goes on with what a reading gives, and gives nothing where one of them doesn't read.
 use Rattle.std.specs.Prelude.{ℕ, Bool, true, false, if◌then◌else◌, List, [], ◌∷◌, bytes_eq, Option, Some, None, codes}
 use Rattle.std.specs.Option.{option_or}
 use Rattle.std.specs.List.{fold}

@@ -1,4 +1,4 @@
-use Rattle.yarn_lock_parser.proofs.Fronts.{before-strip_suffix}
+use Rattle.sugar_path.proofs.Words.{before-strip_suffix}
 use Rattle.yarn_lock_parser.proofs.front.before.Goals as goal
 
 pub returns : goal.returns
