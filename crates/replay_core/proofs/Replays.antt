@@ -16,7 +16,7 @@ use Rattle.tree_core.proofs.Replies.{question_eq-is, question_eq-refl}
 use Rattle.replay_core.proofs.AgreeingTests.{agrees_with-passes}
 use Rattle.replay_core.specs.declared.replaying.ReplayError.{ReplayError}
 use Rattle.replay_core.specs.declared.replaying.ReplayError.TheVariants.{NotRecorded, NoMemory}
-use Rattle.replay_core.specs.Replaying.{first_unrecorded, IsReplayed, IsMissing, Replays, GivesAgain, IsSearch}
+use Rattle.replay_core.specs.Replaying.{first_unrecorded, IsReplayedAnswer, IsMissing, Replays, GivesAgain, IsSearch}
 use Rattle.replay_core.specs.ReplayingParts.{questions_of, misses, if_unrecorded, ended, IsUnlessStarved}
 
 -- a question of a trail that another one lacks makes one of the trail's questions the first such one
@@ -146,7 +146,7 @@ unrecorded_is trail (Some p) q is = by_reply (reply_in trail p) refl is
     by_reply None lacks is = (is, lacks_first trail (p ∷ []) q (ap (λ o. cond (is_none o) (Some p) None) lacks ∙ is))
     by_reply (Some r) has is = cc
 
-replayed : {A : Type 0} (trail : List (Question × Reply)) (missing : Option Question) (old new : Asking) (r : Result A ReadError) (plan : Plan A) (a : A) → OnAgreeing trail old new r plan → (first : Option Question) → first_unrecorded trail (questions_of new.trail) ≡ first → ended trail first missing r ≡ Ok a → IsReplayed a trail plan
+replayed : {A : Type 0} (trail : List (Question × Reply)) (missing : Option Question) (old new : Asking) (r : Result A ReadError) (plan : Plan A) (a : A) → OnAgreeing trail old new r plan → (first : Option Question) → first_unrecorded trail (questions_of new.trail) ≡ first → ended trail first missing r ≡ Ok a → IsReplayedAnswer a trail plan
 replayed trail missing old new r plan a on (Some q) first is = cc
 replayed trail missing old new (Ok b) plan a on None first is =
     let same : b ≡ a = cc in record {

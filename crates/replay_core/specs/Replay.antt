@@ -39,7 +39,7 @@ left_by q (Err Fault) r = refused q (counted r)
 left_by q (Err NoMemory) r = counted r
 
 -- A question to a tree that answers from a trail: the first reply that is recorded is answered, and just a question that isn't recorded is a fault.
-pub record IsReplayed {A : Type 0} (wrap : A → Reply) (q : Question)
+pub record IsRepliedFromTrail {A : Type 0} (wrap : A → Reply) (q : Question)
     (old new : Replay) (result : Result A ReadError) : Type 0 where
   pub put : IsPut wrap q (replay_state old) (replay_state new) result
   pub known : IfOk result (λ a. reply_in old.trail q ≡ Some (wrap a))

@@ -17,7 +17,7 @@ abbrev pub first_unrecorded : List (Question × Reply) → List Question → Opt
 first_unrecorded trail questions = find (λ q. is_none (reply_in trail q)) questions
 
 -- A replayed answer: on each tree that agrees with the trail it is the plan's, and the trail has all questions that the plan puts there.
-pub record IsReplayed {A : Type 0}
+pub record IsReplayedAnswer {A : Type 0}
     (a : A) (trail : List (Question × Reply)) (plan : Plan A) : Type 0 where
   pub answers : (t : Files) → Agrees t trail → a ≡ answer t plan
   pub recorded : (t : Files) → Agrees t trail → first_unrecorded trail (asked t plan) ≡ None
@@ -28,19 +28,19 @@ pub record IsMissing {A : Type 0}
   pub lacked : reply_in trail q ≡ None
   pub first : (t : Files) → Agrees t trail → first_unrecorded trail (asked t plan) ≡ Some q
 
--- What a replay of a plan answers: the plan's answer, or the question that it misses. Want of memory says nothing.
+-- What a replay of a plan answers: the plan's answer, or the question that it misses. Out of memory, nothing is said.
 abbrev pub Replays : {A : Type 0} →
     Result A ReplayError → List (Question × Reply) → Plan A → Type 0
-Replays (Ok a) trail plan = IsReplayed a trail plan
+Replays (Ok a) trail plan = IsReplayedAnswer a trail plan
 Replays (Err (NotRecorded q)) trail plan = IsMissing q trail plan
 Replays (Err NoMemory) trail plan = Unit {0}
 
--- the answer itself, unless memory is wanting
+-- the answer itself, unless it is out of memory
 abbrev pub IsAgain : {A : Type 0} → Result A ReplayError → A → Type 0
 IsAgain (Ok b) a = b ≡ a
 IsAgain (Err e) a = e ≡ NoMemory
 
--- Where a tree agrees with a trail that settles an answer, a replay of the trail gives that answer, unless memory is wanting.
+-- Where a tree agrees with a trail that settles an answer, a replay of the trail gives that answer, unless it is out of memory.
 pub record GivesAgain {A : Type 0}
     (result : Result A ReplayError) (trail : List (Question × Reply)) (plan : Plan A) : Type 0 where
   pub again : (t : Files) (a : A) → Agrees t trail → Settles a trail plan → IsAgain result a

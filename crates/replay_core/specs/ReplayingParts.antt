@@ -17,7 +17,7 @@ abbrev pub misses : {A : Type 0} → Option Question → Result A ReplayError
 misses (Some q) = Err (NotRecorded q)
 misses None = Err NoMemory
 
--- the error of a question that is missed, unless memory is wanting
+-- the error of a question that is missed, unless it is out of memory
 abbrev pub IsMissedOf : ReplayError → Option Question → Type 0
 IsMissedOf (NotRecorded q) o = o ≡ Some q
 IsMissedOf NoMemory o = Unit {0}
@@ -39,7 +39,7 @@ abbrev pub ended : {A : Type 0} → List (Question × Reply) → Option Question
 ended trail (Some q) missing result = Err (NotRecorded q)
 ended trail None missing result = decided trail missing result
 
--- a result that is this one, unless memory is wanting
+-- a result that is this one, unless it is out of memory
 abbrev pub IsUnlessStarved : {A : Type 0} → Result A ReplayError → Result A ReplayError → Type 0
 IsUnlessStarved (Ok a) end = end ≡ Ok a
 IsUnlessStarved (Err (NotRecorded q)) end = end ≡ Err (NotRecorded q)

@@ -8,12 +8,12 @@ ghost use Rattle.tree_core.specs.declared.question.Question.TheVariants.{File, D
 ghost use Rattle.tree_core.specs.declared.question.Reply.TheVariants.{Flag, Bytes as BytesReply, Name};
 ghost use Rattle.tree_core.specs.declared.tree.ReadError.TheVariants.{Fault, NoMemory};
 
-use std::alloc::{AllocError, Global};
+use std::alloc::Global;
 use sugar_path::{Bytes, Text};
 use tree_core::{Question, ReadError, Reply, Trail, Tree};
 
-/// A tree that answers from a lent trail: it stands for the trees that agree with it. Of a question that stands twice in the
-/// trail the first reply counts. A question that isn't there is a fault.
+/// A tree that answers from a borrowed trail: it stands for the trees that agree with it. Of a question that stands
+/// twice in the trail the first reply counts. A question that isn't there is a fault.
 #[derive(Drop)]
 pub struct ReplayTree<'t> {
     alloc: Global,
@@ -97,14 +97,14 @@ impl<'t> ReplayTree<'t> {
 }
 
 impl<'t> Tree for ReplayTree<'t> {
-    ghost use Rattle.replay_core.specs.Replay.{replay_state, IsReplayed};
+    ghost use Rattle.replay_core.specs.Replay.{replay_state, IsRepliedFromTrail};
     ghost use Rattle.replay_core.specs.ReplayView.{replay_of};
 
     ghost state = { λ r. replay_state (replay_of r) };
 
     fn is_file(&mut self, p: &str) -> Result<bool, ReadError>
         requires { IsCleanPath p.now }
-        ensures { IsReplayed Flag (File p.now) (replay_of self.old) (replay_of self.new) result }
+        ensures { IsRepliedFromTrail Flag (File p.now) (replay_of self.old) (replay_of self.new) result }
     {
         self.count();
         match self.recorded(Question::File(Text::of(self.alloc, p)?))? {
@@ -115,7 +115,7 @@ impl<'t> Tree for ReplayTree<'t> {
 
     fn is_dir(&mut self, p: &str) -> Result<bool, ReadError>
         requires { IsCleanPath p.now }
-        ensures { IsReplayed Flag (Dir p.now) (replay_of self.old) (replay_of self.new) result }
+        ensures { IsRepliedFromTrail Flag (Dir p.now) (replay_of self.old) (replay_of self.new) result }
     {
         self.count();
         match self.recorded(Question::Dir(Text::of(self.alloc, p)?))? {
@@ -126,7 +126,7 @@ impl<'t> Tree for ReplayTree<'t> {
 
     fn exists(&mut self, p: &str) -> Result<bool, ReadError>
         requires { IsCleanPath p.now }
-        ensures { IsReplayed Flag (Exists p.now) (replay_of self.old) (replay_of self.new) result }
+        ensures { IsRepliedFromTrail Flag (Exists p.now) (replay_of self.old) (replay_of self.new) result }
     {
         self.count();
         match self.recorded(Question::Exists(Text::of(self.alloc, p)?))? {
@@ -137,41 +137,25 @@ impl<'t> Tree for ReplayTree<'t> {
 
     fn read(&mut self, alloc: Global, p: &str) -> Result<Option<Bytes>, ReadError>
         requires { IsCleanPath p.now }
-        ensures { IsReplayed BytesReply (Read p.now) (replay_of self.old) (replay_of self.new) result }
+        ensures { IsRepliedFromTrail BytesReply (Read p.now) (replay_of self.old) (replay_of self.new) result }
     {
         self.count();
-        match self.recorded(Question::Read(Text::of(self.alloc, p)?))? {
-            Reply::Bytes(bytes) => Ok(copy_of_bytes(alloc, bytes)?),
+        let reply = self.recorded(Question::Read(Text::of(self.alloc, p)?))?;
+        match reply.try_clone(alloc)? {
+            Reply::Bytes(bytes) => Ok(bytes),
             _ => unreachable!(),
         }
     }
 
     fn canonical(&mut self, alloc: Global, p: &str) -> Result<Option<Text>, ReadError>
         requires { IsCleanPath p.now }
-        ensures { IsReplayed Name (Canon p.now) (replay_of self.old) (replay_of self.new) result }
+        ensures { IsRepliedFromTrail Name (Canon p.now) (replay_of self.old) (replay_of self.new) result }
     {
         self.count();
-        match self.recorded(Question::Canon(Text::of(self.alloc, p)?))? {
-            Reply::Name(name) => Ok(copy_of_name(alloc, name)?),
+        let reply = self.recorded(Question::Canon(Text::of(self.alloc, p)?))?;
+        match reply.try_clone(alloc)? {
+            Reply::Name(name) => Ok(name),
             _ => unreachable!(),
         }
-    }
-}
-
-fn copy_of_bytes(alloc: Global, bytes: &Option<Bytes>) -> Result<Option<Bytes>, AllocError>
-    ensures { IfOk result (λ o. o ≡ bytes.now) }
-{
-    match bytes {
-        None => Ok(None),
-        Some(bytes) => Ok(Some(bytes.try_clone(alloc)?)),
-    }
-}
-
-fn copy_of_name(alloc: Global, name: &Option<Text>) -> Result<Option<Text>, AllocError>
-    ensures { IfOk result (λ o. o ≡ name.now) }
-{
-    match name {
-        None => Ok(None),
-        Some(name) => Ok(Some(name.try_clone(alloc)?)),
     }
 }

@@ -19,7 +19,7 @@ pub enum ReplayError {
     /// The search puts a question to which the trail has no reply: the first such one.
     #[error("the trail has no reply to a question")]
     NotRecorded { question: Question },
-    /// No memory was found.
+    /// Out of memory.
     #[error("no memory was found")]
     NoMemory,
 }
@@ -31,7 +31,8 @@ pub fn replayed<A: Drop>(
     recorder: Recorder<'_, ReplayTree<'_>>,
     found: Result<A, ReadError>,
 ) -> Result<A, ReplayError>
-    // By whatever plan it searched, the answer is the plan's, or the question told is the plan's first one that the trail lacks.
+    // By whatever plan it searched, the answer is the plan's, or the question told is the plan's first one that the
+    // trail lacks.
     ensures { (before : Asking) (plan : Plan A)
         → IsSearch trail.now before (asking_of recorder.entry) found plan
         → Replays result trail.now plan }
@@ -40,7 +41,8 @@ pub fn replayed<A: Drop>(
     end_of(alloc, trail, &put, tree.missing(), found)
 }
 
-// How the replay ends. A question that was put and isn't recorded is the first; else a fault refused the one that the tree missed.
+// How the replay ends. A question that was put and isn't recorded is the first; else a fault refused the one that the
+// tree missed.
 fn end_of<A: Drop>(
     alloc: Global,
     trail: &Trail,

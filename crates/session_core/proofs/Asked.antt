@@ -61,7 +61,7 @@ asked_whole t project request o before now is put = record {
   };
 }
 
--- where memory was wanting
+-- out of memory
 pub starved : (s : Session) (importer : FileName) (specifier : List ℕ) (tree : Memory) (capacity : ℕ) (kept : List Entry) → tree.files ≡ s.tree.files → capacity ≡ s.capacity → kept ≡ s.kept → StarvedAt s.tree.files s.tree.questions tree.questions (verdict s.project (asked_for importer specifier)) → IsStarved importer specifier s (record { project = s.project; tree = tree; capacity = capacity; kept = kept })
 starved s importer specifier tree capacity kept files same_capacity same_kept asked = record {
   questions = tree.questions;

@@ -13,7 +13,7 @@ use Rattle.tree_core.specs.declared.question.Reply.{Reply}
 use Rattle.tree_core.specs.declared.question.Reply.TheVariants.{Flag, Bytes, Name}
 use Rattle.tree_core.specs.declared.tree.TreeFile.{TreeFile}
 use Rattle.tree_core.specs.Question.{path_asked, question_eq, reply_in}
-use Rattle.tree_core.specs.Tree.{Files, reply, is_file, is_folder, stands_above, Agrees, AgreeOn, recorded, noted, noted_as}
+use Rattle.tree_core.specs.Tree.{Files, reply, is_file, is_root_text, is_folder, stands_above, Agrees, AgreeOn, recorded, noted, noted_as}
 use Rattle.tree_core.specs.Plan.{answer, asked}
 use Rattle.tree_core.specs.Memory.{with_file}
 use Rattle.tree_core.proofs.Asking.{decided}
@@ -108,7 +108,7 @@ keys-any t u P kept h =
 -- a path that doesn't stand above the edited one is a folder as before
 folder-same : (t u : Files) (path q : List ℕ) → SameBut t u path → stands_above q path ≡ false → is_folder u q ≡ is_folder t q
 folder-same t u path q same apart =
-    ap (λ b. bytes_eq q (47 ∷ []) || b)
+    ap (λ b. is_root_text q || b)
     (both_ways (list_any (stands_above q) (finite.keys u)) (list_any (stands_above q) (finite.keys t))
     (keys-any u t (stands_above q) (λ k pass there. sym (ap is_some (same.elsewhere k (other k pass))) ∙ there))
     (keys-any t u (stands_above q) (λ k pass there. ap is_some (same.elsewhere k (other k pass)) ∙ there)))

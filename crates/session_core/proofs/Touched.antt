@@ -6,8 +6,8 @@ use Rattle.std.proofs.lemmas.Slice.Eq.{bytes_eq-Decides}
 use Rattle.tree_core.specs.declared.question.Question.{Question}
 use Rattle.tree_core.specs.declared.question.Reply.{Reply}
 use Rattle.tree_core.specs.Question.{path_asked}
-use Rattle.tree_core.specs.Tree.{stands_above}
-use Rattle.tree_core.proofs.Above.{above-is, above-trans, above-shorter, cut-above, of_two_above}
+use Rattle.tree_core.specs.Tree.{is_root_text, stands_above}
+use Rattle.tree_core.proofs.Above.{continues, continues-from, above-from, above-is, above-trans, above-shorter, cut-above, of_two_above}
 use Rattle.session_core.specs.declared.latest.Entry.{Entry}
 use Rattle.session_core.specs.Entries.{bears_on, asks, is_asking, is_touched, untouched}
 use Rattle.session_core.proofs.Lists.{filter-less, filter-all}
@@ -59,21 +59,21 @@ untouched-dropped path folder kept bears = filter-less (is_touched path) (is_ask
 abbrev pub TouchedAsks : List ℕ → (List ℕ → Bool) → Entry → Type 0
 TouchedAsks path test e = is_touched path e ≡ true → asks test e.outcome.trail ≡ true
 
--- Where what asks on a folder is dropped, what an edit touches asks on a path above it.
-pub asks-above : (path folder : List ℕ) (test : List ℕ → Bool) (kept : List Entry) → ((a : List ℕ) → test a ≡ true → (a ≡ folder) ⊎ (stands_above a folder ≡ true)) → AllByRecursion (TouchedAsks path test) kept → AllByRecursion (TouchedAsks path (λ a. stands_above a folder)) (filter (λ e. not (is_asking folder e)) kept)
-asks-above path folder test [] cut all = tt
-asks-above path folder test (e ∷ kept) cut all = by_test (is_asking folder e) refl (asks-above path folder test kept cut all.1)
+-- Where what asks on a path is dropped, what an edit touches asks on one of the others that pass.
+pub asks-others : (path folder : List ℕ) (test others : List ℕ → Bool) (kept : List Entry) → ((a : List ℕ) → test a ≡ true → (a ≡ folder) ⊎ (others a ≡ true)) → AllByRecursion (TouchedAsks path test) kept → AllByRecursion (TouchedAsks path others) (filter (λ e. not (is_asking folder e)) kept)
+asks-others path folder test others [] cut all = tt
+asks-others path folder test others (e ∷ kept) cut all = by_test (is_asking folder e) refl (asks-others path folder test others kept cut all.1)
   where
-    either : (a : List ℕ) → test a ≡ true → (bytes_eq a folder || stands_above a folder) ≡ true
+    either : (a : List ℕ) → test a ≡ true → (bytes_eq a folder || others a) ≡ true
     either a h = elim (cut a h) [
-      | inl same ↦ or_left (bytes_eq a folder) (stands_above a folder) ((bytes_eq-Decides a folder).1 same)
-      | inr above ↦ or_right (bytes_eq a folder) (stands_above a folder) above
+      | inl same ↦ or_left (bytes_eq a folder) (others a) ((bytes_eq-Decides a folder).1 same)
+      | inr other ↦ or_right (bytes_eq a folder) (others a) other
     ]
 
-    by_test : (b : Bool) → is_asking folder e ≡ b → AllByRecursion (TouchedAsks path (λ a. stands_above a folder)) (filter (λ e. not (is_asking folder e)) kept) → AllByRecursion (TouchedAsks path (λ a. stands_above a folder)) (cond (not b) (e ∷ filter (λ e. not (is_asking folder e)) kept) (filter (λ e. not (is_asking folder e)) kept))
+    by_test : (b : Bool) → is_asking folder e ≡ b → AllByRecursion (TouchedAsks path others) (filter (λ e. not (is_asking folder e)) kept) → AllByRecursion (TouchedAsks path others) (cond (not b) (e ∷ filter (λ e. not (is_asking folder e)) kept) (filter (λ e. not (is_asking folder e)) kept))
     by_test true asking rest = rest
     by_test false other rest = (
-      λ touched. asks-either (λ a. bytes_eq a folder) (λ a. stands_above a folder) e.outcome.trail (asks-more test (λ a. bytes_eq a folder || stands_above a folder) e.outcome.trail either (all.0 touched)) other,
+      λ touched. asks-either (λ a. bytes_eq a folder) others e.outcome.trail (asks-more test (λ a. bytes_eq a folder || others a) e.outcome.trail either (all.0 touched)) other,
       rest,
     )
 
@@ -81,44 +81,74 @@ pub asks-begin : (path : List ℕ) (kept : List Entry) → AllByRecursion (Touch
 asks-begin path [] = tt
 asks-begin path (e ∷ kept) = (λ h. h, asks-begin path kept)
 
-pub bears-cases : (path a : List ℕ) → bears_on path a ≡ true → (a ≡ path) ⊎ (stands_above a path ≡ true)
-bears-cases path a h = elim (or_cases (bytes_eq a path) (stands_above a path) h) [
+pub bears-path : (path : List ℕ) → bears_on path path ≡ true
+bears-path path = or_left (bytes_eq path path) (stands_above path path) ((bytes_eq-Decides path path).1 refl)
+
+-- an edit bears on each question on `/`
+pub bears-root : (path : List ℕ) → bears_on path (47 ∷ []) ≡ true
+bears-root path = by_test (is_root_text path) refl
+  where
+    by_test : (b : Bool) → is_root_text path ≡ b → bears_on path (47 ∷ []) ≡ true
+    by_test true e = or_left (bytes_eq (47 ∷ []) path) (not (is_root_text path)) ((bytes_eq-Decides (47 ∷ []) path).1 (sym ((bytes_eq-Decides path (47 ∷ [])).0 e)))
+    by_test false e = or_right (bytes_eq (47 ∷ []) path) (not (is_root_text path)) (ap not e)
+
+-- a path is this one, or goes on behind it
+abbrev pub on_way : List ℕ → List ℕ → Bool
+on_way path a = bytes_eq a path || continues a path
+
+pub way-cases : (path a : List ℕ) → on_way path a ≡ true → (a ≡ path) ⊎ (continues a path ≡ true)
+way-cases path a h = elim (or_cases (bytes_eq a path) (continues a path) h) [
   | inl same ↦ inl ((bytes_eq-Decides a path).0 same)
   | inr above ↦ inr above
 ]
 
-pub bears-path : (path : List ℕ) → bears_on path path ≡ true
-bears-path path = or_left (bytes_eq path path) (stands_above path path) ((bytes_eq-Decides path path).1 refl)
+pub way-path : (path : List ℕ) → on_way path path ≡ true
+way-path path = or_left (bytes_eq path path) (continues path path) ((bytes_eq-Decides path path).1 refl)
 
-pub bears-above : (path a : List ℕ) → stands_above a path ≡ true → bears_on path a ≡ true
-bears-above path a h = or_right (bytes_eq a path) (stands_above a path) h
-
--- With nothing above, an edit touches nothing more.
-pub none-touched : (path folder : List ℕ) (kept : List Entry) → ((a : List ℕ) → stands_above a folder ≡ false) → AllByRecursion (TouchedAsks path (λ a. stands_above a folder)) kept → untouched path kept ≡ kept
-none-touched path folder kept none all = filter-all (is_touched path) kept (each kept all)
+-- an edit bears on its path, and on what its path goes on behind
+pub way-bears : (path a : List ℕ) → on_way path a ≡ true → bears_on path a ≡ true
+way-bears path a h = by_root (is_root_text a) refl (or_cases (bytes_eq a path) (continues a path) h)
   where
-    each : (kept : List Entry) → AllByRecursion (TouchedAsks path (λ a. stands_above a folder)) kept → AllByRecursion (λ e. is_touched path e ≡ false) kept
+    by_root : (b : Bool) → is_root_text a ≡ b → (bytes_eq a path ≡ true) ⊎ (continues a path ≡ true) → bears_on path a ≡ true
+    by_root b e (inl same) = or_left (bytes_eq a path) (stands_above a path) same
+    by_root true e (inr more) = ap (bears_on path) ((bytes_eq-Decides a (47 ∷ [])).0 e) ∙ bears-root path
+    by_root false e (inr more) = or_right (bytes_eq a path) (stands_above a path) (above-from a path e more)
+
+-- what an edit bears on is `/`, its path, or what its path goes on behind
+pub bears-cases : (path a : List ℕ) → bears_on path a ≡ true → (a ≡ 47 ∷ []) ⊎ (on_way path a ≡ true)
+bears-cases path a h = by_root (is_root_text a) refl (or_cases (bytes_eq a path) (stands_above a path) h)
+  where
+    by_root : (b : Bool) → is_root_text a ≡ b → (bytes_eq a path ≡ true) ⊎ (stands_above a path ≡ true) → (a ≡ 47 ∷ []) ⊎ (on_way path a ≡ true)
+    by_root b e (inl same) = inr (or_left (bytes_eq a path) (continues a path) same)
+    by_root true e (inr above) = inl ((bytes_eq-Decides a (47 ∷ [])).0 e)
+    by_root false e (inr above) = inr (or_right (bytes_eq a path) (continues a path) (continues-from a path e above))
+
+-- With none that passes, an edit touches nothing more.
+pub none-touched : (path : List ℕ) (test : List ℕ → Bool) (kept : List Entry) → ((a : List ℕ) → test a ≡ false) → AllByRecursion (TouchedAsks path test) kept → untouched path kept ≡ kept
+none-touched path test kept none all = filter-all (is_touched path) kept (each kept all)
+  where
+    each : (kept : List Entry) → AllByRecursion (TouchedAsks path test) kept → AllByRecursion (λ e. is_touched path e ≡ false) kept
     each [] all = tt
     each (e ∷ kept) all = (by_test (is_touched path e) all.0, each kept all.1)
       where
-        by_test : (b : Bool) → (b ≡ true → asks (λ a. stands_above a folder) e.outcome.trail ≡ true) → b ≡ false
-        by_test true h = let asked = h refl in let no = asks-none (λ a. stands_above a folder) e.outcome.trail none in cc
+        by_test : (b : Bool) → (b ≡ true → asks test e.outcome.trail ≡ true) → b ≡ false
+        by_test true h = let asked = h refl in let no = asks-none test e.outcome.trail none in cc
         by_test false h = refl
 
-pub bears-cut : (path folder a : List ℕ) → bears_on path folder ≡ true → stands_above a folder ≡ true → bears_on path a ≡ true
-bears-cut path folder a bears above = elim (bears-cases path folder bears) [
-  | inl same ↦ bears-above path a (subst (λ (p : List ℕ). stands_above a p ≡ true) same above)
-  | inr higher ↦ bears-above path a (above-trans a folder path above higher)
+pub way-cut : (path folder a : List ℕ) → on_way path folder ≡ true → continues a folder ≡ true → on_way path a ≡ true
+way-cut path folder a way above = elim (way-cases path folder way) [
+  | inl same ↦ or_right (bytes_eq a path) (continues a path) (subst (λ (p : List ℕ). continues a p ≡ true) same above)
+  | inr higher ↦ or_right (bytes_eq a path) (continues a path) (above-trans a folder path above higher)
 ]
 
 -- what stands above a path that is cut at its last slash is what is left of it, or stands above that
-pub above-cut : (q p : List ℕ) (k : ℕ) → k < length p → get_or p k 0 ≡ 47 → ((i : ℕ) → k < i → i < length p → get_or p i 0 ≢ 47) → stands_above q p ≡ true → (q ≡ take k p) ⊎ (stands_above q (take k p) ≡ true)
+pub above-cut : (q p : List ℕ) (k : ℕ) → k < length p → get_or p k 0 ≡ 47 → ((i : ℕ) → k < i → i < length p → get_or p i 0 ≢ 47) → continues q p ≡ true → (q ≡ take k p) ⊎ (continues q (take k p) ≡ true)
 above-cut q p k lt is last h =
     let first = above-is q p h in
     let second = above-is (take k p) p (cut-above p k lt is) in
     by_case (of_two_above q (take k p) first.0 second.0 (sym first.1 ∙ second.1))
   where
-    by_case : (q ≡ take k p) ⊎ ((stands_above q (take k p) ≡ true) ⊎ (stands_above (take k p) q ≡ true)) → (q ≡ take k p) ⊎ (stands_above q (take k p) ≡ true)
+    by_case : (q ≡ take k p) ⊎ ((continues q (take k p) ≡ true) ⊎ (continues (take k p) q ≡ true)) → (q ≡ take k p) ⊎ (continues q (take k p) ≡ true)
     by_case (inl w) = inl w
     by_case (inr (inl w)) = inr w
     by_case (inr (inr w)) =
@@ -129,10 +159,10 @@ above-cut q p k lt is last h =
         absurd (last (length q) (omega (arith, length-take k p)) inside at)
 
 -- with no slash nothing stands above
-pub none-above : (q p : List ℕ) → ((i : ℕ) → i < length p → get_or p i 0 ≢ 47) → stands_above q p ≡ false
-none-above q p none = by_test (stands_above q p) refl
+pub none-above : (q p : List ℕ) → ((i : ℕ) → i < length p → get_or p i 0 ≢ 47) → continues q p ≡ false
+none-above q p none = by_test (continues q p) refl
   where
-    by_test : (b : Bool) → stands_above q p ≡ b → stands_above q p ≡ false
+    by_test : (b : Bool) → continues q p ≡ b → continues q p ≡ false
     by_test true e =
         let is = above-is q p e in
         let at : get_or p (length q) 0 ≡ 47 = rw is.1 (get_or-append_seam q 47 is.0 0) in

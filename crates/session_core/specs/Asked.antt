@@ -11,7 +11,7 @@ use Rattle.session_core.specs.declared.session.Session.{Session as Held}
 use Rattle.session_core.specs.contracts.session.Session.{the_row}
 use Rattle.session_core.specs.Session.{Session}
 
--- Where memory was wanting, nothing but the count of questions changed. The tree was asked once for each different one of some first questions of the request, and at most once more.
+-- Out of memory, nothing but the count of questions changed. The tree was asked once for each different one of some first questions of the request, and at most once more.
 pub record IsStarved (importer : FileName) (specifier : List ℕ) (old new : Session) : Type 0 where
   pub questions : ℕ
   pub same : new ≡ record old { tree = record old.tree { questions = questions } }
@@ -21,6 +21,6 @@ pub record IsStarved (importer : FileName) (specifier : List ℕ) (old new : Ses
 abbrev pub session_row : RattleType
 session_row = the_row (record { mir = named 1; lft = [] })
 
--- What holds of a session when the loan of what it lent has ended.
+-- What holds of a session when the outcome that was borrowed from it is given back.
 abbrev pub AfterLoan : MutBor Held → (Held → Type 0) → Fml
 AfterLoan s Holds = follows_so session_row session_row s.ghost_name none (λ _ _. ⊤) Holds

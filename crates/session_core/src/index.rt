@@ -1,4 +1,5 @@
-// Where the numbers of entries are noted: by a hash of an entry's request, and by one of each path that its trail asks on.
+// Where the numbers of entries are noted: by a hash of an entry's request, and by one of each path that its trail
+// asks on.
 ghost use Rattle.std.specs.Prelude.{◌≡◌, ◌<◌, ◌^◌, ℕ, [], false, nat_eq, bytes_eq, IsTrue, IfNone, IfSome, OnOk};
 ghost use Rattle.std.specs.List.{AllByRecursion, IsDistinct};
 ghost use Rattle.std.specs.Map.{keys_of};
@@ -36,7 +37,8 @@ pub(crate) struct Noted {
     number: u64,
 }
 
-/// The numbers of entries. No entry is missing; what is noted beyond that costs time alone, since what is found is compared.
+/// The numbers of entries. No entry is missing; what is noted beyond that costs time alone, since what is found is
+/// compared.
 #[derive(Drop)]
 pub(crate) struct EntryIndex {
     noted: BTreeSet<Noted>,

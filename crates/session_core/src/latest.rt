@@ -16,7 +16,7 @@ use std::num::NonZeroUsize;
 use sugar_path::Text;
 
 /// An outcome that is kept, with its request.
-pub struct Entry {
+pub(crate) struct Entry {
     pub(crate) importer: FileName,
     pub(crate) specifier: Text,
     pub(crate) outcome: Outcome,
@@ -35,7 +35,7 @@ impl Drop for Entry {
 
 /// Entries by numbers of their own.
 #[derive(Drop)]
-pub struct Latest {
+pub(crate) struct Latest {
     entries: LruCache<u64, Entry>,
     // the number of the next entry: those that are there have lower ones
     next: u64,
@@ -121,6 +121,8 @@ impl Latest {
         ensures capacity { self.new.capacity ≡ self.old.capacity }
     {
         let before = self.len();
+        // `/` stands above every other path, but cutting a path at its slashes never leaves it
+        self.drop_asking("/");
         self.drop_asking(path);
         let mut folder = path;
         while let Some(at) = folder.rfind('/') {

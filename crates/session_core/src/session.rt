@@ -19,7 +19,8 @@ use std::alloc::{AllocError, Global};
 use sugar_path::Text;
 use tree_core::{MemoryTree, PutError};
 
-/// A project with a tree of its own, and the latest outcomes. Each outcome that is kept is the one on the tree as it is now.
+/// A project with a tree of its own, and the latest outcomes. Each outcome that is kept is the one on the tree as it
+/// is now.
 #[derive(Drop)]
 pub struct Session<'l> {
     alloc: Global,
@@ -126,7 +127,8 @@ impl<'l> Session<'l> {
         &entry.outcome
     }
 
-    /// Puts a file in the tree, in place of an earlier one at the path. It answers how many outcomes are dropped by that.
+    /// Puts a file in the tree, in place of an earlier one at the path. It answers how many outcomes are dropped by
+    /// that.
     pub fn put(&mut self, path: &str, bytes: &[u8], canonical: &str) -> Result<usize, PutError>
         ensures ok { OnOk result (state_of self.new ≡ after_put (state_of self.old) path.now
             (record { content = bytes.now; canonical = canonical.now })) }
@@ -142,7 +144,8 @@ impl<'l> Session<'l> {
         Ok(self.latest.drop_touched(path))
     }
 
-    /// Takes a file out of the tree. It answers how many outcomes are dropped by that, and None where no file has the path. It takes no memory.
+    /// Takes a file out of the tree. It answers how many outcomes are dropped by that, and None where no file has the
+    /// path. It takes no memory.
     pub fn remove(&mut self, path: &str) -> Option<usize>
         ensures was { is_some result ≡ is_file (state_of self.old).tree.files path.now }
         ensures gone { OnSome result

@@ -4,7 +4,11 @@ use resolve_stack::Outcome;
 use std::alloc::{AllocError, Global};
 
 /// The line of an outcome.
-pub fn line_of(alloc: Global, specifier: &str, outcome: &Outcome) -> Result<String, AllocError> {
+pub(crate) fn line_of(
+    alloc: Global,
+    specifier: &str,
+    outcome: &Outcome,
+) -> Result<String, AllocError> {
     let mut line = String::from_str(alloc, specifier)?;
     for (question, _) in outcome.trail.iter() {
         push_word(&mut line, question.path())?;
@@ -30,7 +34,7 @@ fn specifier_of(line: &str) -> &str {
 }
 
 /// Whether the outcome of a specifier is kept.
-pub fn has(kept: &str, specifier: &str) -> bool {
+pub(crate) fn has(kept: &str, specifier: &str) -> bool {
     for line in kept.lines() {
         if specifier_of(line) == specifier {
             return true;
@@ -40,7 +44,7 @@ pub fn has(kept: &str, specifier: &str) -> bool {
 }
 
 /// What is kept once the outcome of a line is used: that one first, and then the others, up to a capacity.
-pub fn renewed(
+pub(crate) fn renewed(
     alloc: Global,
     kept: &str,
     used: &str,
@@ -59,7 +63,7 @@ pub fn renewed(
 }
 
 /// How many outcomes an edit drops.
-pub fn count_touched(kept: &str, edited: &str) -> usize {
+pub(crate) fn count_touched(kept: &str, edited: &str) -> usize {
     let mut count: usize = 0;
     for line in kept.lines() {
         if is_touched(line, edited) {
@@ -70,7 +74,7 @@ pub fn count_touched(kept: &str, edited: &str) -> usize {
 }
 
 /// What an edit leaves.
-pub fn untouched(alloc: Global, kept: &str, edited: &str) -> Result<String, AllocError> {
+pub(crate) fn untouched(alloc: Global, kept: &str, edited: &str) -> Result<String, AllocError> {
     let mut lines = String::new(alloc);
     for line in kept.lines() {
         if !is_touched(line, edited) {
@@ -101,7 +105,7 @@ fn bears_on(edited: &str, asked: &str) -> bool {
 }
 
 /// The specifiers of what is kept.
-pub fn specifiers_of(alloc: Global, kept: &str) -> Result<String, AllocError> {
+pub(crate) fn specifiers_of(alloc: Global, kept: &str) -> Result<String, AllocError> {
     let mut specifiers = String::new(alloc);
     for line in kept.lines() {
         push_word(&mut specifiers, specifier_of(line))?;

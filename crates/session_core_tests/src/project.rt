@@ -8,7 +8,7 @@ use sugar_path::{List, Text};
 
 /// What decides requests besides `node_modules`.
 #[derive(Clone, Copy, Debug)]
-pub enum Kind {
+pub(crate) enum Kind {
     Plain,
     Manifest,
     BrowserMap,
@@ -17,7 +17,7 @@ pub enum Kind {
 }
 
 /// A project of a kind in the folder `/w`.
-pub fn project_of(alloc: Global, kind: Kind) -> Result<Project<'static>, Fail> {
+pub(crate) fn project_of(alloc: Global, kind: Kind) -> Result<Project<'static>, Fail> {
     Ok(Project::new(alloc, settings_of(alloc, kind)?)?)
 }
 
@@ -73,12 +73,17 @@ fn lock_of(kind: Kind) -> Option<&'static str> {
 }
 
 /// The importer of the tests.
-pub fn importer(alloc: Global) -> Result<FileName, AllocError> {
+pub(crate) fn importer(alloc: Global) -> Result<FileName, AllocError> {
     Ok(FileName::Real(Text::of(alloc, "/w/a.js")?))
 }
 
+/// `/` as an importer.
+pub(crate) fn root(alloc: Global) -> Result<FileName, AllocError> {
+    Ok(FileName::Real(Text::of(alloc, "/")?))
+}
+
 /// What a file holds that the tests put.
-pub fn text_of(kind: Kind, path: &str) -> &'static str {
+pub(crate) fn text_of(kind: Kind, path: &str) -> &'static str {
     if path.ends_with(".cjs") {
         return manifest();
     }
@@ -99,7 +104,7 @@ fn manifest() -> &'static str {
 }
 
 /// A session on a project with a manifest, which keeps two outcomes.
-pub fn session_of_two(alloc: Global) -> Result<Session<'static>, Fail> {
+pub(crate) fn session_of_two(alloc: Global) -> Result<Session<'static>, Fail> {
     let mut session = Session::new(alloc, project_of(alloc, Kind::Manifest)?, 2)?;
     for path in "/w/a.js /w/.pnp.cjs /w/lib/foo/index.js".split_whitespace() {
         session.put(path, text_of(Kind::Manifest, path).as_bytes(), path)?;
@@ -108,7 +113,7 @@ pub fn session_of_two(alloc: Global) -> Result<Session<'static>, Fail> {
 }
 
 /// Whether a session keeps the requests of some specifiers, the most recently used first. It takes no memory.
-pub fn keys_are(keys: Keys<'_>, specifiers: &str) -> bool {
+pub(crate) fn keys_are(keys: Keys<'_>, specifiers: &str) -> bool {
     let mut count: usize = 0;
     for specifier in specifiers.split_whitespace() {
         if !is_key(keys, count, specifier) {

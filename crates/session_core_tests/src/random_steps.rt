@@ -3,7 +3,7 @@
 ghost use Rattle.std.specs.Prelude.{◌<◌};
 
 use crate::kept::{count_touched, has, line_of, renewed, specifiers_of, untouched};
-use crate::project::{Kind, importer, keys_are, project_of, text_of};
+use crate::project::{Kind, importer, keys_are, project_of, root, text_of};
 use resolve_stack::{FileName, Outcome, Project, resolve_import};
 use session_core::{Keys, Session};
 use std::alloc::{AllocError, Global};
@@ -27,9 +27,9 @@ fn paths() -> &'static str {
 /w/beside.js"
 }
 
-// What is asked for.
+// What is asked for, the last two by `/` alone.
 fn specifiers() -> &'static str {
-    "foo ./part foo/index fs bar @app/foo /w/lib/foo"
+    "foo ./part foo/index fs bar @app/foo /w/lib/foo ./x ./w/part"
 }
 
 // What stays the same while steps are taken.
@@ -39,12 +39,22 @@ struct Given<'g> {
     kind: Kind,
     project: &'g Project<'static>,
     importer: &'g FileName,
+    root: &'g FileName,
 }
 
 impl Given<'_> {
+    // Who asks for a specifier.
+    fn importer_of(&self, specifier: &str) -> &FileName {
+        match specifier {
+            "./x" | "./w/part" => self.root,
+            _ => self.importer,
+        }
+    }
+
     // What a request comes to on a tree.
     fn resolved(&self, tree: &mut MemoryTree, specifier: &str) -> Result<Outcome, AllocError> {
-        match resolve_import(self.alloc, tree, self.project, self.importer, specifier) {
+        let importer = self.importer_of(specifier);
+        match resolve_import(self.alloc, tree, self.project, importer, specifier) {
             Ok(outcome) => Ok(outcome),
             Err(_) => Err(AllocError),
         }
@@ -100,7 +110,7 @@ impl Plain {
         Ok(known)
     }
 
-    // Whether a session keeps the same.
+    // Whether a session keeps what the list has.
     fn is_kept_by(&self, keys: Keys<'_>) -> Result<bool, AllocError> {
         let specifiers = specifiers_of(self.alloc, self.kept.as_str())?;
         Ok(keys_are(keys, specifiers.as_str()))
@@ -130,7 +140,7 @@ fn edit(
     }
 }
 
-// Whether a session lends what a request comes to on the plain tree, and puts no question where that is kept.
+// Whether a session gives what a request comes to on the plain tree, and puts no question where that is kept.
 fn ask(
     given: &Given<'_>,
     session: &mut Session<'_>,
@@ -150,19 +160,19 @@ fn is_asked_alike(
 ) -> Result<bool, AllocError> {
     let known = plain.note(specifier, outcome)?;
     let before = session.questions();
-    let same = lends(session, given.importer, specifier, outcome)?;
+    let same = gives(session, given.importer_of(specifier), specifier, outcome)?;
     Ok(same && known == (session.questions() == before))
 }
 
-// Whether a session lends this outcome: its verdict, and its trail with each reply.
-fn lends(
+// Whether a session gives this outcome: its verdict, and its trail with each reply.
+fn gives(
     session: &mut Session<'_>,
     importer: &FileName,
     specifier: &str,
     outcome: &Outcome,
 ) -> Result<bool, AllocError> {
-    let lent = session.ask(importer, specifier)?;
-    Ok(lent.verdict == outcome.verdict && lent.trail.iter().eq(outcome.trail.iter()))
+    let borrowed = session.ask(importer, specifier)?;
+    Ok(borrowed.verdict == outcome.verdict && borrowed.trail.iter().eq(outcome.trail.iter()))
 }
 
 // The next number of a plain generator, and one below `count` of its high bits.
@@ -196,7 +206,7 @@ fn step(
 ) -> Result<bool, AllocError> {
     let kind = pick(state, 6);
     let alike = if kind < 4 {
-        let specifier = word_at(specifiers(), pick(state, 7));
+        let specifier = word_at(specifiers(), pick(state, 9));
         ask(given, session, plain, specifier)?
     } else {
         let path = word_at(paths(), pick(state, 10));
@@ -236,11 +246,13 @@ fn alike_in_session(given: &Given<'_>, steps: u64) -> Result<u64, Fail> {
 fn alike_on(alloc: Global, kind: Kind, steps: u64) -> Result<u64, Fail> {
     let project = project_of(alloc, kind)?;
     let importer = importer(alloc)?;
+    let root = root(alloc)?;
     let given = Given {
         alloc,
         kind,
         project: &project,
         importer: &importer,
+        root: &root,
     };
     alike_in_session(&given, steps)
 }

@@ -19,13 +19,13 @@ use Rattle.std.proofs.Math.Seq.{get_or-append_seam, take-append_seam}
 use Rattle.std.proofs.lemmas.Bool.Decides.{Decides-eqb}
 use Rattle.std.proofs.lemmas.List.{append-nil}
 use Rattle.std.proofs.lemmas.Slice.Eq.{starts_is}
-use Rattle.tree_core.specs.Tree.{Files, TreeFile, IsValidTree, is_file, stands_above}
+use Rattle.tree_core.specs.Tree.{Files, TreeFile, IsValidTree, is_root_text, is_file, stands_above}
 use Rattle.tree_core.specs.Memory.{files_of, NoneAbove, conflict}
 use Rattle.tree_core.specs.Before.{HasNoLater, SharesNoFile}
-use Rattle.tree_core.proofs.Above.{above-is, above-shorter}
+use Rattle.tree_core.proofs.Above.{continues, above-continues, continues-from, above-is, above-shorter}
 use Rattle.tree_core.proofs.Prefixes.{starts_with-between}
 use Rattle.tree_core.proofs.Keys.{keys-files_of}
-use Rattle.tree_core.proofs.Conflicts.{Has, same_text, same_text-Decides, or_cases, or_left, or_right, has-head, has-tail, has-key, key-has, is-conflict, is-no_conflict}
+use Rattle.tree_core.proofs.Conflicts.{Has, same_text, same_text-Decides, or_cases, or_left, or_right, has-head, has-tail, has-key, key-has, file-apart, is-conflict, is-no_conflict}
 
 abbrev Entry : Type 0
 Entry = String Global × TreeFile
@@ -157,13 +157,13 @@ behind-front (d ∷ q) a b = by_rank (nat_cmp d d) refl (behind-front q a b)
 prefix-less : (q : List ℕ) (c : ℕ) (z : List ℕ) → slice_cmp nat_cmp q (q ++ c ∷ z) ≡ Less
 prefix-less q c z = ap (λ k. slice_cmp nat_cmp k (q ++ c ∷ z)) (sym (append-nil q)) ∙ behind-front q [] (c ∷ z)
 
-above-less : (q path : List ℕ) (c : ℕ) → stands_above q path ≡ true → slice_cmp nat_cmp q (path ++ c ∷ []) ≡ Less
+above-less : (q path : List ℕ) (c : ℕ) → continues q path ≡ true → slice_cmp nat_cmp q (path ++ c ∷ []) ≡ Less
 above-less q path c above =
     let is = above-is q path above in
     ap (slice_cmp nat_cmp q) (ap (λ p. p ++ c ∷ []) is.1 ∙ append_assoc q (47 ∷ is.0) (c ∷ [])) ∙ prefix-less q 47 (is.0 ++ c ∷ [])
 
 -- what begins with a text and is not below it shares just the text with a path below
-shared-above : (q x k : List ℕ) → starts_with nat_eq k q ≡ true → stands_above q k ≡ false → common_prefix_len nat_eq (q ++ 47 ∷ x) k ≡ length q
+shared-above : (q x k : List ℕ) → starts_with nat_eq k q ≡ true → continues q k ≡ false → common_prefix_len nat_eq (q ++ 47 ∷ x) k ≡ length q
 shared-above [] x [] h apart = refl
 shared-above [] x (c ∷ k) h apart = by_test (nat_eq 47 c) apart
   where
@@ -173,14 +173,14 @@ shared-above [] x (c ∷ k) h apart = by_test (nat_eq 47 c) apart
 shared-above (d ∷ q) x [] h apart = cc
 shared-above (d ∷ q) x (c ∷ k) h apart =
     let same : nat_eq d c ≡ true = and_left (nat_eq d c) _ h in
-    let rest = shared-above q x k (and_right (nat_eq d c) _ h) (ap (λ b. b && stands_above q k) (sym same) ∙ apart) in
+    let rest = shared-above q x k (and_right (nat_eq d c) _ h) (ap (λ b. b && continues q k) (sym same) ∙ apart) in
     ap (λ b. cond b (1 + common_prefix_len nat_eq (q ++ 47 ∷ x) k) 0) same ∙ (let more : 1 + common_prefix_len nat_eq (q ++ 47 ∷ x) k ≡ length (d ∷ q) = omega (arith, rest) in more)
 
-above-shares : (t : Files) (q path k : List ℕ) (c : ℕ) → IsValidTree t → IsSome (finite.get t q) → IsSome (finite.get t k) → stands_above q path ≡ true → slice_cmp nat_cmp k (path ++ c ∷ []) ≡ Less → is_le (slice_cmp nat_cmp q k) ≡ true → length q ≡ common_prefix_len nat_eq path k
+above-shares : (t : Files) (q path k : List ℕ) (c : ℕ) → IsValidTree t → IsSome (finite.get t q) → IsSome (finite.get t k) → continues q path ≡ true → slice_cmp nat_cmp k (path ++ c ∷ []) ≡ Less → is_le (slice_cmp nat_cmp q k) ≡ true → length q ≡ common_prefix_len nat_eq path k
 above-shares t q path k c valid there other above less le =
     let is = above-is q path above in
     let begins : starts_with nat_eq (path ++ c ∷ []) q ≡ true = (starts_is Decides-eqb (path ++ c ∷ []) q (starts_with nat_eq (path ++ c ∷ []) q) refl).1 ((47 ∷ is.0) ++ c ∷ []) (ap (λ p. p ++ c ∷ []) is.1 ∙ append_assoc q (47 ∷ is.0) (c ∷ [])) in
-    sym (ap (λ p. common_prefix_len nat_eq p k) is.1 ∙ shared-above q is.0 k (starts_with-between q k (path ++ c ∷ []) le less begins) (valid.apart q k there other))
+    sym (ap (λ p. common_prefix_len nat_eq p k) is.1 ∙ shared-above q is.0 k (starts_with-between q k (path ++ c ∷ []) le less begins) (sym (above-continues q k (file-apart t q valid there)) ∙ valid.apart q k there other))
 
 not_above : (b : Bool) → (b ≡ true → ⊥) → b ≡ false
 not_above true h = absurd (h refl)
@@ -189,13 +189,15 @@ not_above false h = refl
 -- So none is above where the last one in front of the path, with a byte behind it, shares no such file with the path.
 pub none-above : (t : Files) (path k text : List ℕ) (c : ℕ) → IsValidTree t → IsSome (finite.get t k) → slice_cmp nat_cmp k text ≡ Less → HasNoLater t text (Some k) → text ≡ path ++ c ∷ [] → SharesNoFile t path k → NoneAbove t path
 none-above t path k text c valid other less last is_text none = λ q there. not_above (stands_above q path) (λ above.
-    none q there above (above-shares t q path k c valid there other above (ap (slice_cmp nat_cmp k) (sym is_text) ∙ less) (last q there (ap (slice_cmp nat_cmp q) is_text ∙ above-less q path c above))))
+    let goes_on = continues-from q path (file-apart t q valid there) above in
+    none q there above (above-shares t q path k c valid there other goes_on (ap (slice_cmp nat_cmp k) (sym is_text) ∙ less) (last q there (ap (slice_cmp nat_cmp q) is_text ∙ above-less q path c goes_on))))
 
-pub none-above-first : (t : Files) (path text : List ℕ) (c : ℕ) → HasNoLater t text None → text ≡ path ++ c ∷ [] → NoneAbove t path
-none-above-first t path text c last is_text = λ q there. not_above (stands_above q path) (λ above. last q there (ap (slice_cmp nat_cmp q) is_text ∙ above-less q path c above))
+pub none-above-first : (t : Files) (path text : List ℕ) (c : ℕ) → IsValidTree t → HasNoLater t text None → text ≡ path ++ c ∷ [] → NoneAbove t path
+none-above-first t path text c valid last is_text = λ q there. not_above (stands_above q path) (λ above.
+    last q there (ap (slice_cmp nat_cmp q) is_text ∙ above-less q path c (continues-from q path (file-apart t q valid there) above)))
 
 -- where a path goes on behind what stands above it
-pub above-at : (q path : List ℕ) (n : ℕ) → n ≡ length q → stands_above q path ≡ true → (n < length path) × (get_or path n 0 ≡ 47) × (take n path ≡ q)
+pub above-at : (q path : List ℕ) (n : ℕ) → n ≡ length q → continues q path ≡ true → (n < length path) × (get_or path n 0 ≡ 47) × (take n path ≡ q)
 above-at q path n at above =
     let is = above-is q path above in
     let inside : length q < length path = above-shorter q path above in
@@ -212,15 +214,15 @@ not_less-empty [] less = cc
 not_less-empty (z ∷ k) less = cc
 
 -- A `0` follows `/`, so what is below a path is in front of the path with a `0` behind it.
-below-less : (path q : List ℕ) → stands_above path q ≡ true → slice_cmp nat_cmp q (path ++ 48 ∷ []) ≡ Less
+below-less : (path q : List ℕ) → continues path q ≡ true → slice_cmp nat_cmp q (path ++ 48 ∷ []) ≡ Less
 below-less path q below = let is = above-is path q below in ap (λ k. slice_cmp nat_cmp k (path ++ 48 ∷ [])) is.1 ∙ behind-front path (47 ∷ is.0) (48 ∷ [])
 
 -- what stands between one below a path and that text is below too
-below-between : (p rest k : List ℕ) → is_le (slice_cmp nat_cmp (p ++ 47 ∷ rest) k) ≡ true → slice_cmp nat_cmp k (p ++ 48 ∷ []) ≡ Less → stands_above p k ≡ true
+below-between : (p rest k : List ℕ) → is_le (slice_cmp nat_cmp (p ++ 47 ∷ rest) k) ≡ true → slice_cmp nat_cmp k (p ++ 48 ∷ []) ≡ Less → continues p k ≡ true
 below-between [] rest [] le less = cc
 below-between [] rest (z ∷ k) le less = by_ranks (nat_cmp 47 z) (nat_cmp z 48) refl refl le less
   where
-    by_ranks : (r s : Ordering) → r ≡ nat_cmp 47 z → s ≡ nat_cmp z 48 → is_le (ordering_then r (slice_cmp nat_cmp rest k)) ≡ true → ordering_then s (slice_cmp nat_cmp k []) ≡ Less → stands_above [] (z ∷ k) ≡ true
+    by_ranks : (r s : Ordering) → r ≡ nat_cmp 47 z → s ≡ nat_cmp z 48 → is_le (ordering_then r (slice_cmp nat_cmp rest k)) ≡ true → ordering_then s (slice_cmp nat_cmp k []) ≡ Less → continues [] (z ∷ k) ≡ true
     by_ranks Less Less e f le less = let a : 47 < z = ranked 47 z Less e in let b : z < 48 = ranked z 48 Less f in absurd (omega arith)
     by_ranks Equal Less e f le less = let a : 47 ≡ z = ranked 47 z Equal e in rw ((Decides-eqb 47 z).1 a) (starts_with-nil k)
     by_ranks Less Equal e f le less = absurd (not_less-empty k less)
@@ -231,8 +233,8 @@ below-between (x ∷ p) rest [] le less = cc
 below-between (x ∷ p) rest (z ∷ k) le less = by_ranks (nat_cmp x z) (nat_cmp z x) refl refl (below-between p rest k) le less
   where
     by_ranks : (r s : Ordering) → r ≡ nat_cmp x z → s ≡ nat_cmp z x
-        → (is_le (slice_cmp nat_cmp (p ++ 47 ∷ rest) k) ≡ true → slice_cmp nat_cmp k (p ++ 48 ∷ []) ≡ Less → stands_above p k ≡ true)
-        → is_le (ordering_then r (slice_cmp nat_cmp (p ++ 47 ∷ rest) k)) ≡ true → ordering_then s (slice_cmp nat_cmp k (p ++ 48 ∷ [])) ≡ Less → stands_above (x ∷ p) (z ∷ k) ≡ true
+        → (is_le (slice_cmp nat_cmp (p ++ 47 ∷ rest) k) ≡ true → slice_cmp nat_cmp k (p ++ 48 ∷ []) ≡ Less → continues p k ≡ true)
+        → is_le (ordering_then r (slice_cmp nat_cmp (p ++ 47 ∷ rest) k)) ≡ true → ordering_then s (slice_cmp nat_cmp k (p ++ 48 ∷ [])) ≡ Less → continues (x ∷ p) (z ∷ k) ≡ true
     by_ranks Equal Equal e f more le less = rw ((Decides-eqb x z).1 (ranked x z Equal e)) (more le less)
     by_ranks Equal Less e f more le less = let a : x ≡ z = ranked x z Equal e in let b : z < x = ranked z x Less f in absurd (omega arith)
     by_ranks Less Less e f more le less = let a : x < z = ranked x z Less e in let b : z < x = ranked z x Less f in absurd (omega arith)
@@ -241,24 +243,27 @@ below-between (x ∷ p) rest (z ∷ k) le less = by_ranks (nat_cmp x z) (nat_cmp
     by_ranks Greater s e f more le less = cc
 
 -- so none is below where the last one in front of that text isn't
-none-below : (t : Files) (path k text : List ℕ) → slice_cmp nat_cmp k text ≡ Less → HasNoLater t text (Some k) → text ≡ path ++ 48 ∷ [] → stands_above path k ≡ false → (q : List ℕ) → is_file t q ≡ true → stands_above path q ≡ false
-none-below t path k text less last is_text apart q there = not_above (stands_above path q) (λ below.
-    let is = above-is path q below in
-    let le : is_le (slice_cmp nat_cmp q k) ≡ true = last q there (ap (slice_cmp nat_cmp q) is_text ∙ below-less path q below) in
+none-below : (t : Files) (path k text : List ℕ) → is_root_text path ≡ false → slice_cmp nat_cmp k text ≡ Less → HasNoLater t text (Some k) → text ≡ path ++ 48 ∷ [] → stands_above path k ≡ false → (q : List ℕ) → is_file t q ≡ true → stands_above path q ≡ false
+none-below t path k text under less last is_text apart q there = not_above (stands_above path q) (λ below.
+    let goes_on = continues-from path q under below in
+    let is = above-is path q goes_on in
+    let le : is_le (slice_cmp nat_cmp q k) ≡ true = last q there (ap (slice_cmp nat_cmp q) is_text ∙ below-less path q goes_on) in
+    let other = sym (above-continues path k under) ∙ apart in
     let found = below-between path is.0 k (ap (λ p. is_le (slice_cmp nat_cmp p k)) (sym is.1) ∙ le) (ap (slice_cmp nat_cmp k) (sym is_text) ∙ less) in
     cc)
 
-none-below-first : (t : Files) (path text : List ℕ) → HasNoLater t text None → text ≡ path ++ 48 ∷ [] → (q : List ℕ) → is_file t q ≡ true → stands_above path q ≡ false
-none-below-first t path text last is_text q there = not_above (stands_above path q) (λ below. last q there (ap (slice_cmp nat_cmp q) is_text ∙ below-less path q below))
+none-below-first : (t : Files) (path text : List ℕ) → is_root_text path ≡ false → HasNoLater t text None → text ≡ path ++ 48 ∷ [] → (q : List ℕ) → is_file t q ≡ true → stands_above path q ≡ false
+none-below-first t path text under last is_text q there = not_above (stands_above path q) (λ below.
+    last q there (ap (slice_cmp nat_cmp q) is_text ∙ below-less path q (continues-from path q under below)))
 
 -- ---- whether a file is in the way, as the last one in front of that text tells it
-pub first-tells : (t : Files) (path text : List ℕ) → HasNoLater t text None → text ≡ path ++ 48 ∷ [] → is_some (conflict t path) ≡ false
-first-tells t path text last is_text = is-no_conflict t path (none-below-first t path text last is_text) (none-above-first t path text 48 last is_text)
+pub first-tells : (t : Files) (path text : List ℕ) → IsValidTree t → is_root_text path ≡ false → HasNoLater t text None → text ≡ path ++ 48 ∷ [] → is_some (conflict t path) ≡ false
+first-tells t path text valid under last is_text = is-no_conflict t path (none-below-first t path text under last is_text) (none-above-first t path text 48 valid last is_text)
 
 pub below-tells : (t : Files) (path k : List ℕ) → is_file t k ≡ true → stands_above path k ≡ true → is_some (conflict t path) ≡ true
 below-tells t path k there below = is-conflict t path k there (or_left (stands_above path k) (stands_above k path) below)
 
-pub last-tells : (t : Files) (path k text : List ℕ) (o : Option (Bor (List ℕ))) → IsValidTree t → is_file t k ≡ true → slice_cmp nat_cmp k text ≡ Less → HasNoLater t text (Some k) → text ≡ path ++ 48 ∷ [] → stands_above path k ≡ false
+pub last-tells : (t : Files) (path k text : List ℕ) (o : Option (Bor (List ℕ))) → IsValidTree t → is_root_text path ≡ false → is_file t k ≡ true → slice_cmp nat_cmp k text ≡ Less → HasNoLater t text (Some k) → text ≡ path ++ 48 ∷ [] → stands_above path k ≡ false
     → IfSome o (λ p. is_file t p.now ≡ true) → IfSome o (λ p. stands_above p.now path ≡ true) → IfNone o (SharesNoFile t path k) → is_some (conflict t path) ≡ is_some o
-last-tells t path k text (Some p) valid other less last is_text apart there above none = is-conflict t path p.now there (or_right (stands_above path p.now) (stands_above p.now path) above)
-last-tells t path k text None valid other less last is_text apart there above none = is-no_conflict t path (none-below t path k text less last is_text apart) (none-above t path k text 48 valid other less last is_text none)
+last-tells t path k text (Some p) valid under other less last is_text apart there above none = is-conflict t path p.now there (or_right (stands_above path p.now) (stands_above p.now path) above)
+last-tells t path k text None valid under other less last is_text apart there above none = is-no_conflict t path (none-below t path k text under less last is_text apart) (none-above t path k text 48 valid other less last is_text none)

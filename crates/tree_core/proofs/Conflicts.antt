@@ -1,5 +1,5 @@
 -- Which file is in the way of a path, and what putting and taking files keeps.
-use Rattle.std.proofs.Common.{◌≡◌, ◌≤◌, ◌||◌, ◌⊎◌, inl, inr, ℕ, Bool, true, false, cond, List, [], ◌∷◌, Option, Some, None, Result, Ok, Err, OnOk, OnErr, is_err, option_map, IsSome, IfSome, IfNone, is_some, length, bytes_eq, refl, sym, ap, ◌∙◌, subst, arith}
+use Rattle.std.proofs.Common.{◌≡◌, ◌≤◌, ◌&&◌, ◌||◌, ◌++◌, ◌⊎◌, inl, inr, ℕ, Bool, true, false, not, cond, List, [], ◌∷◌, Option, Some, None, Result, Ok, Err, OnOk, OnErr, is_err, option_map, IsSome, IfSome, IfNone, is_some, length, refl, sym, ap, ◌∙◌, subst, arith}
 use Rattle.std.specs.List.{find, list_any}
 use Rattle.std.specs.Bool.{Decides}
 use Rattle.std.specs.Borrow.{Bor}
@@ -8,9 +8,9 @@ use Rattle.std.specs.Cmp.Lexicographic.{slice_cmp, nat_list_cmp_total}
 use Rattle.std.specs.FinMap as finite
 use Rattle.std.proofs.lemmas.Map.Text.{is_eq-slice_cmp}
 use Rattle.std.proofs.lemmas.Slice.Eq.{bytes_eq-Decides}
-use Rattle.tree_core.specs.Tree.{Files, TreeFile, IsValidTree, IsFilePath, is_file, is_folder, stands_above}
+use Rattle.tree_core.specs.Tree.{Files, TreeFile, IsValidTree, IsFilePath, is_root_text, is_clean_path, is_file, is_folder, stands_above}
 use Rattle.tree_core.specs.Memory.{IsStore, with_file, NoneAbove, HasBelow, conflicts, conflict}
-use Rattle.tree_core.proofs.Above.{above-is, above-trans, above-shorter, of_two_above}
+use Rattle.tree_core.proofs.Above.{continues, above-continues, continues-from, above-from, above-is, above-trans, above-shorter, of_two_above}
 
 abbrev pub same_text : List ℕ → List ℕ → Bool
 same_text = eq_by_cmp (slice_cmp nat_cmp)
@@ -83,19 +83,42 @@ none-passes : (P : List ℕ → Bool) (ks : List (List ℕ)) → ((q : List ℕ)
 none-passes P [] none = refl
 none-passes P (x ∷ ks) none = rw (none x (has-head x ks)) (none-passes P ks (λ q h. none q (has-tail x q ks h)))
 
+-- a file is not `/`
+pub file-apart : (t : Files) (q : List ℕ) → IsValidTree t → is_file t q ≡ true → is_root_text q ≡ false
+file-apart t q valid there = not_first (is_root_text q) (is_clean_path q) (valid.paths q there)
+  where
+    not_first : (a b : Bool) → (not a && b) ≡ true → a ≡ false
+    not_first true b h = cc
+    not_first false b h = refl
+
+pub any-below : (p : List ℕ) (ks : List (List ℕ)) → is_root_text p ≡ false → list_any (stands_above p) ks ≡ list_any (continues p) ks
+any-below p ks apart = ap (λ root. list_any (λ q. cond root (not (is_root_text q)) (continues p q)) ks) apart
+
+pub find-below : (p : List ℕ) (ks : List (List ℕ)) → is_root_text p ≡ false → find (stands_above p) ks ≡ find (continues p) ks
+find-below p ks apart = ap (λ root. find (λ q. cond root (not (is_root_text q)) (continues p q)) ks) apart
+
 -- a file above is the only one in the way
-pub conflict-above : (t : Files) (p k : List ℕ) → IsValidTree t → is_file t k ≡ true → stands_above k p ≡ true → conflict t p ≡ Some k
-conflict-above t p k valid there above =
+pub conflict-above : (t : Files) (p k : List ℕ) → IsValidTree t → is_root_text p ≡ false → is_file t k ≡ true → stands_above k p ≡ true → conflict t p ≡ Some k
+conflict-above t p k valid under there above =
     find-only (conflicts p) k (finite.keys t) (has-key t k there) (or_right (stands_above p k) (stands_above k p) above) (λ q has h. only q (key-has t q has) (or_cases (stands_above p q) (stands_above q p) h))
   where
     only : (q : List ℕ) → is_file t q ≡ true → (stands_above p q ≡ true) ⊎ (stands_above q p ≡ true) → q ≡ k
-    only q file (inl w) = let through = above-trans k p q above w in let apart = valid.apart k q there file in cc
-    only q file (inr w) = by_case (of_two_above q k (above-is q p w).0 (above-is k p above).0 (sym (above-is q p w).1 ∙ (above-is k p above).1))
+    only q file (inl w) =
+        let through = above-from k q (file-apart t k valid there) (above-trans k p q (continues-from k p (file-apart t k valid there) above) (continues-from p q under w)) in
+        let apart = valid.apart k q there file in
+        cc
+    only q file (inr w) = by_case (of_two_above q k (of_q).0 (of_k).0 (sym (of_q).1 ∙ (of_k).1))
       where
-        by_case : (q ≡ k) ⊎ ((stands_above q k ≡ true) ⊎ (stands_above k q ≡ true)) → q ≡ k
+        of_q : (rest : List ℕ) × (p ≡ q ++ 47 ∷ rest)
+        of_q = above-is q p (continues-from q p (file-apart t q valid file) w)
+
+        of_k : (rest : List ℕ) × (p ≡ k ++ 47 ∷ rest)
+        of_k = above-is k p (continues-from k p (file-apart t k valid there) above)
+
+        by_case : (q ≡ k) ⊎ ((continues q k ≡ true) ⊎ (continues k q ≡ true)) → q ≡ k
         by_case (inl w) = w
-        by_case (inr (inl w)) = let apart = valid.apart q k file there in cc
-        by_case (inr (inr w)) = let apart = valid.apart k q there file in cc
+        by_case (inr (inl w)) = let over = above-from q k (file-apart t q valid file) w in let apart = valid.apart q k file there in cc
+        by_case (inr (inr w)) = let over = above-from k q (file-apart t k valid there) w in let apart = valid.apart k q there file in cc
 
 -- with none above, what is in the way is the first below
 pub conflict-below : (t : Files) (p : List ℕ) → NoneAbove t p → conflict t p ≡ find (stands_above p) (finite.keys t)
@@ -106,8 +129,8 @@ conflict-below t p none = find-same (conflicts p) (stands_above p) (finite.keys 
     by_test false b e = e
 
 -- No file stands above a path with a file below: it would stand above that file.
-above-files : (t : Files) (p q : List ℕ) → IsValidTree t → HasBelow t p → is_file t q ≡ true → stands_above q p ≡ false
-above-files t p q valid below there = by_test (stands_above q p) refl
+above-files : (t : Files) (p q : List ℕ) → IsValidTree t → is_root_text p ≡ false → HasBelow t p → is_file t q ≡ true → stands_above q p ≡ false
+above-files t p q valid under below there = by_test (stands_above q p) refl
   where
     by_test : (b : Bool) → stands_above q p ≡ b → b ≡ false
     by_test true above =
@@ -115,18 +138,18 @@ above-files t p q valid below there = by_test (stands_above q p) refl
         cc
       where
         lower : (w : List ℕ) → Has (finite.keys t) w → (b : Bool) → stands_above p w ≡ b → b ≡ false
-        lower w has true e = let through = above-trans q p w above e in let apart = valid.apart q w there (key-has t w has) in cc
+        lower w has true e = let own = file-apart t q valid there in let through = above-from q w own (above-trans q p w (continues-from q p own above) (continues-from p w under e)) in let apart = valid.apart q w there (key-has t w has) in cc
         lower w has false e = refl
     by_test false above = refl
 
 -- none above a path with a file below
-pub none-above_folder : (t : Files) (p : List ℕ) → IsValidTree t → HasBelow t p → NoneAbove t p
-none-above_folder t p valid below = λ q there. above-files t p q valid below there
+pub none-above_folder : (t : Files) (p : List ℕ) → IsValidTree t → is_root_text p ≡ false → HasBelow t p → NoneAbove t p
+none-above_folder t p valid under below = λ q there. above-files t p q valid under below there
 
 -- what is found above, or below, is in the way
-pub conflict-is : (t : Files) (p : List ℕ) (o : Option (Bor (List ℕ))) → IsValidTree t → find (stands_above p) (finite.keys t) ≡ None → IfSome o (λ k. is_file t k.now ≡ true) → IfSome o (λ k. stands_above k.now p ≡ true) → IfNone o (NoneAbove t p) → option_map (λ k. k.now) o ≡ conflict t p
-conflict-is t p (Some k) valid below there above none = sym (conflict-above t p k.now valid there above)
-conflict-is t p None valid below there above none = sym (conflict-below t p none ∙ below)
+pub conflict-is : (t : Files) (p : List ℕ) (o : Option (Bor (List ℕ))) → IsValidTree t → is_root_text p ≡ false → find (stands_above p) (finite.keys t) ≡ None → IfSome o (λ k. is_file t k.now ≡ true) → IfSome o (λ k. stands_above k.now p ≡ true) → IfNone o (NoneAbove t p) → option_map (λ k. k.now) o ≡ conflict t p
+conflict-is t p (Some k) valid under below there above none = sym (conflict-above t p k.now valid under there above)
+conflict-is t p None valid under below there above none = sym (conflict-below t p none ∙ below)
 
 pub no-conflict : (t : Files) (p q : List ℕ) → conflict t p ≡ None → is_file t q ≡ true → conflicts p q ≡ false
 no-conflict t p q none there = none-found (conflicts p) (finite.keys t) none q (has-key t q there)
@@ -147,11 +170,11 @@ is-no_conflict t p below above =
     neither e f = rw (e, f) refl
 
 -- what has as many bytes as the longest path of a file stands above none
-none-below_longest : (t : Files) (p : List ℕ) (longest : ℕ) → IsStore t longest → longest ≤ length p → list_any (stands_above p) (finite.keys t) ≡ false
-none-below_longest t p longest store full = none-passes (stands_above p) (finite.keys t) (λ q has. by_test q (stands_above p q) refl (store.room q (key-has t q has)))
+none-below_longest : (t : Files) (p : List ℕ) (longest : ℕ) → IsStore t longest → is_root_text p ≡ false → longest ≤ length p → list_any (stands_above p) (finite.keys t) ≡ false
+none-below_longest t p longest store under full = none-passes (stands_above p) (finite.keys t) (λ q has. by_test q (stands_above p q) refl (store.room q (key-has t q has)))
   where
     by_test : (q : List ℕ) (b : Bool) → stands_above p q ≡ b → length q ≤ longest → b ≡ false
-    by_test q true e le = let shorter = above-shorter p q e in absurd (omega arith)
+    by_test q true e le = let shorter = above-shorter p q (continues-from p q under e) in absurd (omega arith)
     by_test q false e le = refl
 
 pub store-grows : (t : Files) (longest more : ℕ) → IsStore t longest → longest ≤ more → IsStore t more
@@ -169,11 +192,15 @@ or_false_right true b e = cc
 or_false_right false b e = e
 
 not_above-itself : (p : List ℕ) → stands_above p p ≡ false
-not_above-itself p = by_test (stands_above p p) refl
+not_above-itself p = by_root (is_root_text p) refl
   where
-    by_test : (b : Bool) → stands_above p p ≡ b → b ≡ false
+    by_test : (b : Bool) → continues p p ≡ b → b ≡ false
     by_test true e = let shorter = above-shorter p p e in absurd (omega arith)
     by_test false e = refl
+
+    by_root : (b : Bool) → is_root_text p ≡ b → stands_above p p ≡ false
+    by_root true e = rw e refl
+    by_root false e = above-continues p p e ∙ by_test (continues p p) refl
 
 -- a file that nothing is in the way of keeps the tree valid
 pub store-put : (t : Files) (p : List ℕ) (f : TreeFile) (longest : ℕ) → IsStore t longest → length p ≤ longest → IsFilePath p → IsFilePath f.canonical → conflict t p ≡ None → IsStore (finite.insert t p f) longest
@@ -236,23 +263,23 @@ store-empty longest = record {
     nothing : (q : List ℕ) → IsSome (finite.get (finite.empty {X = TreeFile} {R = slice_cmp nat_cmp}) q) → ⊥
     nothing q there = let gone = finite.get-empty {X = TreeFile} (slice_cmp nat_cmp) q in cc
 
--- after a file is put, or not for want of memory
+-- after a file is put, or out of memory
 pub store-after : {A E : Type 0} (result : Result A E) (t u : Files) (p path : List ℕ) (f : TreeFile) (canonical : List ℕ) (longest more : ℕ) → IsStore t longest → longest ≤ more → length path ≤ more → p ≡ path → f.canonical ≡ canonical → IsFilePath path → IsFilePath canonical → conflict t path ≡ None → OnOk result (u ≡ with_file t p f) → OnErr result (u ≡ t) → IsStore u more
 store-after (Ok _) t u p path f canonical longest more store le fits same named path_ok canonical_ok free ok err =
     rw (ok, same) (store-put t path f more (store-grows t longest more store le) fits path_ok (rw named canonical_ok) free)
 store-after (Err _) t u p path f canonical longest more store le fits same named path_ok canonical_ok free ok err = rw err (store-grows t longest more store le)
 
 -- what isn't `/` is a folder where something is below it
-folder-is : (t : Files) (p : List ℕ) (b : Bool) → bytes_eq p (47 ∷ []) ≡ false → list_any (stands_above p) (finite.keys t) ≡ b → is_folder t p ≡ b
-folder-is t p b apart below = rw apart below
+folder-is : (t : Files) (p : List ℕ) (b : Bool) → is_root_text p ≡ false → list_any (stands_above p) (finite.keys t) ≡ b → is_folder t p ≡ b
+folder-is t p b apart below = ap (λ root. root || list_any (stands_above p) (finite.keys t)) apart ∙ below
 
 -- What is found below tells folders, where no file's path is longer than the room.
-pub folder-found : (t : Files) (p : List ℕ) (longest : ℕ) (b : Bool) → IsStore t longest → bytes_eq p (47 ∷ []) ≡ false → (b ≡ true → HasBelow t p) → (b ≡ false → HasBelow t p → longest ≤ length p) → b ≡ is_folder t p
+pub folder-found : (t : Files) (p : List ℕ) (longest : ℕ) (b : Bool) → IsStore t longest → is_root_text p ≡ false → (b ≡ true → HasBelow t p) → (b ≡ false → HasBelow t p → longest ≤ length p) → b ≡ is_folder t p
 folder-found t p longest true store apart found missed = sym (folder-is t p true apart (found refl))
 folder-found t p longest false store apart found missed = sym (folder-is t p false apart (by_test (list_any (stands_above p) (finite.keys t)) refl))
   where
     by_test : (b : Bool) → list_any (stands_above p) (finite.keys t) ≡ b → list_any (stands_above p) (finite.keys t) ≡ false
-    by_test true e = none-below_longest t p longest store (missed refl e)
+    by_test true e = none-below_longest t p longest store apart (missed refl e)
     by_test false e = e
 
 pub when_err : {A E : Type 0} (P : Type 0) (r : Result A E) → is_err r ≡ true → OnErr r P → P

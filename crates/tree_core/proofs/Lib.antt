@@ -8,6 +8,7 @@ pub mod Entries
 pub mod Prefixes
 pub mod Keys
 pub mod Above
+pub mod NamesAbove
 pub mod Conflicts
 pub mod Before
 pub mod MemoryReplies

@@ -64,7 +64,7 @@ answered_one wrap q {old = old} {new = new} a test is exact after =
     let other : refuses_next old ≡ false = sym test ∙ is in
     refused_by_number wrap q old new (Ok a) exact (λ no. cc, λ yes. cc) after
 
--- A question with another number, for which no memory was found.
+-- A question with another number, out of memory.
 pub starved_one : {A : Type 0} (wrap : A → Reply) (q : Question) {old new : Failing} {next : Bool} (r : Result A ReadError) → IsErrAnd r (λ e. e ≡ NoMemory) → next ≡ refuses_next old → next ≡ false → new ≡ after_question old → IsRefusedByNumber wrap q old new r
 starved_one wrap q (Ok _) want test is after = elim want [ ]
 starved_one wrap q {old = old} {new = new} (Err e) want test is after =

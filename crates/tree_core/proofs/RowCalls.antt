@@ -40,7 +40,7 @@ after_decision {d = d} k is rest = by_plan (order-decided d k) (after_decided (�
 pub stops_decision : {A R X : Type 0} {s : Asking} (d : Result A X) (k : A → Row R R X) (e : ResolveError X) (r : Result R (ResolveError X)) → IsErrAnd r (λ x. x ≡ e) → IsDecided {A = A} (Err e) d → Resolves s s r (order (decided d >>=? k))
 stops_decision {A = A} d k e r is h = by_plan (order-decided d k) (stops_decided {A = A} d (λ a. order (k a)) e r is h)
 
--- The same, where the row lends its value.
+-- The exit of a `?` on a row that asks nothing and lends its value.
 pub stops_decision_to : {A R X : Type 0} {s : Asking} (d : Result A X) (k : A → Row R R X) (e : ResolveError X) (r : Result R (ResolveError X)) → IsErrAnd r (λ x. x ≡ e) → IsDecidedTo {A = A} (Err e) d → Resolves s s r (order (decided d >>=? k))
 stops_decision_to {A = A} d k e r is h = by_plan (order-decided d k) (stops_decided_to {A = A} d (λ a. order (k a)) e r is h)
 
@@ -52,7 +52,7 @@ ends_row {p = p} k h = by_plan (order-ends_by p k) h
 pub last_row : {R X : Type 0} {old new : Asking} {r : Result (Result R X) ReadError} {p : Plan (Result R X)} → Asks old new r p → Asks old new r (order (refuses_by p))
 last_row {p = p} h = by_plan (order-last p) h
 
--- The same as after_row, where a pattern tells which answer it was.
+-- After a row that goes on, where a pattern tells which answer it was.
 pub after_row_as : {A R X : Type 0} {old mid new : Asking} {a b : A} {r : Result (Result R X) ReadError} {p : Plan (Result A X)} (k : A → Row R R X) → Asks old mid (Ok (Ok a)) p → a ≡ b → Asks mid new r (order (k b)) → Asks old new r (order (refuses_by p >>=? k))
 after_row_as {A = A} {mid = mid} {new = new} {r = r} k first is rest = let P : A → Type 0 = λ x. Asks mid new r (order (k x)) in after_row k first (subst P (sym is) rest)
 
@@ -72,7 +72,7 @@ end_row {e = e} k = by_plan (order-end e k) (asks_done refl)
 pub row_then : {A B R X : Type 0} {old mid new : Asking} {a b : A} {r : Result (Result R X) ReadError} {p : Plan A} (f : A → Row B R X) (k : B → Row R R X) → Asks old mid (Ok a) p → a ≡ b → Asks mid new r (order (f b >>=? k)) → Asks old new r (order ((p >>= f) >>=? k))
 row_then {p = p} f k first is rest = by_plan (order-then p f k) (asks_as (λ a. order (f a >>=? k)) first is rest)
 
--- Its exit where the tree fails or memory is wanting.
+-- Its exit where the tree fails, or out of memory.
 pub row_fails : {A B R X : Type 0} {old new : Asking} {e : ReadError} {p : Plan A} (f : A → Row B R X) (k : B → Row R R X) (r : Result R (ResolveError X)) → IsErrAnd r (λ x. x ≡ resolving.into e) → Asks {A = A} old new (Err e) p → Resolves old new r (order ((p >>= f) >>=? k))
 row_fails {p = p} f k r is h = by_plan (order-then p f k) (asks_fails_in resolving (λ a. order (f a >>=? k)) r is h)
 
@@ -84,6 +84,6 @@ row_after a f k = refl
 pub row_of_answer : {A B R X : Type 0} {old mid new : Asking} {a b c : A} {r : Result (Result R X) ReadError} (f : A → Row B R X) (k : B → Row R R X) → Asks old mid (Ok a) (Done c) → a ≡ b → Asks mid new r (order (f b >>=? k)) → Asks old new r (order (f c >>=? k))
 row_of_answer {c = c} f k first is rest = by_plan (row_after c f k) (asks_as (λ x. order (f x >>=? k)) first is rest)
 
--- Its exit where memory is wanting.
+-- Its exit out of memory.
 pub row_of_failure : {A B R X : Type 0} {old new : Asking} {e : ReadError} {c : A} (f : A → Row B R X) (k : B → Row R R X) (r : Result R (ResolveError X)) → IsErrAnd r (λ x. x ≡ resolving.into e) → Asks {A = A} old new (Err e) (Done c) → Resolves old new r (order (f c >>=? k))
 row_of_failure {c = c} f k r is h = by_plan (row_after c f k) (asks_fails_in resolving (λ x. order (f x >>=? k)) r is h)

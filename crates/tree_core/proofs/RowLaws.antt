@@ -80,7 +80,7 @@ row t r k rest = step t (Done r) k (answer-done t r) rest
 pub row_asks : {A B X : Type 0} {f : A → List Question} (t : Files) (r : Result A X) (k : A → Plan (Result B X)) → ((a : A) → asked t (k a) ≡ f a) → asked t (Done r >>=? k) ≡ asks_after r f
 row_asks t r k rest = step_asks t (Done r) k (answer-done t r) (asked-done t r) rest
 
--- the same where the questions of the rest go by what a step that may refuse gives
+-- what a step that may refuse gives, as a row, is followed by the questions that its answer gives
 pub asks_refused : {A X : Type 0} (R : Type 0) (r : Result A X) (f : A → List Question) → asks_after (or_refused {R = R} r) f ≡ asks_after r f
 asks_refused R (Ok a) f = refl
 asks_refused R (Err x) f = refl

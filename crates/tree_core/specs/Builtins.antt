@@ -1,4 +1,4 @@
--- The names of Node's own modules.
+-- The names of Node's builtin modules.
 use Rattle.std.specs.Prelude.{ℕ, Bool, List, [], ◌∷◌, codes, bytes_eq}
 use Rattle.std.specs.List.{list_any}
 

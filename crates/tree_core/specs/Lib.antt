@@ -12,3 +12,4 @@ pub mod RecorderView
 pub mod Builtins
 pub mod Memory
 pub mod Before
+pub mod Laws

@@ -1,4 +1,5 @@
 -- A plan: which questions are put to a tree, in what order, and what their replies come to.
+-- A `do` here is over plans: each line is a plan, and the next one goes on with its answer.
 use Rattle.std.specs.Prelude.{ℕ, Bool, false, if◌then◌else◌, List, [], ◌∷◌, Option, Some, None, Result, Ok, Err}
 use Rattle.tree_core.specs.declared.question.Question.{Question}
 use Rattle.tree_core.specs.declared.question.Question.TheVariants.{File, Dir, Exists, Read, Canon}
@@ -22,7 +23,7 @@ unfoldable pub asked : {A : Type 0} → Files → Plan A → List Question
 asked t (Done a) = []
 asked t (Ask q next) = q ∷ asked t (next (reply t q))
 
--- one plan, and then the plan that its answer gives
+-- The `>>=` of a `do` over plans: one plan, and then the plan that its answer gives.
 infixl 10 ◌>>=◌
 unfoldable pub ◌>>=◌ : {A B : Type 0} → Plan A → (A → Plan B) → Plan B
 Done a >>= rest = rest a

@@ -28,11 +28,3 @@ number_of kind.Dir = 1
 number_of kind.Exists = 2
 number_of kind.Read = 3
 number_of kind.Canon = 4
-
--- the kind's reply is a flag
-abbrev pub IsOfFlag : QuestionKind → Type 0
-IsOfFlag kind.File = Unit {0}
-IsOfFlag kind.Dir = Unit {0}
-IsOfFlag kind.Exists = Unit {0}
-IsOfFlag kind.Read = ⊥
-IsOfFlag kind.Canon = ⊥

@@ -11,7 +11,7 @@ abbrev pub asking_of : {T : Type 0} {g : Ghosts T} → Recorder T g → Asking
 asking_of {g = g} r =
     record { name = r.tree.ghost_name; tree = g.state r.tree.now; trail = r.trail }
 
--- the tree that is lent to it, as it is now
+-- the tree that it has borrowed, as it is now
 abbrev pub tree_of : {T : Type 0} {g : Ghosts T} → Recorder T g → T
 tree_of r = r.tree.now
 

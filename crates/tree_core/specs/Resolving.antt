@@ -25,25 +25,32 @@ carries NoMemory = refl
 abbrev pub resolving : {X : Type 0} → Layer (ResolveError X) X
 resolving = record { kind = kind; into = into; carries = carries }
 
+-- an error whose refusal was made into another one, which stands in this relation to it; each other error stays
+abbrev pub IsMapped : {X Y : Type 0} → (X → Y → Type 0) → ResolveError X → ResolveError Y → Type 0
+IsMapped R (error.Refused x) (error.Refused y) = R x y
+IsMapped R error.TreeFault error.TreeFault = Unit {0}
+IsMapped R error.NoMemory error.NoMemory = Unit {0}
+IsMapped R _ _ = ⊥
+
 -- A search by a plan that answers or refuses.
 abbrev pub Resolves :
     {A X : Type 0} → Asking → Asking → Result A (ResolveError X) → Plan (Result A X) → Type 0
 Resolves old new result plan = Asks old new (seen resolving result) plan
 
--- A step that puts no question comes to this answer or refusal, unless memory is wanting.
+-- A step that puts no question comes to this answer or refusal, unless it is out of memory.
 abbrev pub IsDecided : {A X : Type 0} → Result A (ResolveError X) → Result A X → Type 0
 IsDecided (Ok a) r = r ≡ Ok a
 IsDecided (Err (error.Refused x)) r = r ≡ Err x
 IsDecided (Err error.TreeFault) r = ⊥
 IsDecided (Err error.NoMemory) r = Unit {0}
 
--- one step, and then what its answer gives: a refusal ends the order. A text by `do` over plans that may refuse reads so
+-- The `>>=` of a `do` over plans that may refuse: one step, and then what its answer gives; a refusal ends the order.
 infixl 10 ◌>>=◌
 abbrev pub ◌>>=◌ :
     {A B X : Type 0} → Plan (Result A X) → (A → Plan (Result B X)) → Plan (Result B X)
 p >>= then = p >>=? then
 
--- the same for a step that lends its answer
+-- A step that puts no question and lends its answer comes to this answer or refusal, unless it is out of memory.
 abbrev pub IsDecidedTo : {A X : Type 0} → Result (Bor A) (ResolveError X) → Result A X → Type 0
 IsDecidedTo (Ok a) r = r ≡ Ok a.now
 IsDecidedTo (Err (error.Refused x)) r = r ≡ Err x

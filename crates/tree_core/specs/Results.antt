@@ -1,4 +1,4 @@
--- The questions that go with one result after the other, for laws in plain functions of the tree.
+-- One result after the other, and the questions that go with them, for laws in plain functions of the tree. The `>>=` of a `do` over results is that of `sugar_path`.
 use Rattle.std.specs.Prelude.{List, [], Result, Ok, Err}
 pub use Rattle.sugar_path.specs.Results.{◌>>=◌}
 use Rattle.tree_core.specs.declared.question.Question.{Question}

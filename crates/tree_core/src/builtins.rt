@@ -1,9 +1,9 @@
-// The names of Node's own modules.
+// The names of Node's builtin modules.
 ghost use Rattle.std.specs.Prelude.{◌≡◌, bytes_eq};
 ghost use Rattle.std.specs.List.{list_any};
 ghost use Rattle.tree_core.specs.Builtins.{is_builtin};
 
-/// The names of Node's own modules, without the scheme `node:`.
+/// The names of Node's builtin modules, without the scheme `node:`.
 pub const NODE_BUILTINS: &[&str] = &[
     "_http_agent",
     "_http_client",
@@ -73,7 +73,7 @@ pub const NODE_BUILTINS: &[&str] = &[
     "zlib",
 ];
 
-/// Whether the text is the name of one of Node's own modules.
+/// Whether the text is the name of one of Node's builtin modules.
 pub fn is_node_builtin(name: &str) -> bool
     ensures { result ≡ is_builtin name.now }
 {

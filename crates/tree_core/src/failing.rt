@@ -3,7 +3,7 @@ ghost use Rattle.std.specs.Prelude.{◌≡◌, ◌==◌, if◌then◌else◌};
 ghost use Rattle.std.specs.List.{list_any};
 ghost use Rattle.sugar_path.specs.Path.{IsCleanPath};
 ghost use Rattle.tree_core.specs.Memory.{refuses_next, after_question, IsRefusedByNumber};
-ghost use Rattle.tree_core.specs.Tree.{one_more};
+ghost use Rattle.tree_core.specs.Tree.{IsValidTree, one_more};
 ghost use Rattle.tree_core.specs.declared.question.Question.TheVariants.{File, Dir, Exists, Read, Canon};
 ghost use Rattle.tree_core.specs.declared.question.Reply.TheVariants.{Flag, Bytes as BytesReply, Name};
 
@@ -61,7 +61,9 @@ impl FailingTree {
 
     /// How many questions were put, the refused ones too.
     pub fn questions(&self) -> u64
-        ensures { result ≡ self.now.memory.questions }
+        ensures count { result ≡ self.now.memory.questions }
+        // The files of a tree are a valid tree at any time.
+        ensures valid { IsValidTree self.now.memory.files }
     {
         self.tree.questions()
     }

@@ -4,6 +4,7 @@
 mod asker;
 mod builtins;
 mod failing;
+pub mod laws;
 mod memory;
 mod question;
 mod recorder;

@@ -9,7 +9,7 @@ ghost use Rattle.std.specs.declared.cmp.Ordering.TheVariants.{Less};
 ghost use Rattle.tree_core.specs.Before.{HasNoLater, SharesNoFile};
 ghost use Rattle.tree_core.specs.Memory.{files_of, conflict, refusal, with_file, NoneAbove, HasBelow, IsReplied};
 ghost use Rattle.tree_core.specs.declared.memory.PutError.TheVariants.{Conflict, NoMemory};
-ghost use Rattle.tree_core.specs.Tree.{IsValidTree, one_more, is_file, is_folder, is_file_path, stands_above};
+ghost use Rattle.tree_core.specs.Tree.{IsValidTree, one_more, is_root_text, is_file, is_folder, is_file_path, stands_above};
 ghost use Rattle.tree_core.specs.declared.question.Question.TheVariants.{File, Dir, Exists, Read, Canon};
 ghost use Rattle.tree_core.specs.declared.question.Reply.TheVariants.{Flag, Bytes as BytesReply, Name};
 
@@ -100,7 +100,9 @@ impl MemoryTree {
 
     /// How many questions were put.
     pub fn questions(&self) -> u64
-        ensures { result ≡ self.now.questions }
+        ensures count { result ≡ self.now.questions }
+        // The files of a tree are a valid tree at any time.
+        ensures valid { IsValidTree self.now.files }
     {
         self.questions
     }
@@ -115,6 +117,7 @@ impl MemoryTree {
         ensures refused { IfErr result (λ e.
             e ≢ NoMemory → refusal self.old.files path.now canonical.now ≡ Some e) }
         ensures err { OnErr result (self.new ≡ self.old) }
+        ensures valid { IsValidTree self.new.files }
     {
         let file = TreeFile {
             content: Bytes::of(self.alloc, bytes)?,
@@ -123,7 +126,8 @@ impl MemoryTree {
         self.put_file(path, file)
     }
 
-    /// The same of bytes and a name that are shared with the caller: where their copies share, nothing of them is copied.
+    /// Puts a file, in place of an earlier one at the path. Its bytes and its name are shared with the caller: where
+    /// their copies share, nothing of them is copied.
     pub fn put_shared(
         &mut self,
         path: &Text,
@@ -138,6 +142,7 @@ impl MemoryTree {
         ensures refused { IfErr result (λ e.
             e ≢ NoMemory → refusal self.old.files path.now canonical.now ≡ Some e) }
         ensures err { OnErr result (self.new ≡ self.old) }
+        ensures valid { IsValidTree self.new.files }
     {
         let file = TreeFile {
             content: content.try_clone(self.alloc)?,
@@ -155,13 +160,15 @@ impl MemoryTree {
         ensures refused { IfErr result (λ e.
             e ≢ NoMemory → refusal self.old.files path.now file.canonical ≡ Some e) }
         ensures err { OnErr result (self.new ≡ self.old) }
+        ensures valid { IsValidTree self.new.files }
     {
+        let alloc = self.alloc;
         let canonical = file.canonical.as_str();
         if !is_file_path(path) || !is_file_path(canonical) {
             return Err(PutError::Unclean);
         }
-        let key = String::from_str(self.alloc, path)?;
-        ensure_no_conflict(self.alloc, &self.files, path, &mut self.prefix)?;
+        let key = String::from_str(alloc, path)?;
+        ensure_no_conflict(alloc, &self.files, path, &mut self.prefix)?;
         put_at(&mut self.files, key, file)
     }
 
@@ -169,11 +176,12 @@ impl MemoryTree {
     pub fn remove(&mut self, path: &str) -> bool
         ensures was { result ≡ is_file self.old.files path.now }
         ensures gone { self.new ≡ record self.old { files = map.remove self.old.files path.now } }
+        ensures valid { IsValidTree self.new.files }
     {
         self.files.remove(path).is_some()
     }
 
-    /// The same tree, but it refuses the questions with these numbers. The first question has the number 1.
+    /// This tree, but it refuses the questions with these numbers. The first question has the number 1.
     pub fn fail_at(self, calls: List<u64>) -> FailingTree
         ensures { result ≡ record { memory = self; calls = calls; faults = 0 } }
     {
@@ -336,8 +344,10 @@ fn first_with_prefix<'a>(files: &'a BTreeMap<String, TreeFile>, prefix: &String)
     }
 }
 
-// Whether a file is found below a path. The buffer takes the text before those below; where that finds no room, none is found.
+// Whether a file is found below a path other than `/`. The buffer takes the text before those below; where that finds
+// no room, none is found.
 fn finds_below(files: &BTreeMap<String, TreeFile>, path: &str, prefix: &mut String) -> bool
+    requires { is_root_text path.now ≡ false }
     ensures found { IsTrue result → HasBelow (files_of files.now.entries) path.now }
     ensures missed { result ≡ false → HasBelow (files_of files.now.entries) path.now
         → string_capacity prefix.old ≤ length path.now }
@@ -365,8 +375,8 @@ fn last_before<'a>(files: &'a BTreeMap<String, TreeFile>, text: &String) -> Opti
     }
 }
 
-// The file above a path, whose text before those below is given. In byte order, what stands between that file and the path
-// begins with the file's path too; so the file's path is what the path shares with the last one in front of it.
+// The file above a path, whose text before those below is given. In byte order, what stands between that file and the
+// path begins with the file's path too; so the file's path is what the path shares with the last one in front of it.
 fn nearest_above<'a>(
     files: &BTreeMap<String, TreeFile>,
     path: &'a str,
@@ -388,6 +398,7 @@ fn shared_file<'a>(
     path: &'a str,
     other: &str,
 ) -> Option<&'a str>
+    requires { IsValidTree (files_of files.now.entries) }
     ensures file { IfSome result (λ p. IsTrue (is_file (files_of files.now.entries) p.now)) }
     ensures above { IfSome result (λ p. IsTrue (stands_above p.now path.now)) }
     ensures none { IfNone result (SharesNoFile (files_of files.now.entries) path.now other.now) }
@@ -410,13 +421,15 @@ fn file_at<'a>(files: &BTreeMap<String, TreeFile>, path: &'a str) -> Option<&'a 
     None
 }
 
-// The first file in byte order that stands above or below a path, whose text before those below is given. A path with files below has none above.
+// The first file in byte order that stands above or below a path other than `/`, whose text before those below is
+// given. A path with files below has none above.
 fn conflicting<'a>(
     files: &'a BTreeMap<String, TreeFile>,
     path: &'a str,
     prefix: &String,
 ) -> Option<&'a str>
     requires valid { IsValidTree (files_of files.now.entries) }
+    requires path { is_root_text path.now ≡ false }
     requires prefix { string_bytes prefix.now ≡ path.now ++ 47 ∷ [] }
     ensures { option_map (λ p. p.now) result ≡ conflict (files_of files.now.entries) path.now }
 {
@@ -426,8 +439,9 @@ fn conflicting<'a>(
     }
 }
 
-// Whether a path stands above another: that begins with it and a `/`.
+// Whether a path other than `/` stands above another: that begins with it and a `/`.
 fn stands_above(path: &str, other: &str) -> bool
+    requires { is_root_text path.now ≡ false }
     ensures { result ≡ stands_above path.now other.now }
 {
     let above = path.as_bytes();
@@ -435,10 +449,12 @@ fn stands_above(path: &str, other: &str) -> bool
     below.starts_with(above) && below[above.len()..].starts_with(b"/")
 }
 
-// Whether a file stands above or below a path, by one search. The text past those below is given: the path and a `0`, the byte that
-// follows `/`. In byte order, the last file in front of that text is below if any is; else it shares with the path the file above.
+// Whether a file stands above or below a path other than `/`, by one search. The text past those below is given: the
+// path and a `0`, the byte that follows `/`. In byte order, the last file in front of that text is below if any is;
+// else it shares with the path the file above.
 fn has_conflict(files: &BTreeMap<String, TreeFile>, path: &str, past: &String) -> bool
     requires valid { IsValidTree (files_of files.now.entries) }
+    requires path { is_root_text path.now ≡ false }
     requires past { string_bytes past.now ≡ path.now ++ 48 ∷ [] }
     ensures { result ≡ is_some (conflict (files_of files.now.entries) path.now) }
 {
@@ -448,14 +464,16 @@ fn has_conflict(files: &BTreeMap<String, TreeFile>, path: &str, past: &String) -
     }
 }
 
-// Refuses a path that a file stands above or below. The buffer takes the texts that stand past and before those below.
+// Refuses a path other than `/` that a file stands above or below. The buffer takes the texts that stand past and
+// before those below.
 fn ensure_no_conflict(
     alloc: Global,
     files: &BTreeMap<String, TreeFile>,
     path: &str,
     buffer: &mut String,
 ) -> Result<(), PutError>
-    requires { IsValidTree (files_of files.now.entries) }
+    requires valid { IsValidTree (files_of files.now.entries) }
+    requires path { is_root_text path.now ≡ false }
     ensures free { OnOk result (conflict (files_of files.now.entries) path.now ≡ None) }
     ensures room { OnOk result (length path.now < string_capacity buffer.new) }
     ensures grows { string_capacity buffer.old ≤ string_capacity buffer.new }

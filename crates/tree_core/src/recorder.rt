@@ -2,7 +2,7 @@
 ghost use Rattle.std.specs.Prelude.{◌≡◌, IsTrue, IfOk, OnOk, OnErr, IfErr, Some, None, IsSome, [], ◌∷◌, ◌++◌};
 ghost use Rattle.sugar_path.specs.Path.{IsCleanPath};
 ghost use Rattle.tree_core.specs.Question.{reply_in, fits};
-ghost use Rattle.tree_core.specs.QuestionKind.{question_on, IsOfFlag};
+ghost use Rattle.tree_core.specs.QuestionKind.{question_on};
 ghost use Rattle.tree_core.specs.declared.tree.ReadError.TheVariants.{NoMemory};
 ghost use Rattle.tree_core.specs.Tree.{Files, Agrees, IsPut};
 ghost use Rattle.tree_core.specs.declared.question.Question.TheVariants.{File, Dir, Exists, Read, Canon};
@@ -10,10 +10,10 @@ ghost use Rattle.tree_core.specs.declared.question.Reply.TheVariants.{Flag, Byte
 
 use crate::question::QuestionKind;
 use crate::{Question, ReadError, Reply, Trail, Tree};
-use std::alloc::{AllocError, Global};
+use std::alloc::Global;
 use sugar_path::{Bytes, Text};
 
-/// A tree that is lent, and the trail of what it was asked.
+/// A borrowed tree, and the trail of what it was asked.
 #[derive(Drop)]
 pub struct Recorder<'t, T: Tree> {
     alloc: Global,
@@ -43,11 +43,14 @@ impl<'t, T: Tree> Recorder<'t, T> {
         requires { IsCleanPath p.now }
         ensures recorded { IsRecorded Flag (File p.now)
             (asking_of self.old) (asking_of self.new) result }
-        // Where the trail has the reply, the lent tree is left as it is.
+        // Where the trail has the reply, the borrowed tree is left as it is.
         ensures untouched { IsSome (reply_in (trail_of self.old) (File p.now))
             → tree_of self.new ≡ tree_of self.old }
     {
-        self.flag(QuestionKind::File, p)
+        match self.reply(QuestionKind::File, p)? {
+            Reply::Flag(b) => Ok(b),
+            _ => unreachable!(),
+        }
     }
 
     /// Whether there is a folder.
@@ -55,11 +58,14 @@ impl<'t, T: Tree> Recorder<'t, T> {
         requires { IsCleanPath p.now }
         ensures recorded { IsRecorded Flag (Dir p.now)
             (asking_of self.old) (asking_of self.new) result }
-        // Where the trail has the reply, the lent tree is left as it is.
+        // Where the trail has the reply, the borrowed tree is left as it is.
         ensures untouched { IsSome (reply_in (trail_of self.old) (Dir p.now))
             → tree_of self.new ≡ tree_of self.old }
     {
-        self.flag(QuestionKind::Dir, p)
+        match self.reply(QuestionKind::Dir, p)? {
+            Reply::Flag(b) => Ok(b),
+            _ => unreachable!(),
+        }
     }
 
     /// Whether there is a file or a folder.
@@ -67,11 +73,14 @@ impl<'t, T: Tree> Recorder<'t, T> {
         requires { IsCleanPath p.now }
         ensures recorded { IsRecorded Flag (Exists p.now)
             (asking_of self.old) (asking_of self.new) result }
-        // Where the trail has the reply, the lent tree is left as it is.
+        // Where the trail has the reply, the borrowed tree is left as it is.
         ensures untouched { IsSome (reply_in (trail_of self.old) (Exists p.now))
             → tree_of self.new ≡ tree_of self.old }
     {
-        self.flag(QuestionKind::Exists, p)
+        match self.reply(QuestionKind::Exists, p)? {
+            Reply::Flag(b) => Ok(b),
+            _ => unreachable!(),
+        }
     }
 
     /// The bytes of a file.
@@ -79,21 +88,14 @@ impl<'t, T: Tree> Recorder<'t, T> {
         requires { IsCleanPath p.now }
         ensures recorded { IsRecorded BytesReply (Read p.now)
             (asking_of self.old) (asking_of self.new) result }
-        // Where the trail has the reply, the lent tree is left as it is.
+        // Where the trail has the reply, the borrowed tree is left as it is.
         ensures untouched { IsSome (reply_in (trail_of self.old) (Read p.now))
             → tree_of self.new ≡ tree_of self.old }
     {
-        if let Some(reply) = self.trail.reply_on(QuestionKind::Read, p) {
-            return match reply {
-                Reply::Bytes(bytes) => Ok(copy_of_bytes(self.alloc, bytes)?),
-                _ => unreachable!(),
-            };
+        match self.reply(QuestionKind::Read, p)? {
+            Reply::Bytes(bytes) => Ok(bytes),
+            _ => unreachable!(),
         }
-        let question = Question::Read(Text::shared(self.alloc, p)?);
-        let bytes = self.tree.read(self.alloc, p)?;
-        let copy = copy_of_bytes(self.alloc, &bytes)?;
-        note(&mut self.trail, question, Reply::Bytes(copy))?;
-        Ok(bytes)
     }
 
     /// The canonical name of a file.
@@ -101,49 +103,40 @@ impl<'t, T: Tree> Recorder<'t, T> {
         requires { IsCleanPath p.now }
         ensures recorded { IsRecorded Name (Canon p.now)
             (asking_of self.old) (asking_of self.new) result }
-        // Where the trail has the reply, the lent tree is left as it is.
+        // Where the trail has the reply, the borrowed tree is left as it is.
         ensures untouched { IsSome (reply_in (trail_of self.old) (Canon p.now))
             → tree_of self.new ≡ tree_of self.old }
     {
-        if let Some(reply) = self.trail.reply_on(QuestionKind::Canon, p) {
-            return match reply {
-                Reply::Name(name) => Ok(copy_of_name(self.alloc, name)?),
-                _ => unreachable!(),
-            };
+        match self.reply(QuestionKind::Canon, p)? {
+            Reply::Name(name) => Ok(name),
+            _ => unreachable!(),
         }
-        let question = Question::Canon(Text::shared(self.alloc, p)?);
-        let name = self.tree.canonical(self.alloc, p)?;
-        let copy = copy_of_name(self.alloc, &name)?;
-        note(&mut self.trail, question, Reply::Name(copy))?;
-        Ok(name)
     }
 
-    // The reply to a question with a flag: the one recorded, or the tree's, which is then recorded.
-    fn flag(&mut self, kind: QuestionKind, p: &str) -> Result<bool, ReadError>
-        requires path { IsCleanPath p.now }
-        requires flag { IsOfFlag kind }
-        ensures recorded { IsRecorded Flag (question_on kind p.now)
+    // The reply to a question: the one recorded, or the tree's, which is then recorded.
+    fn reply(&mut self, kind: QuestionKind, p: &str) -> Result<Reply, ReadError>
+        requires { IsCleanPath p.now }
+        ensures recorded { IsRecorded (λ r. r) (question_on kind p.now)
             (asking_of self.old) (asking_of self.new) result }
-        // Where the trail has the reply, the lent tree is left as it is.
+        ensures fits { IfOk result (λ r. IsTrue (fits (question_on kind p.now) r)) }
+        // Where the trail has the reply, the borrowed tree is left as it is.
         ensures untouched { IsSome (reply_in (trail_of self.old) (question_on kind p.now))
             → tree_of self.new ≡ tree_of self.old }
     {
         if let Some(reply) = self.trail.reply_on(kind, p) {
-            return match reply {
-                Reply::Flag(b) => Ok(*b),
-                _ => unreachable!(),
-            };
+            return Ok(reply.try_clone(self.alloc)?);
         }
         let question = kind.on(Text::shared(self.alloc, p)?);
-        let b = ask_flag(self.tree, kind, p)?;
-        note(&mut self.trail, question, Reply::Flag(b))?;
-        Ok(b)
+        let reply = ask(self.tree, self.alloc, kind, p)?;
+        let copy = reply.try_clone(self.alloc)?;
+        note(&mut self.trail, question, copy)?;
+        Ok(reply)
     }
 
     /// What was asked so far.
     pub fn trail(&self) -> &Trail
         ensures trail { result.now ≡ trail_of self.now }
-        // Each tree of files that the lent tree stands for gives the replies of the trail.
+        // Each tree of files that the borrowed tree stands for gives the replies of the trail.
         ensures agree { AgreeWith (asking_of self.now).tree.stands_for result.now }
     {
         &self.trail
@@ -155,7 +148,7 @@ impl<'t, T: Tree> Recorder<'t, T> {
         self.trail
     }
 
-    /// The trail, and the tree that was lent.
+    /// The trail, and the tree that was borrowed.
     pub fn into_parts(self) -> (Trail, &'t mut T)
         ensures trail { result.0 ≡ trail_of self.entry }
         ensures same { result.1.ghost_name ≡ (asking_of self.entry).name }
@@ -171,17 +164,24 @@ impl<'t, T: Tree> Recorder<'t, T> {
     }
 }
 
-// Puts a question with a flag to a tree.
-fn ask_flag<T: Tree>(tree: &mut T, kind: QuestionKind, p: &str) -> Result<bool, ReadError>
-    requires path { IsCleanPath p.now }
-    requires flag { IsOfFlag kind }
-    ensures { IsPut Flag (question_on kind p.now) (T.state tree.old) (T.state tree.new) result }
+// Puts a question to a tree.
+fn ask<T: Tree>(
+    tree: &mut T,
+    alloc: Global,
+    kind: QuestionKind,
+    p: &str,
+) -> Result<Reply, ReadError>
+    requires { IsCleanPath p.now }
+    ensures put { IsPut (λ r. r) (question_on kind p.now)
+        (T.state tree.old) (T.state tree.new) result }
+    ensures fits { IfOk result (λ r. IsTrue (fits (question_on kind p.now) r)) }
 {
     match kind {
-        QuestionKind::File => tree.is_file(p),
-        QuestionKind::Dir => tree.is_dir(p),
-        QuestionKind::Exists => tree.exists(p),
-        QuestionKind::Read | QuestionKind::Canon => unreachable!(),
+        QuestionKind::File => Ok(Reply::Flag(tree.is_file(p)?)),
+        QuestionKind::Dir => Ok(Reply::Flag(tree.is_dir(p)?)),
+        QuestionKind::Exists => Ok(Reply::Flag(tree.exists(p)?)),
+        QuestionKind::Read => Ok(Reply::Bytes(tree.read(alloc, p)?)),
+        QuestionKind::Canon => Ok(Reply::Name(tree.canonical(alloc, p)?)),
     }
 }
 
@@ -196,22 +196,4 @@ fn note(trail: &mut Trail, question: Question, reply: Reply) -> Result<(), ReadE
 {
     trail.push(question, reply)?;
     Ok(())
-}
-
-fn copy_of_bytes(alloc: Global, bytes: &Option<Bytes>) -> Result<Option<Bytes>, AllocError>
-    ensures { IfOk result (λ o. o ≡ bytes.now) }
-{
-    match bytes {
-        None => Ok(None),
-        Some(bytes) => Ok(Some(bytes.try_clone(alloc)?)),
-    }
-}
-
-fn copy_of_name(alloc: Global, name: &Option<Text>) -> Result<Option<Text>, AllocError>
-    ensures { IfOk result (λ o. o ≡ name.now) }
-{
-    match name {
-        None => Ok(None),
-        Some(name) => Ok(Some(name.try_clone(alloc)?)),
-    }
 }

@@ -11,8 +11,36 @@ pub enum ResolveError<X> {
     Refused(X),
     /// A question to the tree failed. Its count of faults rose, or stands at its last value.
     TreeFault,
-    /// No memory was found.
+    /// Out of memory.
     NoMemory,
+}
+
+impl<X> ResolveError<X> {
+    ghost use Rattle.std.specs.Prelude.{◌≡◌};
+    ghost use Rattle.tree_core.specs.Resolving.{kind, IsMapped};
+
+    /// The refusal, or else the tree's error.
+    pub fn refusal(self) -> Result<X, ReadError>
+        ensures { result ≡ kind self }
+    {
+        match self {
+            ResolveError::Refused(refusal) => Ok(refusal),
+            ResolveError::TreeFault => Err(ReadError::Fault),
+            ResolveError::NoMemory => Err(ReadError::NoMemory),
+        }
+    }
+
+    /// A refusal becomes what the function makes of it, and each other error stays.
+    pub fn map_refused<Y, F: FnOnce(X) -> Y>(self, f: F) -> ResolveError<Y>
+        requires { F.IsAlwaysCallable f }
+        ensures { IsMapped (F.post f) self result }
+    {
+        match self {
+            ResolveError::Refused(refusal) => ResolveError::Refused(f(refusal)),
+            ResolveError::TreeFault => ResolveError::TreeFault,
+            ResolveError::NoMemory => ResolveError::NoMemory,
+        }
+    }
 }
 
 impl<X> From<ReadError> for ResolveError<X> {

@@ -17,7 +17,7 @@ pub enum ReadError {
     /// The tree failed. Its count of faults rose, or stands at its last value.
     #[error("the tree failed")]
     Fault,
-    /// No memory was found.
+    /// Out of memory.
     #[error("no memory")]
     NoMemory,
 }

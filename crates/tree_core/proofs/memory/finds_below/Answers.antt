@@ -3,7 +3,8 @@ use Rattle.std.specs.FinMap as map
 use Rattle.std.specs.List.{find, list_any, starts_with}
 use Rattle.tree_core.specs.Memory.{files_of}
 use Rattle.tree_core.specs.Tree.{stands_above}
-use Rattle.tree_core.proofs.Conflicts.{any-found, is_some-option_map, when_err, when_ok}
+use Rattle.tree_core.proofs.Above.{continues}
+use Rattle.tree_core.proofs.Conflicts.{any-found, is_some-option_map, any-below, when_err, when_ok}
 use Rattle.tree_core.proofs.memory.finds_below.Goals as goal
 
 pub returns-then-is_err-clause-missed : goal.returns-then-is_err-clause-missed
@@ -16,7 +17,7 @@ below : (c : goal.After-is_some) → list_any (stands_above c.args.path.now) (ma
 below c =
     let prefix = when_ok (string_bytes c.fill.new.prefix ≡ c.args.path.now ++ 47 ∷ []) c.fill.result (sym c.is_err.ensures.value ∙ c.if-is_err.false) c.fill.ensures.ok in
     let found = c.first_with_prefix.ensures ∙ ap (λ (text : List ℕ). find (λ q. starts_with nat_eq q text) (map.keys (files_of c.args.files.now.entries))) prefix in
-    any-found (stands_above c.args.path.now) (map.keys (files_of c.args.files.now.entries)) ∙ ap is_some (sym found) ∙ is_some-option_map (λ q. q.now) c.first_with_prefix.result ∙ sym c.is_some.ensures
+    any-below c.args.path.now (map.keys (files_of c.args.files.now.entries)) c.requires ∙ any-found (continues c.args.path.now) (map.keys (files_of c.args.files.now.entries)) ∙ ap is_some (sym found) ∙ is_some-option_map (λ q. q.now) c.first_with_prefix.result ∙ sym c.is_some.ensures
 
 pub returns-clause-found : goal.returns-clause-found
 returns-clause-found c = λ h. below c ∙ h

@@ -1,6 +1,7 @@
 use Rattle.std.proofs.Common.{◌≡◌, ◌-◌, ◌&&◌, true, false, List, [], ◌∷◌, nat_eq, length, take, drop, ap, sym, ◌∙◌}
 use Rattle.std.specs.List.{starts_with}
 use Rattle.std.proofs.lemmas.List.{take_rest}
+use Rattle.tree_core.proofs.Above.{above-continues}
 use Rattle.tree_core.proofs.Prefixes.{starts_with-append}
 use Rattle.tree_core.proofs.memory.stands_above.Goals as goal
 
@@ -15,6 +16,7 @@ returns-then-starts_with c =
     ∙ ap (λ (text : List _). starts_with nat_eq text (47 ∷ [])) rest
     ∙ ap (λ b. b && starts_with nat_eq (drop (length path) other) (47 ∷ [])) (sym begins)
     ∙ sym (starts_with-append path (47 ∷ []) other)
+    ∙ sym (above-continues path other c.requires)
 
 pub returns-else-starts_with : goal.returns-else-starts_with
 returns-else-starts_with c =
@@ -24,3 +26,4 @@ returns-else-starts_with c =
     c.if-starts_with.false
     ∙ ap (λ b. b && starts_with nat_eq (drop (length path) other) (47 ∷ [])) (sym begins)
     ∙ sym (starts_with-append path (47 ∷ []) other)
+    ∙ sym (above-continues path other c.requires)

@@ -7,5 +7,5 @@ use Rattle.replay_core.proofs.replay_tree.ReplayTreeTree.canonical.Goals as goal
 
 pub returns : goal.returns
 returns c =
-    replayed Name (Canon c.args.p.now) c.in_ok-copy_of_name-in-Name.field-0 c.count.ensures c.in_ok-name.ensures.same
-    (known_as (replay_of c.count.new.self).trail _ _ _ _ c.in_ok-name.ensures.known (ap Canon c.in_ok-of.ensures) (c.in-Name.is ∙ ap Name (sym c.in_ok-copy_of_name-in-Name.ensures)))
+    replayed Name (Canon c.args.p.now) c.in-Name.name c.count.ensures c.in_ok-reply.ensures.same
+    (known_as (replay_of c.count.new.self).trail _ _ _ _ c.in_ok-reply.ensures.known (ap Canon c.in_ok-of.ensures) (sym c.in_ok-name.ensures ∙ c.in-Name.is))

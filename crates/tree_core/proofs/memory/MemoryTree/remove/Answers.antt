@@ -18,3 +18,6 @@ returns-clause-gone c =
     let files = files_of-remove c.self.inside.files c.remove.new.self c.args.path.now c.remove.ensures.updates ∙ ap (λ (m : Memory). map.remove m.files c.args.path.now) c.self.view_is in
     let questions = ap (λ (m : Memory). m.questions) c.self.view_is in
     λ i. record { files = files i; questions = questions i }
+
+pub returns-clause-valid : goal.returns-clause-valid
+returns-clause-valid c = (invariant_of-self c).valid
