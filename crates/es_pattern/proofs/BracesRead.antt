@@ -198,7 +198,7 @@ breaks bs c w h out none (b, rest, n, m, bounds, e) = by_cases (compared bs b c 
     by_cases (inl s) = none-some (n, m) (sym (none s.1) ∙ bounds_complete bs n m (subst (λ (x : List ℕ). Bounds x n m) s.0 bounds))
     by_cases (inr s) = false≢true (sym out ∙ goes_on b bs c s.0 n m bounds s.1)
 
--- the same where the text ends
+-- no quantifier stands in braces where the text ends before `}`
 ends_short : (bs b rest : List ℕ) → AllInner bs → bs ≡ b ++ 125 ∷ rest → ⊥
 ends_short [] [] rest h e = cc
 ends_short [] (x ∷ b) rest h e = cc

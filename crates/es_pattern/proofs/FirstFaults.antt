@@ -45,13 +45,11 @@ escape_head (a ∷ b ∷ rest) e = (b ∷ rest, ap (λ (c : ℕ). c ∷ b ∷ re
 
 named_head : (text : List ℕ) → begins_named_group text ≡ true → HeadIs text 40
 named_head [] e = absurd (false≢true e)
-named_head (a ∷ []) e = absurd (false≢true e)
-named_head (a ∷ b ∷ []) e = absurd (false≢true e)
-named_head (a ∷ b ∷ c ∷ rest) e = (b ∷ c ∷ rest, ap (λ (d : ℕ). d ∷ b ∷ c ∷ rest) (eqb-true a 40 (and_parts (a == 40) _ (and_parts (a == 40 && b == 63) (c == 60) e).0).0))
+named_head (a ∷ rest) e = (rest, ap (λ (d : ℕ). d ∷ rest) (sym (eqb-true 40 a (and_parts (40 == a) _ e).0)))
 
 group_head : (text : List ℕ) → begins_group text ≡ true → HeadIs text 40
 group_head [] e = absurd (false≢true e)
-group_head (a ∷ rest) e = (rest, ap (λ (d : ℕ). d ∷ rest) (eqb-true a 40 e))
+group_head (a ∷ rest) e = (rest, ap (λ (d : ℕ). d ∷ rest) (sym (eqb-true 40 a (and_parts (40 == a) _ e).0)))
 
 unsupported_head : (m : Mode) (text : List ℕ) → is_unsupported m text ≡ true → HeadIs text 92 ⊎ HeadIs text 40
 unsupported_head m text e = by_form (or_cases (may_escape m && begins_unsupported_escape text) (may_open m && begins_named_group text) e)

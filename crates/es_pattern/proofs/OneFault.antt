@@ -60,7 +60,7 @@ no_fault text (CountTooLarge a) clear (p, at_p, clear_p, apart, u) = (clear p).1
 no_fault text (Syntax a) clear (p, at_p, clear_p, apart, small, u) = (clear p).2 u
 no_fault text NoMemory clear h = h
 
--- an error that is caused is the first fault, or want of memory
+-- an error that is caused is the first fault, or tells that the call is out of memory
 pub caused_as : (text : List ℕ) (e f : PatternError) → IsFirstFault text e → IsCaused text f → (f ≡ e) ⊎ (f ≡ NoMemory)
 caused_as text e (Syntax a) h g = inl (same_fault text (Syntax a) e g h)
 caused_as text e (Unsupported a) h g = inl (same_fault text (Unsupported a) e g h)
@@ -75,7 +75,7 @@ no_syntax text tree p h fault = by_order (lt_or_same p (length text) fault.withi
     by_order (inl lt) = fault.stops lt (drop (p + 1) text, tree, subst (λ (xs : List ℕ). IsPattern xs tree) (sym (take-append-drop (p + 1) text)) h)
     by_order (inr same) = fault.ends same tree h
 
--- a text of the grammar within the limits is refused for want of memory alone
+-- a text of the grammar within the limits is refused only where the call is out of memory
 pub caused_by_memory : (text : List ℕ) (tree : Tree) (e : PatternError) → IsPattern text tree → IsWithinLimits text → IsCaused text e → e ≡ NoMemory
 caused_by_memory text tree (Syntax a) h limits (p, at_p, clear, apart, small, fault) = absurd (no_syntax text tree p h fault)
 caused_by_memory text tree (Unsupported a) h limits (p, at_p, clear, u) = absurd ((limits p).0 u)

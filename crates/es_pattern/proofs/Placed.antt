@@ -83,7 +83,7 @@ outside_moves (in_hex in_a_class value left) d c new e depth w h m = absurd h
 outside_moves class_front d c new e depth w h m = absurd h
 outside_moves inside d c new e depth w h m = absurd h
 
--- the same at an equal kind of place
+-- what agrees with a place agrees with it at an equal kind
 agrees_as : (place : Within) (new k : Kind) (e d : ℕ) (w : List ℕ) → new ≡ k → e ≡ d → Agrees place k d w → Agrees place new e w
 agrees_as place new k e d w at_k at_d h = subst (λ (j : Kind). Agrees place j e w) (sym at_k) (subst (λ (n : ℕ). Agrees place k n w) (sym at_d) h)
 
@@ -367,7 +367,7 @@ pub forms_within : (text : List ℕ) (q : ℕ) → IsUnsupportedAt text q → q 
 forms_within text q (inl (depth, place, form)) = left_within text q (test_left (λ (xs : List ℕ). begins_unsupported_escape xs || begins_named_group xs) (drop q text) refl form)
 forms_within text q (inr (depth, place, form)) = left_within text q (test_left begins_unsupported_escape (drop q text) refl form)
 
--- the same of a group too deep, and of a quantifier in braces
+-- a group too deep begins with a character, and so does a quantifier in braces
 pub deep_within : (text : List ℕ) (q : ℕ) → IsTooDeepAt text q → q < length text
 deep_within text q (depth, place, deep, form) = left_within text q (test_left begins_group (drop q text) refl form)
 

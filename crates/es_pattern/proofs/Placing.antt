@@ -74,13 +74,13 @@ outside_next d c k e text w (by_close at_c at_k at_d) h = placed_as k outside e 
 outside_next d c k e text w (by_bracket at_c at_k at_e) h = placed_as k class_front e d text w at_k at_e (stands_at (groups d) text c 91 w at_c h)
 outside_next d c k e text w (by_backslash at_c at_k at_e) h = placed_as k (behind false) e d text w at_k at_e (stands_at (groups d) text c 92 w at_c h)
 
--- the same in a class
+-- a step in a class leads to where a character further on stands
 inside_next : (d c : ℕ) (k : Kind) (e : ℕ) (text w : List ℕ) → InsideMoves d c k e → Stands text (class_in_groups d) (c ∷ w) → Placed k e text w
 inside_next d c k e text w (by_end at_c at_k at_e) h = placed_as k outside e d text w at_k at_e (past_class (stands_at (class_in_groups d) text c 93 w at_c h))
 inside_next d c k e text w (by_class_backslash at_c at_k at_e) h = placed_as k (behind true) e d text w at_k at_e (stands_at (class_in_groups d) text c 92 w at_c h)
 inside_next d c k e text w (by_member no_end at_k at_e) h = placed_as k inside e d text w at_k at_e (past_class_char h no_end)
 
--- the same behind a backslash
+-- a step behind a backslash leads to where a character further on stands
 escape_next : (in_a_class : Bool) (d c : ℕ) (k : Kind) (e : ℕ) (text w : List ℕ) → EscapeMoves in_a_class d c k e → Stands text (within in_a_class d) (92 ∷ c ∷ w) → Placed k e text w
 escape_next in_a_class d c k e text w (by_letter apart at_k at_e) h =
     placed_as k (behind_escape in_a_class) e d text w at_k at_e (behind_placed in_a_class d text w (past_any_escape in_a_class d text (c ∷ w) w h (other_escape apart)))
@@ -89,7 +89,7 @@ escape_next in_a_class d c k e text w (by_x at_c at_k at_e) h =
 escape_next in_a_class d c k e text w (by_u at_c at_k at_e) h =
     placed_as k (in_hex in_a_class 0 4) e d text w at_k at_e (λ after ch x. past_any_escape in_a_class d text (117 ∷ w) after (subst (λ (n : ℕ). Stands text (within in_a_class d) (92 ∷ n ∷ w)) at_c h) (four_digit_escape x))
 
--- the same in hexadecimal digits
+-- a step in hexadecimal digits leads to where a character further on stands
 hex_next : (in_a_class : Bool) (value left d c : ℕ) (k : Kind) (e : ℕ) (text w : List ℕ) → HexMoves in_a_class value left d c k e → ((after : List ℕ) (ch : ℕ) → Hex left value (c ∷ w) after ch → Stands text (within in_a_class d) after) → Placed k e text w
 hex_next in_a_class value left d c k e text w (by_last v is at_left at_k at_e) h =
     let last : Hex 1 value (c ∷ w) w (value * 16 + v) = (c, v, w, refl, is, (refl, refl)) in
@@ -97,7 +97,7 @@ hex_next in_a_class value left d c k e text w (by_last v is at_left at_k at_e) h
 hex_next in_a_class value left d c k e text w (by_more v l is at_left at_k at_e) h =
     placed_as k (in_hex in_a_class (value * 16 + v) (suc l)) e d text w at_k at_e (λ after ch x. h after ch (subst (λ (n : ℕ). Hex n value (c ∷ w) after ch) (sym at_left) (c, v, w, refl, is, x)))
 
--- the same in braces, after `(` and just after `[`
+-- a step in braces, after `(` and just after `[` leads to where a character further on stands
 bounds_next : (bs : List ℕ) (d c : ℕ) (k : Kind) (e : ℕ) (text w : List ℕ) → BoundsMoves bs d c k e → AllInner bs × Stands text (groups d) (123 ∷ (bs ++ c ∷ w)) → Placed k e text w
 bounds_next bs d c k e text w (by_inner is at_k at_e) h =
     placed_as k (in_bounds (bs ++ c ∷ [])) e d text w at_k at_e (inner-append bs (c ∷ []) h.0 (is, tt), subst (λ (xs : List ℕ). Stands text (groups d) (123 ∷ xs)) (sym (append_assoc bs (c ∷ []) w)) h.1)
@@ -134,7 +134,7 @@ placed_at text n r e = placed_after (take n text) (drop n text) text start r e (
 -- `?` begins no form that isn't supported
 no_form_at_question : (rest : List ℕ) → (begins_unsupported_escape rest || begins_named_group rest) ≡ true → BeginsQuestion rest → ⊥
 no_form_at_question [] h b = b
-no_form_at_question (c ∷ []) h b = absurd (false≢true h)
+no_form_at_question (c ∷ []) h b = false≢true (subst (λ (n : ℕ). (begins_unsupported_escape (n ∷ []) || begins_named_group (n ∷ [])) ≡ true) b h)
 no_form_at_question (c ∷ x ∷ []) h b = false≢true (subst (λ (n : ℕ). (begins_unsupported_escape (n ∷ x ∷ []) || begins_named_group (n ∷ x ∷ [])) ≡ true) b h)
 no_form_at_question (c ∷ x ∷ y ∷ rest) h b = false≢true (subst (λ (n : ℕ). (begins_unsupported_escape (n ∷ x ∷ y ∷ rest) || begins_named_group (n ∷ x ∷ y ∷ rest)) ≡ true) b h)
 
@@ -175,7 +175,7 @@ unsupported_placed text n r le e h =
     unsupported_kind (kind r) (length r.groups) text rest (placed_at text n r e)
     (subst (λ (b : Bool). may_escape_at (kind r) && begins_unsupported_escape rest || b && begins_named_group rest ≡ true) same.0 (subst (λ (b : Bool). b && begins_unsupported_escape rest || may_open r.mode && begins_named_group rest ≡ true) same.1 h))
 
--- the same of a group too deep
+-- a group too deep, where what is left of the text begins
 deep_kind : (k : Kind) (d : ℕ) (text rest : List ℕ) → Placed k d text rest → may_open_at k && begins_group rest && nat_le 200 (d + pending_at k) ≡ true → TooDeepHere text rest
 deep_kind outside d text rest h e = let parts = and_parts (begins_group rest) (nat_le 200 (d + 0)) e in let deep = leb-true 200 (d + 0) parts.1 in (d, h, omega (arith, deep), parts.0)
 deep_kind (in_bounds bs) d text rest h e = let parts = and_parts (begins_group rest) (nat_le 200 (d + 0)) e in let deep = leb-true 200 (d + 0) parts.1 in (d, past_inner d text bs rest h.0 (past_symbol h.1 refl), omega (arith, deep), parts.0)

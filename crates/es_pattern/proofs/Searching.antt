@@ -279,8 +279,8 @@ pub not_missing : {X : Type 0} (o : Option X) → is_some o ≡ true → (x : X)
 not_missing None h = absurd (false≢true h)
 not_missing (Some x) h = (x, refl)
 
-pub found_if : {E : Type 0} (r : Result Bool E) (tree : Tree) (lent text : List ℕ) → lent ≡ text → IfOk r (λ found. IsTrue found ↔ IsFound tree lent) → IfOk r (λ found. IsTrue found ↔ IsFound tree text)
-found_if r tree lent text e h = subst (λ (t : List ℕ). IfOk r (λ found. IsTrue found ↔ IsFound tree t)) e h
+pub found_if : {E : Type 0} (r : Result Bool E) (tree : Tree) (borrowed text : List ℕ) → borrowed ≡ text → IfOk r (λ found. IsTrue found ↔ IsFound tree borrowed) → IfOk r (λ found. IsTrue found ↔ IsFound tree text)
+found_if r tree borrowed text e h = subst (λ (t : List ℕ). IfOk r (λ found. IsTrue found ↔ IsFound tree t)) e h
 
 -- places at which nothing is alive
 pub idle_for : (pieces : List Piece) (text : List ℕ) (begins : ℕ → Bool) (steps : List Step) (alive : Alive) (n from : ℕ) → IsIdle begins alive from (from + n) → ArrivesBy Forward pieces text begins steps from alive → none_before pieces text begins steps from → ArrivesBy Forward pieces text begins steps (from + n) alive × none_before pieces text begins steps (from + n)

@@ -246,7 +246,7 @@ plain_step after_atom may_be_lazy c r s w t e h =
     settled_step true n42 n43 n63 n123 x = unsuffixed (below r.trees) r.groups t (top r.trees) (c ∷ w) (term_step c (with_term r) s w t n42 n43 n63 n123 x h)
     settled_step false n42 n43 n63 n123 x = term_step c r s w t n42 n43 n63 n123 x h
 
--- the same without what makes a quantifier lazy
+-- a step where no quantifier can be made lazy
 base_step : (after_atom : Bool) (c : ℕ) (r s : Reading) (w : List ℕ) (t : Tree) → plain after_atom false c r ≡ Some s → Completes s w t → Base after_atom r (c ∷ w) t
 base_step after_atom c r s w t e h = by_cases (plain_step after_atom false c r s w t e h)
   where

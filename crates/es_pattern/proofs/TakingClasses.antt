@@ -44,7 +44,7 @@ class_char_cases d k text w mid P (class_escape {text = v} r) e at_escape at_oth
 class_char_cases d k text w mid P backspace e at_escape at_other =
     let tails : 98 ∷ mid ≡ w = cc in at_escape (cc) (subst (λ (x : List ℕ). ClassChar 8 (92 ∷ x) mid) tails backspace)
 
--- the same, or the `-` with which a class begins
+-- a character of a class, or the `-` with which one begins, by its first character
 first_char_cases : (before : Before) (d k : ℕ) (text w mid : List ℕ) (P : Type 0) → FirstChar before d text mid → text ≡ k ∷ w
     → (k ≡ 92 → ClassChar d (92 ∷ w) mid → P) → (k == 93 ≡ false → k == 92 ≡ false → (k == 45 ≡ true → before ≡ bracket) → d ≡ k → mid ≡ w → P) → P
 first_char_cases before d k text w mid P (other_char r) e at_escape at_other =
@@ -115,7 +115,7 @@ taking_item before c r w t dash i =
         subst (λ (k : ℕ). After k r.ranges w i.1 i.0) (sym y)
         (subst (λ (v : List ℕ). After 45 r.ranges v i.1 i.0) (sym l.0) (subst (λ (a : List CharRange). After 45 r.ranges (93 ∷ i.1) i.1 a) (sym l.1) (after_one no_item)))
 
--- the same after a range or a set
+-- what completes a class after a range or a set is taken
 taking_next_item : (c : ℕ) (r : Reading) (w : List ℕ) (t : Tree) → InClass range_or_set r (c ∷ w) t → Taken (next_item c r) w t
 taking_next_item c r w t i = by_test (c == 45) refl
   where
@@ -171,7 +171,7 @@ escape_small d text mid (zero_char no_digit) = omega arith
 escape_small d text mid (two_digits {text = v} h) = omega (arith, two_digits_more 0 v mid d h)
 escape_small d text mid (four_digits {text = v} h none) = omega (arith, four_digits_more 0 v mid d h)
 
--- the same within a class
+-- an escape within a class is for a character of the basic plane
 class_escape_small : (d : ℕ) (text w mid : List ℕ) → ClassChar d text mid → text ≡ 92 ∷ w → d ≤ 0xffff
 class_escape_small d text w mid (itself tests) e =
     let same : d ≡ 92 = cc in absurd (false≢true (sym (subst (λ (x : ℕ). (x == 93 || x == 92 || x == 45) ≡ false) same tests)))
@@ -289,7 +289,7 @@ module _ (first : Option ℕ) (r : Reading) (c : ℕ) (w : List ℕ) (t : Tree) 
       let tails : v ≡ w = cc in
       subst (λ (x : ℕ). EscapeTaken first r w t x) same (taking_four first r w t d after (subst (λ (v : List ℕ). Hex 4 0 v after d) tails h) none i)
 
-  -- the same, with the backslash
+  -- an escape with its backslash is taken
   taking_escaped : (d : ℕ) (text after : List ℕ) → ClassChar d text after → text ≡ 92 ∷ c ∷ w → AfterEnd first d r after t → EscapeTaken first r w t c
   taking_escaped d text after (itself tests) e i =
       let same : d ≡ 92 = cc in absurd (false≢true (sym (subst (λ (x : ℕ). (x == 93 || x == 92 || x == 45) ≡ false) same tests)))
@@ -377,7 +377,7 @@ taking_hex value left c r w t m p h = by_digit (digit_taken None value left c h.
         (subst (λ (k : ℕ). Taken (hex_to (greatest_from (value * 16 + d) k) (value * 16 + d) k r) w t) (one_less l)
         (subst (λ (o : Option ℕ). Taken (hex_to o (value * 16 + d) l r) w t) (sym greatest) (by_end l d g more last (l == 0) refl)))))
 
--- the same in a class
+-- a hexadecimal digit of an escape in a class is taken
 pub taking_class_hex : (first : Option ℕ) (value left c : ℕ) (r : Reading) (w : List ℕ) (t : Tree) → r.mode ≡ modes.ClassHex first value left → IsPartial first value left → CompletesIn (modes.ClassHex first value left) r (c ∷ w) t
     → Taken (step_in (modes.ClassHex first value left) c r) w t
 taking_class_hex first value left c r w t m p h = by_digit (digit_taken first value left c h.2 w h.3 p h.4 h.5)

@@ -115,7 +115,7 @@ term_taken r c w t i = by_front (front r.trees r.groups t c w i.1 i.0 i.2 i.3)
     by_front (inr (inl k)) = subst (λ (d : ℕ). BeginsTerm r d w t) (sym k.0) (at_bar k.1)
     by_front (inr (inr k)) = term_begins r c w t k.0 k.1 k.2 k.3
 
--- the same, with the tests for quantifiers before
+-- a character with which a term begins is taken, also where a quantifier is looked for first
 plain_taken : (may_be_lazy : Bool) (c : ℕ) (r : Reading) (w : List ℕ) (t : Tree) → InTerm r.trees r.groups (c ∷ w) t → Taken (plain false may_be_lazy c r) w t
 plain_taken may_be_lazy c r w t i = by_brace (c == 123) refl (term_taken r c w t i)
   where

@@ -16,7 +16,7 @@ use Rattle.es_pattern.specs.NumberSet.{Has, has}
 abbrev pub if_within : ℕ → ℕ → List ℕ
 if_within size q = if nat_le q size then q ∷ [] else []
 
--- the next steps at the same place, and those at the next place
+-- the next steps that stay at the place
 abbrev pub same_place : Step → ℕ → ℕ → Passing → List ℕ
 same_place (Pass number) at size Stops = []
 same_place (Pass number) at size Stays = (at + 1) ∷ []
@@ -25,6 +25,7 @@ same_place (Fork by) at size passing = (at + 1) ∷ if_within size (at + by)
 same_place (Jump by) at size passing = if_within size (at + by)
 same_place (Back by) at size passing = if nat_le by at then (at - by) ∷ [] else []
 
+-- the next steps at the next place
 abbrev pub next_place : Step → ℕ → Passing → List ℕ
 next_place (Pass number) at Stops = []
 next_place (Pass number) at Stays = []
@@ -68,6 +69,7 @@ abbrev pub untaken : List ℕ → ℕ → ℕ
 untaken taken zero = 0
 untaken taken (suc n) = (if has taken n then 0 else 3) + untaken taken n
 
+-- the steps that are still to be taken, and those that wait
 abbrev pub weight : ℕ → Alive → ℕ
 weight size alive = untaken alive.taken.words.items (size + 1) + length alive.waiting.items
 
@@ -75,13 +77,15 @@ weight size alive = untaken alive.taken.words.items (size + 1) + length alive.wa
 abbrev pub crowd : ℕ → Alive → ℕ
 crowd size alive = untaken alive.taken.words.items (size + 1) + 3 * length alive.next.items
 
--- the same of the sets
+-- what is so at a place, said of the sets of steps that the code keeps
 abbrev pub SettlingBy : Direction → List Piece → List ℕ → (ℕ → Bool) → List Step → ℕ → Alive → Type 0
 SettlingBy direction pieces text begins program place alive = Settling direction (Passes direction pieces text) begins program place alive.waiting.items alive.taken.words.items alive.next.items
 
+-- none waits any more at the place, said of the sets of steps that the code keeps
 abbrev pub SettledBy : Direction → List Piece → List ℕ → (ℕ → Bool) → List Step → ℕ → Alive → Type 0
 SettledBy direction pieces text begins program place alive = Settled direction (Passes direction pieces text) begins program place alive.waiting.items alive.taken.words.items alive.next.items
 
+-- the place is come to, said of the sets of steps that the code keeps
 abbrev pub ArrivesBy : Direction → List Piece → List ℕ → (ℕ → Bool) → List Step → ℕ → Alive → Type 0
 ArrivesBy direction pieces text begins program place alive = Arrives direction (Passes direction pieces text) begins program place alive.waiting.items alive.taken.words.items alive.next.items
 

@@ -30,16 +30,17 @@ may_take (choice a b) c = may_take a c || may_take b c
 may_take (repetition least most a) c = may_take a c
 may_take (lookahead negated a) c = false
 
--- the two of the tree that was built last, and of those before it
+-- what is kept of the tree that was built last
 abbrev pub top_begin : List Begin → Begin
 top_begin [] = record { stays = true; takes = false }
 top_begin (b ∷ bs) = b
 
+-- what is kept of the trees below the one that was built last
 abbrev pub begins_below : List Begin → List Begin
 begins_below [] = []
 begins_below (b ∷ bs) = bs
 
--- the same with a piece more
+-- what the parts may begin with, with a piece more
 abbrev pub with_begin : ℕ → Piece → List Begin → List Begin
 with_begin c Nothing bs = record { stays = true; takes = false } ∷ bs
 with_begin c (OneOf negated ranges) bs = record { stays = false; takes = nat_lt 127 c || fits negated ranges.items c } ∷ bs
@@ -52,6 +53,7 @@ with_begin c Choice bs = let a = top_begin (begins_below bs) in let b = top_begi
 with_begin c (Repetition least more) bs = let a = top_begin bs in record { stays = (least == 0) || a.stays; takes = a.takes } ∷ begins_below bs
 with_begin c (Lookahead negated) bs = record { stays = true; takes = false } ∷ begins_below bs
 
+-- what the parts may begin with, with all these pieces more
 abbrev pub with_begins : ℕ → List Piece → List Begin → List Begin
 with_begins c [] bs = bs
 with_begins c (p ∷ ps) bs = with_begins c ps (with_begin c p bs)

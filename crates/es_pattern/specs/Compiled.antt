@@ -18,10 +18,12 @@ use Rattle.es_pattern.specs.Begins.{may_take, may_stay}
 abbrev pub stack_of : List (VecDeque Step Global) → List (List Step)
 stack_of programs = reverse (map (λ p. p.items) programs)
 
+-- the program that was built last
 abbrev pub top_code : List (List Step) → List Step
 top_code [] = []
 top_code (c ∷ cs) = c
 
+-- the programs below the one that was built last
 abbrev pub code_below : List (List Step) → List (List Step)
 code_below [] = []
 code_below (c ∷ cs) = cs
@@ -43,13 +45,15 @@ abbrev pub codes_from : Direction → ℕ → List Piece → List (List Step) �
 codes_from d number [] cs = cs
 codes_from d number (p ∷ ps) cs = codes_from d (suc number) ps (with_code d p number cs)
 
+-- the programs of all the pieces
 abbrev pub codes : Direction → List Piece → List (List Step)
 codes d pieces = codes_from d 0 pieces []
 
--- the program of the whole, and of the part of the lookahead of that number
+-- the program of the whole
 abbrev pub steps_of : Direction → List Piece → List Step
 steps_of d pieces = top_code (codes d pieces)
 
+-- the program of the part of the lookahead of that number
 abbrev pub part_steps : Direction → List Piece → ℕ → List Step
 part_steps d pieces number = steps_of d (take number pieces)
 

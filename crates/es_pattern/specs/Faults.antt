@@ -65,7 +65,7 @@ abbrev pub IsFirstFault : List ℕ → PatternError → Type 0
 IsFirstFault text (Unsupported place) = (p : ℕ) × (place ≡ byte_place text p) × IsClearBefore text p × IsUnsupportedAt text p
 IsFirstFault text (CountTooLarge place) = (p : ℕ) × (place ≡ byte_place text p) × IsClearBefore text p × (IsUnsupportedAt text p → ⊥) × IsTooLargeAt text p
 IsFirstFault text (Syntax place) = (p : ℕ) × (place ≡ byte_place text p) × IsClearBefore text p × (IsUnsupportedAt text p → ⊥) × (IsTooLargeAt text p → ⊥) × IsSyntaxAt text p
--- want of memory is no fault of the text
+-- being out of memory is no fault of the text
 IsFirstFault text NoMemory = ⊥
 
 -- no form in the text is unsupported, and no group, count or product is too large
@@ -84,7 +84,7 @@ FailsBy e result = MatchResult result (λ _. ⊥) (λ f. (f ≡ e) ⊎ (f ≡ No
 abbrev pub Succeeds : {A : Type 0} → Result A PatternError → Type 0
 Succeeds result = MatchResult result (λ _. Unit {0}) (λ f. f ≡ NoMemory)
 
--- an error is the first fault, or want of memory
+-- an error is the first fault, or tells that the call is out of memory
 abbrev pub IsCaused : List ℕ → PatternError → Type 0
 IsCaused text (Syntax place) = IsFirstFault text (Syntax place)
 IsCaused text (Unsupported place) = IsFirstFault text (Unsupported place)

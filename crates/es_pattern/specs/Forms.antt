@@ -1,5 +1,7 @@
 -- The text that forms begin with which are refused: those of ECMAScript that aren't supported, and groups.
-use Rattle.std.specs.Prelude.{ℕ, ◌+◌, ◌*◌, ◌==◌, ◌&&◌, ◌||◌, Bool, false, nat_le, List, [], ◌∷◌, Option, Some}
+use Prim.Native.Char.{code}
+use Rattle.std.specs.Prelude.{ℕ, ◌+◌, ◌*◌, ◌==◌, ◌&&◌, ◌||◌, Bool, false, nat_eq, nat_le, List, [], ◌∷◌, codes, Option, Some}
+use Rattle.std.specs.List.{starts_with}
 use Rattle.es_pattern.specs.Escapes.{hex_value, is_surrogate}
 
 -- the values of four hexadecimal digits make a surrogate
@@ -17,23 +19,19 @@ begins_surrogate (a ∷ b ∷ c ∷ d ∷ rest) = make_surrogate (hex_value a) (
 
 -- `k`, `p`, `P`, `c`, and `1` to `9`
 abbrev pub is_unsupported_letter : ℕ → Bool
-is_unsupported_letter c = (c == 107) || (c == 112) || (c == 80) || (c == 99) || nat_le 49 c && nat_le c 57
+is_unsupported_letter c = (c == code "k") || (c == code "p") || (c == code "P") || (c == code "c") || nat_le (code "1") c && nat_le c (code "9")
 
 -- `\k`, `\p`, `\P`, `\c`, `\1` to `\9`, and `\u` of a surrogate
 abbrev pub begins_unsupported_escape : List ℕ → Bool
 begins_unsupported_escape [] = false
 begins_unsupported_escape (a ∷ []) = false
 begins_unsupported_escape (a ∷ b ∷ rest) =
-    (a == 92) && (is_unsupported_letter b || (b == 117) && begins_surrogate rest)
+    (a == code "\\") && (is_unsupported_letter b || (b == code "u") && begins_surrogate rest)
 
 -- `(?<`
 abbrev pub begins_named_group : List ℕ → Bool
-begins_named_group [] = false
-begins_named_group (a ∷ []) = false
-begins_named_group (a ∷ b ∷ []) = false
-begins_named_group (a ∷ b ∷ c ∷ rest) = (a == 40) && (b == 63) && (c == 60)
+begins_named_group text = starts_with nat_eq text (codes "(?<")
 
 -- `(`, whatever follows
 abbrev pub begins_group : List ℕ → Bool
-begins_group [] = false
-begins_group (a ∷ rest) = a == 40
+begins_group text = starts_with nat_eq text (codes "(")

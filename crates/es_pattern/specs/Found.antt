@@ -12,11 +12,12 @@ has_place (j ∷ js) = true
 abbrev pub place_if : Bool → ℕ → List ℕ
 place_if here i = if here then i ∷ [] else []
 
--- where links lead from the places: that many, and at most that many
+-- where that many links lead from the places
 abbrev pub after_links : (ℕ → List ℕ) → ℕ → List ℕ → List ℕ
 after_links next zero places = places
 after_links next (suc n) places = after_links next n (flat_map next places)
 
+-- where at most that many links lead from the places
 abbrev pub up_to_links : (ℕ → List ℕ) → ℕ → List ℕ → List ℕ
 up_to_links next zero places = places
 up_to_links next (suc n) places = places ++ up_to_links next n (flat_map next places)

@@ -1,5 +1,6 @@
--- The grammar of patterns, over the characters of their texts, after ECMAScript's without flags. Limits are left out.
+-- The grammar of patterns, over the characters of their texts, after ECMAScript's without flags (ECMA-262, Pattern; `]`, `{` and `}` may stand for themselves, as in its Annex B). Limits are left out.
 -- Each relation is between a text and what is left of it: the text begins with such a thing, and the rest follows.
+use Prim.Native.Char.{code}
 use Rattle.std.specs.Prelude.{◌≡◌, ℕ, zero, suc, ◌+◌, ◌-◌, ◌*◌, ◌≤◌, ◌||◌, ◌==◌, Bool, true, false, not, List, [], ◌∷◌, ◌++◌, codes, Option, Some, None, if◌then◌else◌}
 use Rattle.es_pattern.specs.Tree.{Tree, CharRange, nothing, one_of, text_start, text_end, word_boundary, sequence, choice, repetition, lookahead}
 use Rattle.es_pattern.specs.Escapes.{range, is_ascii_digit, set_of, escaped, hex_value, is_surrogate}
@@ -14,26 +15,27 @@ char c = one_of false (range c c ∷ [])
 
 -- `.`: no line end
 abbrev pub any : Tree
-any = one_of true (range 10 10 ∷ range 13 13 ∷ range 0x2028 0x2028 ∷ range 0x2029 0x2029 ∷ [])
+any = one_of true (range (code "\n") (code "\n") ∷ range (code "\r") (code "\r") ∷ range 0x2028 0x2028 ∷ range 0x2029 0x2029 ∷ [])
 
 -- decimal digits, at least one, with the value that they go on to
 abbrev pub number_from : ℕ → List ℕ → Option ℕ
 number_from value [] = Some value
 number_from value (c ∷ cs) =
-    if is_ascii_digit c then number_from (value * 10 + (c - 48)) cs
+    if is_ascii_digit c then number_from (value * 10 + (c - code "0")) cs
     else None
 
+-- decimal digits, at least one, with their value
 abbrev pub number : List ℕ → Option ℕ
 number [] = None
 number (c ∷ cs) = number_from 0 (c ∷ cs)
 
--- what stands in the braces of a quantifier: `n`, `n,` or `n,m` with n at most m
+-- what stands in the braces of a quantifier (QuantifierPrefix): `n`, `n,` or `n,m` with n at most m
 pub data Bounds : List ℕ → ℕ → Option ℕ → Type 0 where
   exactly : (digits : List ℕ) {n : ℕ} → number digits ≡ Some n → Bounds digits n (Some n)
   at_least : (digits : List ℕ) {n : ℕ} → number digits ≡ Some n → Bounds (digits ++ codes ",") n None
   between : (digits further : List ℕ) {n m : ℕ} → number digits ≡ Some n → number further ≡ Some m → n ≤ m → Bounds (digits ++ (codes "," ++ further)) n (Some m)
 
--- a quantifier without what makes it lazy
+-- a quantifier without what makes it lazy (QuantifierPrefix)
 pub data Mark : ℕ → Option ℕ → List ℕ → List ℕ → Type 0 where
   star_mark : {rest : List ℕ} → Mark 0 None (codes "*" ++ rest) rest
   plus_mark : {rest : List ℕ} → Mark 1 None (codes "+" ++ rest) rest
@@ -44,11 +46,12 @@ pub data Mark : ℕ → Option ℕ → List ℕ → List ℕ → Type 0 where
 abbrev pub BeginsBraces : List ℕ → Type 0
 BeginsBraces text = (bounds : List ℕ) × (rest : List ℕ) × (least : ℕ) × (most : Option ℕ) × Bounds bounds least most × (text ≡ codes "{" ++ (bounds ++ (codes "}" ++ rest)))
 
--- the text begins with `^`, or with a digit
+-- the text begins with `^`
 abbrev pub BeginsCaret : List ℕ → Type 0
 BeginsCaret [] = ⊥
-BeginsCaret (c ∷ cs) = c ≡ 94
+BeginsCaret (c ∷ cs) = c ≡ code "^"
 
+-- the text begins with a digit
 abbrev pub BeginsDigit : List ℕ → Type 0
 BeginsDigit [] = ⊥
 BeginsDigit (c ∷ cs) = is_ascii_digit c ≡ true
@@ -58,16 +61,16 @@ abbrev pub Hex : ℕ → ℕ → List ℕ → List ℕ → ℕ → Type 0
 Hex zero value text rest c = (text ≡ rest) × (value ≡ c)
 Hex (suc left) value text rest c = (digit : ℕ) × (d : ℕ) × (mid : List ℕ) × (text ≡ digit ∷ mid) × (hex_value digit ≡ Some d) × Hex left (value * 16 + d) mid rest c
 
--- what follows the backslash of an escape for one character, in a class and outside alike; `\u` of a surrogate is none
+-- what follows the backslash of an escape for one character (CharacterEscape), in a class and outside alike; `\u` of a surrogate is none
 pub data CharEscape : ℕ → List ℕ → List ℕ → Type 0 where
   named : {letter c : ℕ} {rest : List ℕ} → escaped letter ≡ Some c → CharEscape c (letter ∷ rest) rest
   zero_char : {rest : List ℕ} → (BeginsDigit rest → ⊥) → CharEscape 0 (codes "0" ++ rest) rest
   two_digits : {text rest : List ℕ} {c : ℕ} → Hex 2 0 text rest c → CharEscape c (codes "x" ++ text) rest
   four_digits : {text rest : List ℕ} {c : ℕ} → Hex 4 0 text rest c → is_surrogate c ≡ false → CharEscape c (codes "u" ++ text) rest
 
--- a character of a class that isn't `-`
+-- a character of a class that isn't `-` (ClassAtomNoDash)
 pub data ClassChar : ℕ → List ℕ → List ℕ → Type 0 where
-  itself : {c : ℕ} {rest : List ℕ} → (c == 93 || c == 92 || c == 45) ≡ false → ClassChar c (c ∷ rest) rest
+  itself : {c : ℕ} {rest : List ℕ} → (c == code "]" || c == code "\\" || c == code "-") ≡ false → ClassChar c (c ∷ rest) rest
   class_escape : {c : ℕ} {text rest : List ℕ} → CharEscape c text rest → ClassChar c (codes "\\" ++ text) rest
   backspace : {rest : List ℕ} → ClassChar 8 (codes "\\b" ++ rest) rest
 
@@ -80,30 +83,30 @@ pub data Before : Type 0 where
 -- a character of a class that isn't `-`, or the `-` with which one begins
 pub data FirstChar : Before → ℕ → List ℕ → List ℕ → Type 0 where
   other_char : {before : Before} {c : ℕ} {text rest : List ℕ} → ClassChar c text rest → FirstChar before c text rest
-  first_dash : {rest : List ℕ} → FirstChar bracket 45 (codes "-" ++ rest) rest
+  first_dash : {rest : List ℕ} → FirstChar bracket (code "-") (codes "-" ++ rest) rest
 
 -- the character with which a range begins, also a `-` after a range or a set; after a character it would be the middle of a range
 pub data RangeStart : Before → ℕ → List ℕ → List ℕ → Type 0 where
   start_char : {before : Before} {c : ℕ} {text rest : List ℕ} → FirstChar before c text rest → RangeStart before c text rest
-  start_dash : {rest : List ℕ} → RangeStart range_or_set 45 (codes "-" ++ rest) rest
+  start_dash : {rest : List ℕ} → RangeStart range_or_set (code "-") (codes "-" ++ rest) rest
 
 -- the one with which it ends, also a `-`
 pub data RangeEnd : ℕ → List ℕ → List ℕ → Type 0 where
   end_char : {c : ℕ} {text rest : List ℕ} → ClassChar c text rest → RangeEnd c text rest
-  end_dash : {rest : List ℕ} → RangeEnd 45 (codes "-" ++ rest) rest
+  end_dash : {rest : List ℕ} → RangeEnd (code "-") (codes "-" ++ rest) rest
 
 -- the items of a class after those whose ranges were read, up to and with `]`
 pub data Items : Before → List CharRange → List ℕ → List ℕ → List CharRange → Type 0 where
   no_item : {before : Before} {ranges : List CharRange} {rest : List ℕ} → Items before ranges (codes "]" ++ rest) rest ranges
-  last_dash : {before : Before} {ranges : List CharRange} {rest : List ℕ} → Items before ranges (codes "-]" ++ rest) rest (ranges ++ range 45 45 ∷ [])
+  last_dash : {before : Before} {ranges : List CharRange} {rest : List ℕ} → Items before ranges (codes "-]" ++ rest) rest (ranges ++ range (code "-") (code "-") ∷ [])
   one_char : {before : Before} {ranges all : List CharRange} {c : ℕ} {text mid rest : List ℕ} → FirstChar before c text mid → Items character (ranges ++ range c c ∷ []) mid rest all → Items before ranges text rest all
   one_set : {before : Before} {ranges more all : List CharRange} {letter : ℕ} {text rest : List ℕ} → set_of letter ≡ Some more → Items range_or_set (ranges ++ more) text rest all → Items before ranges (codes "\\" ++ letter ∷ text) rest all
   from_to : {before : Before} {ranges all : List CharRange} {c d : ℕ} {text mid after rest : List ℕ} → RangeStart before c text (codes "-" ++ mid) → RangeEnd d mid after → c ≤ d → Items range_or_set (ranges ++ range c d ∷ []) after rest all
       → Items before ranges text rest all
 
--- a character that is no part of a pattern's syntax
+-- a character that is no part of a pattern's syntax (ExtendedPatternCharacter of Annex B)
 abbrev pub is_plain : ℕ → Bool
-is_plain c = not (c == 94 || c == 36 || c == 92 || c == 46 || c == 42 || c == 43 || c == 63 || c == 40 || c == 41 || c == 91 || c == 124)
+is_plain c = not (c == code "^" || c == code "$" || c == code "\\" || c == code "." || c == code "*" || c == code "+" || c == code "?" || c == code "(" || c == code ")" || c == code "[" || c == code "|")
 
 -- what is read, with the tree that it makes: the rest of some alternatives, where the trees of the earlier alternatives and of this one's terms so far are given; a term; an atom
 pub data Form : Type 0 where
@@ -111,6 +114,7 @@ pub data Form : Type 0 where
   term : Tree → Form
   atom : Tree → Form
 
+-- a text reads as a form, with what is left of it (Disjunction, Alternative, Term and Atom of ECMAScript)
 pub data Reads : Form → List ℕ → List ℕ → Type 0 where
   -- alternatives, apart by `|`, each of terms
   ends : {before terms : Tree} {rest : List ℕ} → Reads (alternatives before terms (choice before terms)) rest rest

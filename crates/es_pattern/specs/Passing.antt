@@ -48,11 +48,12 @@ PassesAs direction pieces text number i Stops = (j : ℕ) → Passes direction p
 PassesAs direction pieces text number i Stays = Passes direction pieces text number i i × ((j : ℕ) → Passes direction pieces text number i j → j ≡ i)
 PassesAs direction pieces text number i Moves = (next : ℕ) × After direction i next × (next ≤ length text) × Passes direction pieces text number i next × ((j : ℕ) → Passes direction pieces text number i j → j ≡ next)
 
--- what a piece does that spans the empty part, and what a class does before a character, or before none
+-- what a piece does that spans the empty part, by whether it does so there
 abbrev pub stays : Bool → Passing
 stays true = Stays
 stays false = Stops
 
+-- what a class does before a character, or before none
 abbrev pub class_passing : Bool → List CharRange → Option ℕ → Passing
 class_passing negated ranges None = Stops
 class_passing negated ranges (Some c) = if fits negated ranges c then Moves else Stops

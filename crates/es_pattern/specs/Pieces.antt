@@ -4,11 +4,12 @@ use Rattle.es_pattern.specs.Tree.{Tree, nothing, one_of, text_start, text_end, w
 use Rattle.es_pattern.specs.declared.piece.Piece.{Piece}
 use Rattle.es_pattern.specs.declared.piece.Piece.TheVariants.{Nothing, OneOf, TextStart, TextEnd, WordBoundary, Sequence, Choice, Repetition, Lookahead}
 
--- the tree that was built last, and those before it
+-- the tree that was built last
 abbrev pub top : List Tree → Tree
 top [] = nothing
 top (t ∷ ts) = t
 
+-- the trees below the one that was built last
 abbrev pub below : List Tree → List Tree
 below [] = []
 below (t ∷ ts) = ts
@@ -25,6 +26,7 @@ with_piece Choice ts = choice (top (below ts)) (top ts) ∷ below (below ts)
 with_piece (Repetition least more) ts = repetition least (option_map (λ n. least + n) more) (top ts) ∷ below ts
 with_piece (Lookahead negated) ts = lookahead negated (top ts) ∷ below ts
 
+-- the trees with all these pieces more
 abbrev pub with_pieces : List Piece → List Tree → List Tree
 with_pieces [] ts = ts
 with_pieces (p ∷ ps) ts = with_pieces ps (with_piece p ts)

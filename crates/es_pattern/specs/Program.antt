@@ -12,6 +12,7 @@ Does passes (Fork by) at i next j = ((next ≡ suc at) ⊎ (next ≡ at + by)) �
 Does passes (Jump by) at i next j = (next ≡ at + by) × (j ≡ i)
 Does passes (Back by) at i next j = (next + by ≡ at) × (j ≡ i)
 
+-- from a step of a program, at a place of the text, to the next step at its place
 pub record Goes (passes : ℕ → ℕ → ℕ → Type 0) (program : List Step) (at i next j : ℕ) : Type 0 where
   pub step : Step
   pub stands : slice_get program at ≡ Some step
@@ -51,19 +52,23 @@ abbrev pub sequence_steps : Direction → List Step → List Step → List Step
 sequence_steps Forward a b = a ++ b
 sequence_steps Backward a b = b ++ a
 
--- the steps of one part or the other, of a part at most once, any number of times, at least once, and that many times
+-- the steps of one part or the other
 abbrev pub choice_steps : List Step → List Step → List Step
 choice_steps a b = Fork (length a + 2) ∷ (a ++ (Jump (length b + 1) ∷ b))
 
+-- the steps of a part at most once
 abbrev pub maybe_steps : List Step → List Step
 maybe_steps a = Fork (length a + 1) ∷ a
 
+-- the steps of a part any number of times
 abbrev pub star_steps : List Step → List Step
 star_steps a = Fork (length a + 2) ∷ (a ++ (Back (length a + 1) ∷ []))
 
+-- the steps of a part at least once
 abbrev pub plus_steps : List Step → List Step
 plus_steps a = a ++ (Fork 2 ∷ Back (length a + 1) ∷ [])
 
+-- the steps of a part that many times
 abbrev pub copies : ℕ → List Step → List Step
 copies zero a = []
 copies (suc n) a = copies n a ++ a

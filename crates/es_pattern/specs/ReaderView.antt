@@ -10,9 +10,11 @@ use Rattle.es_pattern.specs.declared.mode.Mode.TheVariants.{Term, Atom, Quantifi
 use Rattle.es_pattern.specs.Pieces.{top, with_piece, with_pieces}
 use Rattle.es_pattern.specs.Reading.{Reading}
 
+-- what the reader that the code keeps has read
 abbrev pub reading : Reader → Reading
 reading r = record { trees = with_pieces r.pieces.items []; groups = reverse (map (λ g. g.kind) r.groups.items); mode = r.mode; braces = r.braces.items; negated = r.negated; ranges = r.ranges.items; product = r.product; atom_product = r.atom_product; products = reverse (map (λ g. g.product) r.groups.items) }
 
+-- what was read, with the tree that a piece builds on it
 abbrev pub pushed : Piece → Reading → Reading
 pushed piece r = record r { trees = with_piece piece r.trees }
 
@@ -22,7 +24,7 @@ Steps step Yes new = step ≡ Some new
 Steps step No new = step ≡ None
 Steps step TooLarge new = ⊥
 
--- the same, but the quantifier that it ends may count too much: then nothing changes
+-- a character is taken as the reading says, unless the quantifier that it ends counts too much: then nothing changes
 abbrev pub Takes : Option Reading → Bool → Reading → Taken → Reading → Type 0
 Takes step overcounts old Yes new = (overcounts ≡ false) × (step ≡ Some new)
 Takes step overcounts old No new = (overcounts ≡ false) × (step ≡ None)

@@ -1,4 +1,5 @@
 -- What a pattern spans: the parts of a text, from one place to another, that its tree describes. Texts are lists of characters, a place counts the characters before it.
+use Prim.Native.Char.{code}
 use Rattle.std.specs.Prelude.{◌≡◌, ℕ, zero, suc, ◌+◌, ◌-◌, ◌≤◌, ◌<◌, ◌||◌, ◌&&◌, ◌==◌, Bool, true, false, not, nat_lt, nat_le, List, length, slice_index, Option, Some, None, ◌⊎◌, if◌then◌else◌}
 use Rattle.std.specs.List.{list_any}
 use Rattle.es_pattern.specs.Tree.{Tree, CharRange, nothing, one_of, text_start, text_end, word_boundary, sequence, choice, repetition, lookahead}
@@ -17,12 +18,13 @@ fits negated ranges c = differs negated (list_any (is_within c) ranges)
 
 -- an ASCII letter, a digit or `_`
 abbrev pub is_word : ℕ → Bool
-is_word c = nat_le 97 c && nat_le c 122 || nat_le 65 c && nat_le c 90 || nat_le 48 c && nat_le c 57 || (c == 95)
+is_word c = nat_le (code "a") c && nat_le c (code "z") || nat_le (code "A") c && nat_le c (code "Z") || nat_le (code "0") c && nat_le c (code "9") || (c == code "_")
 
--- such a character stands before the place, and at it
+-- a character of a word stands before the place
 abbrev pub is_word_before : List ℕ → ℕ → Bool
 is_word_before text i = nat_lt 0 i && is_word (slice_index text (i - 1))
 
+-- a character of a word stands at the place
 abbrev pub is_word_at : List ℕ → ℕ → Bool
 is_word_at text i = nat_lt i (length text) && is_word (slice_index text i)
 

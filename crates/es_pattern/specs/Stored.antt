@@ -9,9 +9,11 @@ use Rattle.es_pattern.specs.Pieces.{top, below}
 abbrev pub Part : Type 0
 Part = ℕ × (Bool × (ℕ × (Option ℕ × List CharRange)))
 
+-- a part of these
 abbrev pub part_of : ℕ → Bool → ℕ → Option ℕ → List CharRange → Part
 part_of kind negated least most ranges = (kind, (negated, (least, (most, ranges))))
 
+-- the parts of a tree, the whole last
 abbrev pub parts : Tree → List Part
 parts nothing = part_of 0 false 0 None [] ∷ []
 parts (one_of negated ranges) = part_of 1 negated 0 None ranges ∷ []
@@ -23,6 +25,7 @@ parts (choice a b) = parts a ++ (parts b ++ (part_of 6 false 0 None [] ∷ []))
 parts (repetition least most a) = parts a ++ (part_of 7 false least most [] ∷ [])
 parts (lookahead negated a) = parts a ++ (part_of 8 negated 0 None [] ∷ [])
 
+-- the trees with a part more, by its kind
 abbrev pub with_kind : ℕ → Bool → ℕ → Option ℕ → List CharRange → List Tree → List Tree
 with_kind zero negated least most ranges ts = nothing ∷ ts
 with_kind (suc zero) negated least most ranges ts = one_of negated ranges ∷ ts
@@ -34,6 +37,7 @@ with_kind (suc (suc (suc (suc (suc (suc zero)))))) negated least most ranges ts 
 with_kind (suc (suc (suc (suc (suc (suc (suc zero))))))) negated least most ranges ts = repetition least most (top ts) ∷ below ts
 with_kind (suc (suc (suc (suc (suc (suc (suc (suc n)))))))) negated least most ranges ts = lookahead negated (top ts) ∷ below ts
 
+-- the trees with all these parts more
 abbrev pub with_parts : List Part → List Tree → List Tree
 with_parts [] ts = ts
 with_parts (p ∷ ps) ts = with_parts ps (with_kind p.0 p.1.0 p.1.1.0 p.1.1.1.0 p.1.1.1.1 ts)
@@ -57,9 +61,11 @@ with_parts-parts (choice a b) ts = with_parts-append (parts a) (parts b ++ (part
 with_parts-parts (repetition least most a) ts = with_parts-append (parts a) (part_of 7 false least most [] ∷ []) ts ∙ ap (with_parts (part_of 7 false least most [] ∷ [])) (with_parts-parts a ts)
 with_parts-parts (lookahead negated a) ts = with_parts-append (parts a) (part_of 8 negated 0 None [] ∷ []) ts ∙ ap (with_parts (part_of 8 negated 0 None [] ∷ [])) (with_parts-parts a ts)
 
+-- a range is stored as its two ends
 abbrev pub range_code : Coded CharRange
 range_code = code_by (ℕ × ℕ) (coded× coded_ℕ coded_ℕ) (λ r. (r.first, r.last)) (λ p. record { first = p.0; last = p.1 }) (λ _. refl)
 
+-- a tree is stored as its parts
 abbrev pub tree_code : Coded Tree
 tree_code =
     code_by (List Part) (coded_list (coded× coded_ℕ (coded× coded_bool (coded× coded_ℕ (coded× (coded_option coded_ℕ) (coded_list range_code)))))) parts (λ ps. top (with_parts ps [])) (λ t. ap top (with_parts-parts t []))

@@ -2,6 +2,7 @@
 use Rattle.std.specs.Prelude.{ℕ, Bool, List, Option}
 pub use Rattle.es_pattern.specs.declared.piece.CharRange.{CharRange}
 
+-- what a pattern describes
 pub data Tree : Type 0 where
   -- the empty part
   nothing : Tree

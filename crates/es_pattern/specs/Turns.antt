@@ -16,6 +16,7 @@ abbrev pub turns_if_ahead : ℕ → Option Piece → ℕ → ℕ
 turns_if_ahead places (Some (Lookahead negated)) size = pass_turns places size
 turns_if_ahead places piece size = 0
 
+-- until the piece of that number is told, by the program of its part
 abbrev pub piece_turns : ℕ → List Piece → ℕ → ℕ
 piece_turns places pieces number = turns_if_ahead places (slice_get pieces number) (length (part_steps Backward pieces number))
 
@@ -25,7 +26,7 @@ turns_from places pieces number [] = 0
 turns_from places pieces number (None ∷ tables) = piece_turns places pieces number + turns_from places pieces (suc number) tables
 turns_from places pieces number (Some table ∷ tables) = turns_from places pieces (suc number) tables
 
--- the same for all tables, with one more for each that is asked for: the step that asks waits again
+-- until all lookaheads are told, with one more for each that is asked for: the step that asks waits again
 abbrev pub untold_turns : ℕ → List Piece → List (Option (Vec Bool)) → ℕ
 untold_turns places pieces tables = turns_from places pieces 0 tables + untold_count tables
 

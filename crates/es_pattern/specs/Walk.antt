@@ -17,6 +17,7 @@ pub record IsReady (pieces : List Piece) (text : List ℕ) (classes : List (Vec 
 abbrev pub SettlingOn : List Piece → List ℕ → (ℕ → Bool) → Walk → Alive → Type 0
 SettlingOn pieces text begins walk alive = SettlingBy walk.direction pieces text begins walk.steps.now walk.place alive
 
+-- the steps at its place, where none waits any more
 abbrev pub SettledOn : List Piece → List ℕ → (ℕ → Bool) → Walk → Alive → Type 0
 SettledOn pieces text begins walk alive = SettledBy walk.direction pieces text begins walk.steps.now walk.place alive
 

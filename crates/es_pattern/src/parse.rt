@@ -75,19 +75,14 @@ fn begins_unsupported_escape(rest: &[char]) -> bool
 fn begins_named_group(rest: &[char]) -> bool
     ensures { result ≡ begins_named_group rest.now }
 {
-    match rest {
-        [a, b, c, ..] => *a == '(' && *b == '?' && *c == '<',
-        _ => false,
-    }
+    rest.starts_with(&['(', '?', '<'])
 }
 
+// Whether the text begins with `(`.
 fn begins_group(rest: &[char]) -> bool
     ensures { result ≡ begins_group rest.now }
 {
-    match rest {
-        [a, ..] => *a == '(',
-        _ => false,
-    }
+    rest.starts_with(&['('])
 }
 
 // Whether something that isn't supported begins here.

@@ -22,11 +22,11 @@ use Rattle.serde_json.proofs.Views.{get_member-put, get_member-put_other}
 use Rattle.json_reading.specs.Borrowed.{data_of, data_of_items, data_of_members, number_or_zero}
 use Rattle.json_reading.specs.Kinds.{NamesRise, is_null, listed}
 
--- lent texts in the order of their bytes
+-- borrowed texts in the order of their bytes
 abbrev pub by_text : Bor (List ℕ) → Bor (List ℕ) → Ordering
 by_text a b = slice_cmp nat_cmp a.now b.now
 
--- what a lent value stands for
+-- what a borrowed value stands for
 abbrev pub told : Value Global → Data
 told v = data_of (value_view v)
 
@@ -102,7 +102,7 @@ told-given : (r : Option (Value Global)) → option_map told r ≡ option_map da
 told-given None = refl
 told-given (Some v) = refl
 
--- the same of a member that is given up
+-- a member that is given up is the member of that name in the value's data
 pub member-given : (name : List ℕ) (v : Value Global) (r : Option (Value Global)) → option_map value_view r ≡ found.get name (value_view v) → option_map told r ≡ get name (told v)
 member-given name v r is = told-given r ∙ ap (option_map data_of) is ∙ sym (get-data_of name (value_view v))
 
@@ -120,7 +120,7 @@ listed-insert_entry (e ∷ es) k v = listed-match_ordering (by_text k e.0) _ _ _
 pub one-more : (ms : List (Bor (List ℕ) × Value Global)) (i : ℕ) (m : Bor (List ℕ) × Value Global) (es new : List (Bor (List ℕ) × Bor (Value Global))) (v : Bor (Value Global))
     → i < length ms → m ≡ get_or ms i m → v.now ≡ m.1 → new ≡ insert_entry by_text es m.0 v
     → data_of_members (members_view (drop (i + 1) ms)) (listed told new) ≡ data_of_members (members_view (drop i ms)) (listed told es)
-one-more ms i m es new v lt is lent made = rw (made, listed-insert_entry es m.0 v, lent, drop_more ms i m lt, ← is) refl
+one-more ms i m es new v lt is borrowed made = rw (made, listed-insert_entry es m.0 v, borrowed, drop_more ms i m lt, ← is) refl
 
 all-before : (k : Bor (List ℕ)) (es : List (Bor (List ℕ) × Bor (Value Global))) → AllByRecursion (λ l. by_text k l ≡ Less) (keys_of es) → AllByRecursion (λ n. slice_cmp nat_cmp k.now n ≡ Less) (map (λ m. m.0.now) es)
 all-before k [] h = tt

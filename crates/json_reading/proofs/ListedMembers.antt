@@ -1,4 +1,4 @@
--- The members of a map in a list of lent names and values.
+-- The members of a map in a list of borrowed names and values.
 use Rattle.std.proofs.Common.{◌≡◌, ℕ, Less, List, [], ◌∷◌, ◌++◌, nat_cmp, String, Global, string_bytes, refl, sym, ap, ◌∙◌, subst, append-nil}
 use Rattle.std.specs.Borrow.{Bor}
 use Rattle.std.specs.Cmp.Lexicographic.{slice_cmp}
@@ -15,7 +15,7 @@ use Rattle.json_reading.specs.Kinds.{NamesRise, listed}
 abbrev pub Pair : Type 0
 Pair = List ℕ × Value
 
--- the names and values that are lent
+-- the names and values that are borrowed
 abbrev pub told : List (Bor (List ℕ) × Bor Value) → List Pair
 told ms = map (λ m. (m.0.now, m.1.now)) ms
 

@@ -11,7 +11,7 @@ use Rattle.json_reading.specs.Kinds.{NamesRise, listed}
 use Rattle.json_reading.specs.Reading.{members_by}
 use Rattle.json_reading.proofs.RisingNames.{StandsBefore, IsRising, insert_all-rising}
 
--- a lent name with its lent value
+-- a borrowed name with its borrowed value
 abbrev pub Entry : Type 0 → Type 0
 Entry V = Bor (List ℕ) × Bor V
 

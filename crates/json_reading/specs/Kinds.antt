@@ -6,6 +6,7 @@ use Rattle.std.specs.List.Sorted.{IsStrictlySortedBy}
 use Rattle.std.specs.Ordering.{nat_cmp}
 use Rattle.serde_json.specs.Data.{Data, null, boolean, number, string, array, object, Members, no_members, member}
 
+-- the value is null
 abbrev pub is_null : Data → Bool
 is_null null = true
 is_null (boolean b) = false
@@ -14,7 +15,7 @@ is_null (string s) = false
 is_null (array ds) = false
 is_null (object ms) = false
 
--- members in a list, each a lent name and a lent value
+-- members in a list, each a borrowed name and a borrowed value
 abbrev pub listed : {V : Type 0} → (V → Data) → List (Bor (List ℕ) × Bor V) → Members
 listed f [] = no_members
 listed f (m ∷ ms) = member m.0.now (f m.1.now) (listed f ms)

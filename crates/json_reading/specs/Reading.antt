@@ -1,4 +1,5 @@
 -- What a JSON value (RFC 8259) reads as: a reader takes a value to what it says, and to nothing where the value is of another kind.
+-- A `do` here is over readings: it goes on with what a reading gives, and gives nothing where one of them doesn't read.
 use Rattle.std.specs.Prelude.{◌≡◌, ℕ, List, [], ◌∷◌, Option, Some, None, Result, Ok, Err, option_map}
 pub use Rattle.sugar_path.specs.Front.{◌>>=◌}
 use Rattle.serde_json.specs.Data.{Data, null, boolean, number, string, array, object, Items, no_items, item, Members, no_members, member}
@@ -20,6 +21,7 @@ items_by f (item d ds) = do
   rest ← items_by f ds
   Some (a ∷ rest)
 
+-- a list, each of its items read
 abbrev pub list_by : {A : Type 0} → (Data → Option A) → Data → Option (List A)
 list_by f d = as_array d >>= items_by f
 
@@ -33,6 +35,7 @@ two_by f g (item a (item b no_items)) = do
   Some (first, second)
 two_by f g (item a (item b (item c rest))) = None
 
+-- a list of exactly two items, read
 abbrev pub pair_by : {A B : Type 0} → (Data → Option A) → (Data → Option B) → Data → Option (A × B)
 pair_by f g d = as_array d >>= two_by f g
 

@@ -21,6 +21,7 @@ first_of a b c = (a, b, c, 48 ∷ [], [])
 abbrev pub end_of_minor : ℕ → ℕ → Parts
 end_of_minor a b = if a == 0 then first_of 0 (b + 1) 0 else first_of (a + 1) 0 0
 
+-- where `^` ends behind three numbers: the leftmost one that isn't 0 stays
 abbrev pub end_of_patch : ℕ → ℕ → ℕ → Parts
 end_of_patch a b c = if a == 0 then (if b == 0 then first_of 0 0 (c + 1) else first_of 0 (b + 1) 0) else first_of (a + 1) 0 0
 

@@ -15,6 +15,7 @@ before_all passes (c ∷ cs) = joined (passes c) c (before_all passes cs)
     joined b c [] = if b then [] else c ∷ []
     joined b c (d ∷ ds) = c ∷ d ∷ ds
 
+-- a space
 abbrev pub is_space : ℕ → Bool
 is_space c = c == 32
 
@@ -22,6 +23,7 @@ is_space c = c == 32
 abbrev pub is_blank : ℕ → Bool
 is_blank c = c == 32 || c == 9
 
+-- a text without the spaces and tabs around it
 abbrev pub trimmed : List ℕ → List ℕ
 trimmed t = before_all is_blank (after_all is_blank t)
 

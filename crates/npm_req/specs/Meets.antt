@@ -18,6 +18,7 @@ numbers_order v w = ordering_then (ordering_then (nat_cmp v.0 w.0) (nat_cmp v.1 
 abbrev pub precedence : Parts → Parts → Ordering
 precedence v w = ordering_then (numbers_order v w) (pre_cmp v.3 w.3)
 
+-- whether two versions in that order stand in the relation
 abbrev pub stands : Relation → Ordering → Bool
 stands Equal o = is_eq o
 stands AtLeast o = is_ge o
@@ -30,6 +31,7 @@ abbrev pub is_within : Parts → Comparator → Bool
 is_within v Never = false
 is_within v (Bound relation w) = stands relation (precedence v w)
 
+-- whether the version is a pre-release
 abbrev pub is_pre_release : Parts → Bool
 is_pre_release v = not (length v.3 == 0)
 

@@ -7,6 +7,7 @@ use Rattle.semver.specs.Grammar.{has_leading_zero}
 abbrev pub largest_number : ℕ
 largest_number = 9007199254740991
 
+-- whether npm can count the number
 abbrev pub is_number : ℕ → Bool
 is_number n = nat_le n largest_number
 
@@ -15,6 +16,7 @@ abbrev pub value_behind : ℕ → List ℕ → ℕ
 value_behind n [] = n
 value_behind n (d ∷ ds) = value_behind (n * 10 + (d - 48)) ds
 
+-- what the digits stand for
 abbrev pub value : List ℕ → ℕ
 value ds = value_behind 0 ds
 

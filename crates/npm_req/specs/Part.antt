@@ -39,6 +39,7 @@ operator_of t =
 abbrev pub after_sign : List ℕ → List ℕ
 after_sign t = unwrap_or (after (codes "v") (after_all is_space t)) (after_all is_space t)
 
+-- the part of an operator and a partial version, with what follows it; without a partial version it doesn't read
 abbrev pub part_with : List ℕ → Operator → Option Partial → List ℕ → Reading (List Comparator)
 part_with t operator None rest = Err (length t)
 part_with t operator (Some partial) rest = Ok (comparators operator partial, rest)

@@ -25,6 +25,7 @@ of_components (Some a) None patch = Major a
 of_components (Some a) (Some b) None = Minor a b
 of_components (Some a) (Some b) (Some c) = Full (a, b, c, [], [])
 
+-- a partial of three components, if each is one
 abbrev pub three : Option (Option ℕ) → Option (Option ℕ) → Option (Option ℕ) → Option Partial
 three (Some major) (Some minor) (Some patch) = Some (of_components major minor patch)
 three major minor patch = None
@@ -36,6 +37,7 @@ components (a ∷ b ∷ []) = three (component a) (component b) (Some None)
 components (a ∷ b ∷ c ∷ []) = three (component a) (component b) (component c)
 components others = None
 
+-- a version without its build
 abbrev pub without_build : Parts → Parts
 without_build p = (p.0, p.1, p.2, p.3, [])
 

@@ -1,4 +1,5 @@
 -- Ranges: alternatives between `||`, each empty, two partial versions around `-`, or parts between spaces.
+-- A `>>=` here is over results: it goes on with what a part gives, and ends by the first place that doesn't read.
 use Rattle.std.specs.Prelude.{ℕ, zero, suc, if◌then◌else◌, List, [], ◌∷◌, ◌++◌, length, Option, Some, None, option_and_then, option_map, Result, Ok, Err, codes}
 use Rattle.sugar_path.specs.Front.{after}
 pub use Rattle.sugar_path.specs.Results.{◌>>=◌}
@@ -24,6 +25,7 @@ parts_of (suc n) t =
 abbrev pub after_hyphen : List ℕ → Option (List ℕ)
 after_hyphen t = option_map (after_all is_space) (option_and_then (after (codes " ")) (after (codes "-") (after_all is_space t)))
 
+-- both ends of a form with `-`, where the second one is a partial version and ends the alternative
 abbrev pub up_to : Partial → List ℕ → Option Partial → List ℕ → Reading (List Comparator)
 up_to low t None rest = Err (length t)
 up_to low t (Some high) rest =
@@ -33,6 +35,7 @@ up_to low t (Some high) rest =
 unfoldable pub hyphen_of : Partial → List ℕ → Reading (List Comparator)
 hyphen_of low t = up_to low t (partial_of (word t)) (after_all is_space (after_word t))
 
+-- an alternative, by what follows its hyphen and by its first partial version, if it has them
 abbrev pub alternative_with : List ℕ → Option (List ℕ) → Option Partial → Reading (List Comparator)
 alternative_with t (Some second) (Some low) = hyphen_of low second
 alternative_with t second first = parts_of (length t) t
@@ -43,6 +46,7 @@ alternative t =
     let from = after_all is_space t in
     alternative_with from (after_hyphen (after_word from)) (partial_of (word from))
 
+-- the first alternative, and the others where a `||` follows it
 abbrev pub and_others : List Comparator → Option (List ℕ) → (List ℕ → Result (List (List Comparator)) ℕ) → Result (List (List Comparator)) ℕ
 and_others first None others = Ok (first ∷ [])
 and_others first (Some rest) others = others rest >>= λ read. Ok (first ∷ read)

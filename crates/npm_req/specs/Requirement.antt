@@ -17,6 +17,7 @@ use Rattle.semver.specs.Parse.{Parts}
 abbrev pub is_tag_byte : ℕ → Bool
 is_tag_byte c = is_ascii_alphabetic c || is_ascii_digit c || c == 45 || c == 95 || c == 46
 
+-- a letter, and then letters, digits, `-`, `_` and `.`
 abbrev pub is_tag : List ℕ → Bool
 is_tag [] = false
 is_tag (c ∷ cs) = is_ascii_alphabetic c && list_all is_tag_byte cs
@@ -25,6 +26,7 @@ is_tag (c ∷ cs) = is_ascii_alphabetic c && list_all is_tag_byte cs
 abbrev pub place_of : List ℕ → ℕ → ℕ
 place_of text left = (length text - length (after_all is_blank text)) + (length (trimmed text) - left)
 
+-- a text that isn't a range is a tag where it has the form of one, and else is refused
 abbrev pub or_tag : List ℕ → Result (List (List Comparator)) ℕ → Result Meaning ℕ
 or_tag text (Ok alternatives) = Ok (Range alternatives)
 or_tag text (Err left) = if is_tag (trimmed text) then Ok (Tag (trimmed text)) else Err (place_of text left)
@@ -38,6 +40,7 @@ pub record Requirement : Type 0 where
   pub text : List ℕ
   pub meaning : Meaning
 
+-- the tag, where the text is one
 abbrev pub tag_of : Meaning → Option (List ℕ)
 tag_of (Range alternatives) = None
 tag_of (Tag name) = Some name

@@ -13,6 +13,7 @@ use Rattle.npm_req.specs.declared.comparator.Relation.TheVariants.{Equal, AtLeas
 use Rattle.npm_req.specs.declared.requirement.Meaning.{Meaning}
 use Rattle.npm_req.specs.declared.requirement.Meaning.TheVariants.{Range, Tag}
 
+-- whether two relations are one
 abbrev pub same_relation : Relation → Relation → Bool
 same_relation Equal Equal = true
 same_relation AtLeast AtLeast = true
@@ -21,21 +22,25 @@ same_relation Below Below = true
 same_relation AtMost AtMost = true
 same_relation r s = false
 
+-- whether two versions are equal, builds too
 abbrev pub same_version : Parts → Parts → Bool
 same_version v w = (v.0 == w.0) && ((v.1 == w.1) && ((v.2 == w.2) && (bytes_eq v.3 w.3 && bytes_eq v.4 w.4)))
 
+-- whether two comparators are equal
 abbrev pub same_comparator : Comparator → Comparator → Bool
 same_comparator Never Never = true
 same_comparator Never (Bound s w) = false
 same_comparator (Bound r v) Never = false
 same_comparator (Bound r v) (Bound s w) = same_relation r s && same_version v w
 
+-- whether two texts mean the same alternatives, or the same tag
 abbrev pub same_meaning : Meaning → Meaning → Bool
 same_meaning (Range a) (Range b) = pointwise (pointwise same_comparator) a b
 same_meaning (Range a) (Tag t) = false
 same_meaning (Tag s) (Range b) = false
 same_meaning (Tag s) (Tag t) = bytes_eq s t
 
+-- whether two requirements are equal: what their texts mean counts, and not the texts
 abbrev pub same_requirement : Requirement → Requirement → Bool
 same_requirement a b = same_meaning a.meaning b.meaning
 
@@ -57,6 +62,7 @@ same_relation-is r s e = cc
 same_relation-Decides : (r s : Relation) → Decides (same_relation r s) (r ≡ s)
 same_relation-Decides r s = (same_relation-is r s, λ e. ap (same_relation r) (sym e) ∙ same_relation-refl r)
 
+-- two versions are equal exactly where the test says so
 abbrev pub same_version-Decides : (v w : Parts) → Decides (same_version v w) (v ≡ w)
 same_version-Decides v w =
     let each = Decides-and _ _ (unsigned_Decides v.0 w.0) (Decides-and _ _ (unsigned_Decides v.1 w.1) (Decides-and _ _ (unsigned_Decides v.2 w.2) (Decides-and _ _ (bytes_decides v.3 w.3) (bytes_decides v.4 w.4)))) in

@@ -5,6 +5,7 @@ use Rattle.semver.specs.declared.error.Error.{Error}
 use Rattle.npm_req.specs.Front.{trimmed}
 use Rattle.npm_req.specs.Number.{is_number}
 
+-- whether npm can count the three numbers
 abbrev pub are_numbers : Parts → Bool
 are_numbers p = is_number p.0 && is_number p.1 && is_number p.2
 

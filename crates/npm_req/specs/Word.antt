@@ -21,6 +21,7 @@ abbrev pub word : List ℕ → List ℕ
 word [] = []
 word (c ∷ cs) = if ends_part (c ∷ cs) then [] else c ∷ word cs
 
+-- what follows the word in front
 abbrev pub after_word : List ℕ → List ℕ
 after_word [] = []
 after_word (c ∷ cs) = if ends_part (c ∷ cs) then c ∷ cs else after_word cs
