@@ -1,0 +1,3 @@
+pub mod Exported
+pub mod ExportedView
+pub mod Laws

@@ -1,0 +1,5 @@
+//! The tests of `star_texts`.
+#![tactic(auto)]
+
+#[cfg(test)]
+mod exports;
