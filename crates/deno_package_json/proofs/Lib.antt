@@ -5,3 +5,5 @@ pub mod Copies
 pub mod Escapes
 pub mod Parents
 pub mod KeptEntries
+pub mod LoadedAgain
+pub mod PlacedRefusals

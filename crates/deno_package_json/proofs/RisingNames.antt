@@ -21,7 +21,7 @@ StandsBefore-table_of k (e ∷ es) h = by_text (text_of (view e.1)) (StandsBefor
     by_text None rest = rest
     by_text (Some t) rest = (h.0, rest)
 
-IsRising-table_of : (es : List Entry) → IsStrictlySortedBy string_cmp (keys_of es) → IsRising (table_of (members_view es))
+pub IsRising-table_of : (es : List Entry) → IsStrictlySortedBy string_cmp (keys_of es) → IsRising (table_of (members_view es))
 unfolding IsStrictlySortedBy
 IsRising-table_of [] h = tt
 IsRising-table_of (e ∷ es) h = by_text (text_of (view e.1)) (StandsBefore-table_of e.0 es h.0) (IsRising-table_of es h.1)

@@ -7,6 +7,7 @@ pub mod FileUrl
 pub mod Requirements
 pub mod Message
 pub mod Value
+pub mod LoadedAgain
 pub mod Reader
 pub mod Cache
 pub mod PathLoading

@@ -53,23 +53,23 @@ abbrev pub KeepsAnswer : Kept → Kept → List ℕ → Loaded → Type 0
 KeepsAnswer old new path (Ok rc) = new ≡ finite.insert old path (shared rc)
 KeepsAnswer old new path (Err e) = new ≡ old
 
--- what a cache that may be lent keeps as the call begins
-abbrev pub lent_kept : {C : Type 0} → (C → Kept) → Option (MutBor C) → Option Kept
-lent_kept kept lent = option_map (λ c. kept c.now) lent
+-- what an optional loan holds as the call begins
+abbrev pub held : {C : Type 0} → Option (MutBor C) → Option C
+held loan = option_map (λ c. c.now) loan
 
--- what it keeps as the call ends, where the loan is seen by its cases: no cache, or the one that was lent
-abbrev pub left_kept : {C : Type 0} → (C → Kept) → Unit {0} ⊎ ((MutBor C × Unit {0}) ⊎ ⊥) → Option Kept
-left_kept kept (inl nothing) = None
-left_kept kept (inr (inl lent)) = Some (kept lent.0.now)
-left_kept kept (inr (inr never)) = absurd never
+-- what an optional loan holds at its end. A clause sees it there by its cases: none was made, or one was
+abbrev pub left : {C : Type 0} → Unit {0} ⊎ ((MutBor C × Unit {0}) ⊎ ⊥) → Option C
+left (inl nothing) = None
+left (inr (inl loan)) = Some loan.0.now
+left (inr (inr never)) = absurd never
 
--- a cache that was lent keeps the answer
-abbrev pub KeepsIfLent : Option Kept → Option Kept → List ℕ → Loaded → Type 0
-KeepsIfLent None None path result = Unit {0}
-KeepsIfLent None (Some new) path result = ⊥
-KeepsIfLent (Some old) None path result = ⊥
-KeepsIfLent (Some old) (Some new) path result = KeepsAnswer old new path result
+-- a cache that was borrowed keeps the answer
+abbrev pub KeepsIfBorrowed : Option Kept → Option Kept → List ℕ → Loaded → Type 0
+KeepsIfBorrowed None None path result = Unit {0}
+KeepsIfBorrowed None (Some new) path result = ⊥
+KeepsIfBorrowed (Some old) None path result = ⊥
+KeepsIfBorrowed (Some old) (Some new) path result = KeepsAnswer old new path result
 
--- what a cache that may be lent keeps under a path
+-- what a cache, if there is one, keeps under a path
 abbrev pub kept_at : List ℕ → Option Kept → Option PackageJson
-kept_at path lent = option_and_then (λ kept. finite.get kept path) lent
+kept_at path cache = option_and_then (λ kept. finite.get kept path) cache

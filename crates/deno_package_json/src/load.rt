@@ -3,6 +3,7 @@ ghost use Rattle.std.specs.Prelude.{◌≡◌, IfOk, codes, option_map};
 ghost use Rattle.serde_json.specs.Find.{get};
 ghost use Rattle.serde_json.specs.View.{view, members_view};
 ghost use Rattle.deno_package_json.specs.Exports.{exports_in};
+ghost use Rattle.deno_package_json.specs.LoadedAgain.{HasOrderedTables, IsAsLoaded, IsOrderedIfThere};
 ghost use Rattle.deno_package_json.specs.Fields.{imports_in, table_under, text_under, texts_under, typ_in, types_in};
 ghost use Rattle.deno_package_json.specs.Loading.{Loads, from_text, from_value, package_in};
 ghost use Rattle.deno_package_json.specs.Package.{empty_package, package_of};
@@ -27,6 +28,7 @@ impl PackageJson {
     ) -> Result<PackageJson, PackageJsonLoadError>
         ensures loads { Loads result (from_value path (view value.now)) }
         ensures path { IfOk result (λ p. p.path ≡ path) }
+        ensures as_loaded { IfOk result (λ p. IsAsLoaded (package_of p)) }
     {
         if holds_float(value) {
             return Err(PackageJsonLoadError::HoldsFloat { path });
@@ -45,6 +47,7 @@ impl PackageJson {
     ) -> Result<PackageJson, PackageJsonLoadError>
         ensures loads { Loads result (from_text path source.now) }
         ensures path { IfOk result (λ p. p.path ≡ path) }
+        ensures as_loaded { IfOk result (λ p. IsAsLoaded (package_of p)) }
     {
         if source.trim().is_empty() {
             return Ok(empty_package(alloc, path)?);
@@ -64,6 +67,7 @@ impl PackageJson {
 fn empty_package(alloc: Global, path: Text) -> Result<PackageJson, AllocError>
     ensures fields { IfOk result (λ p. package_of p ≡ empty_package path) }
     ensures path { IfOk result (λ p. p.path ≡ path) }
+    ensures as_loaded { IfOk result (λ p. IsAsLoaded (package_of p)) }
 {
     let typ = Text::of(alloc, "none")?;
     Ok(PackageJson {
@@ -88,6 +92,7 @@ fn empty_package(alloc: Global, path: Text) -> Result<PackageJson, AllocError>
 fn package_in(alloc: Global, path: Text, value: &Value) -> Result<PackageJson, AllocError>
     ensures fields { IfOk result (λ p. package_of p ≡ package_in path (view value.now)) }
     ensures path { IfOk result (λ p. p.path ≡ path) }
+    ensures tables { IfOk result (λ p. HasOrderedTables (package_of p)) }
 {
     let entries = Entries::of(alloc, value)?;
     let texts = Texts::of(alloc, value)?;
@@ -198,6 +203,12 @@ impl Tables {
             ≡ table_under (codes "scripts") (view value.now)) }
         ensures workspaces { IfOk result (λ t.
             t.workspaces ≡ texts_under (codes "workspaces") (view value.now)) }
+        ensures dependencies_ordered { IfOk result (λ t.
+            IsOrderedIfThere (option_map (λ table. table.entries) t.dependencies)) }
+        ensures dev_dependencies_ordered { IfOk result (λ t.
+            IsOrderedIfThere (option_map (λ table. table.entries) t.dev_dependencies)) }
+        ensures scripts_ordered { IfOk result (λ t.
+            IsOrderedIfThere (option_map (λ table. table.entries) t.scripts)) }
     {
         let dependencies = table_under(alloc, value, "dependencies")?;
         let dev_dependencies = table_under(alloc, value, "devDependencies")?;

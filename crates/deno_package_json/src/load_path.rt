@@ -1,8 +1,8 @@
 // A package.json from its file.
-ghost use Rattle.std.specs.Prelude.{◌≡◌, OnOk, OnErr};
+ghost use Rattle.std.specs.Prelude.{◌≡◌, OnOk, OnErr, option_map};
 ghost use Rattle.std.specs.FinMap as finite;
 ghost use Rattle.deno_package_json.specs.Cache.{shared};
-ghost use Rattle.deno_package_json.specs.PathLoading.{HasLoadCause, KeepsAnswer, KeepsIfLent, LoadsFile, LoadsKept, kept_at, left_kept, lent_kept};
+ghost use Rattle.deno_package_json.specs.PathLoading.{HasLoadCause, KeepsAnswer, KeepsIfBorrowed, LoadsFile, LoadsKept, held, kept_at, left};
 
 use crate::cache::PackageJsonCache;
 use crate::error::PackageJsonLoadError;
@@ -21,10 +21,10 @@ impl PackageJson {
         fs: &mut F,
         cache: Option<&mut C>,
     ) -> Result<PackageJsonRc, PackageJsonLoadError>
-        ensures loads { LoadsKept (kept_at path.now (lent_kept C.kept cache.entry))
+        ensures loads { LoadsKept (kept_at path.now (option_map C.kept (held cache.entry)))
             (F.files fs.old) path.now result }
-        ensures keeps { KeepsIfLent (lent_kept C.kept cache.entry) (left_kept C.kept cache.exit)
-            path.now result }
+        ensures keeps { KeepsIfBorrowed (option_map C.kept (held cache.entry))
+            (option_map C.kept (left cache.exit)) path.now result }
         ensures files { F.files fs.new ≡ F.files fs.old }
         ensures cause { HasLoadCause (F.faults fs.old) (F.faults fs.new) result }
     {

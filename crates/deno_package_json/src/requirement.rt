@@ -1,5 +1,6 @@
 // The requirements of a package.
 ghost use Rattle.std.specs.Prelude.{◌≡◌, Err, IfOk, OnOk, fold, option_map};
+ghost use Rattle.deno_package_json.specs.Message.{ArePlaced, IsPlaced};
 ghost use Rattle.deno_package_json.specs.Package.{package_of};
 ghost use Rattle.deno_package_json.specs.Requirements.{around_colon, is_unsupported, of_package, of_workspace, required, requirements_of, with_new, with_table};
 
@@ -19,7 +20,9 @@ impl PackageJson {
         &self,
         alloc: Global,
     ) -> Result<PackageJsonDeps, AllocError>
-        ensures { IfOk result (λ deps. deps.entries ≡ requirements_of (package_of self.now)) }
+        ensures in_order { IfOk result (λ deps.
+            deps.entries ≡ requirements_of (package_of self.now)) }
+        ensures placed { IfOk result (λ deps. ArePlaced deps.entries) }
     {
         let mut deps = IndexMap::new(alloc);
         if let Some(table) = &self.dependencies {
@@ -38,7 +41,9 @@ fn insert_deps(
     deps: &mut PackageJsonDeps,
     table: &IndexMap<Text, Text>,
 ) -> Result<(), AllocError>
-    ensures { OnOk result (deps.new.entries ≡ fold with_new deps.old.entries table.now.entries) }
+    ensures with_table { OnOk result (
+        deps.new.entries ≡ fold with_new deps.old.entries table.now.entries) }
+    ensures placed { OnOk result (ArePlaced deps.old.entries → ArePlaced deps.new.entries) }
 {
     for (name, value) in table.iter() {
         insert_dep(alloc, deps, name, value)?;
@@ -52,7 +57,9 @@ fn insert_dep(
     name: &Text,
     value: &Text,
 ) -> Result<(), AllocError>
-    ensures { OnOk result (deps.new.entries ≡ with_new deps.old.entries (name.now, value.now)) }
+    ensures with_new { OnOk result (
+        deps.new.entries ≡ with_new deps.old.entries (name.now, value.now)) }
+    ensures placed { OnOk result (ArePlaced deps.old.entries → ArePlaced deps.new.entries) }
 {
     if deps.contains_key(name) {
         return Ok(());
@@ -64,7 +71,8 @@ fn insert_dep(
 
 // What a value requires under a name.
 fn required(alloc: Global, name: &str, value: &str) -> Result<Required, AllocError>
-    ensures { IfOk result (λ found. found ≡ required name.now value.now) }
+    ensures required { IfOk result (λ found. found ≡ required name.now value.now) }
+    ensures placed { IfOk result IsPlaced }
 {
     match around_colon(value) {
         None => of_package(alloc, name, value),
@@ -98,7 +106,8 @@ fn is_unsupported(scheme: &str) -> bool
 
 // A package and the range of its version.
 fn of_package(alloc: Global, name: &str, range: &str) -> Result<Required, AllocError>
-    ensures { IfOk result (λ found. found ≡ of_package (name.now, range.now)) }
+    ensures read { IfOk result (λ found. found ≡ of_package (name.now, range.now)) }
+    ensures placed { IfOk result IsPlaced }
 {
     match VersionReq::parse_from_npm(alloc, range) {
         Ok(version_req) => {
@@ -112,7 +121,8 @@ fn of_package(alloc: Global, name: &str, range: &str) -> Result<Required, AllocE
 
 // The range of a version of the workspace.
 fn of_workspace(alloc: Global, range: &str) -> Result<Required, AllocError>
-    ensures { IfOk result (λ found. found ≡ of_workspace range.now) }
+    ensures read { IfOk result (λ found. found ≡ of_workspace range.now) }
+    ensures placed { IfOk result IsPlaced }
 {
     match VersionReq::parse_from_npm(alloc, range) {
         Ok(version_req) => Ok(Ok(PackageJsonDepValue::Workspace(version_req))),

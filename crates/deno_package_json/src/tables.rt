@@ -2,6 +2,7 @@
 ghost use Rattle.std.specs.Prelude.{◌≡◌, IfOk, option_map};
 ghost use Rattle.serde_json.specs.View.{view, items_view, members_view};
 ghost use Rattle.deno_package_json.specs.Fields.{table_of, table_under, texts_of, texts_under};
+ghost use Rattle.deno_package_json.specs.LoadedAgain.{IsOrdered, IsOrderedIfThere};
 
 use crate::fields::text_of;
 use indexmap::IndexMap;
@@ -15,8 +16,10 @@ pub(crate) fn table_under(
     value: &Value,
     name: &str,
 ) -> Result<Option<IndexMap<Text, Text>>, AllocError>
-    ensures { IfOk result (λ found.
+    ensures table { IfOk result (λ found.
         option_map (λ table. table.entries) found ≡ table_under name.now (view value.now)) }
+    ensures ordered { IfOk result (λ found.
+        IsOrderedIfThere (option_map (λ table. table.entries) found)) }
 {
     match value.get(name) {
         Some(Value::Object(members)) => Ok(Some(table_of(alloc, members)?)),
@@ -25,7 +28,9 @@ pub(crate) fn table_under(
 }
 
 fn table_of(alloc: Global, members: &Map<String, Value>) -> Result<IndexMap<Text, Text>, AllocError>
-    ensures { IfOk result (λ table. table.entries ≡ table_of (members_view members.now.entries)) }
+    ensures table { IfOk result (λ table.
+        table.entries ≡ table_of (members_view members.now.entries)) }
+    ensures ordered { IfOk result (λ table. IsOrdered table.entries) }
 {
     let mut table = IndexMap::with_capacity(alloc, members.len())?;
     for (name, member) in members.iter() {

@@ -4,6 +4,10 @@
 #[cfg(test)]
 mod example;
 #[cfg(test)]
+mod export_fixtures;
+#[cfg(test)]
+mod exports;
+#[cfg(test)]
 mod fields;
 #[cfg(test)]
 mod fixtures;

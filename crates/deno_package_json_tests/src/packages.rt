@@ -1,5 +1,6 @@
-// Packages that are lent to what tells of them. One function owns a package, since each exit of a function is proved with
+// Packages, borrowed by what tells of them. One function owns a package, since each exit of a function is proved with
 // all that it drops there, and a package holds much.
+use crate::exports::exported_in;
 use crate::fields::{field_in, mains_in, value_in};
 use crate::loads::required_in;
 use deno_package_json::PackageJson;
@@ -13,6 +14,11 @@ use sugar_path::Text;
 pub(crate) enum Asked<'a> {
     /// The compact JSON of one field.
     Field(&'a str),
+    /// The file that a subpath means under conditions, which have commas between them.
+    Exported {
+        subpath: &'a str,
+        conditions: &'a str,
+    },
     /// The main modules for an ES module that asks, and for another.
     Mains,
     /// Its requirements in their order.
@@ -29,6 +35,10 @@ pub(crate) fn told_of(alloc: Global, source: &str, asked: Asked<'_>) -> Result<S
 fn told_in(alloc: Global, package: &PackageJson, asked: Asked<'_>) -> Result<String, Fail> {
     match asked {
         Asked::Field(name) => field_in(alloc, package, name),
+        Asked::Exported {
+            subpath,
+            conditions,
+        } => exported_in(alloc, package, subpath, conditions),
         Asked::Mains => mains_in(alloc, package),
         Asked::Requirements => required_in(alloc, package),
     }

@@ -1,4 +1,5 @@
 // How tables are held to what they say.
+use crate::exports::exported_told;
 use crate::fields::{fault_told, field_told, long_or_deep_told, mains_told, url_told, value_told};
 use crate::loads::required_told;
 use std::alloc::Global;
@@ -8,6 +9,7 @@ use std::test::Fail;
 /// What the rows of a table tell.
 #[derive(Clone, Copy)]
 pub(crate) enum Told {
+    Exported,
     Field,
     Fault,
     LongOrDeep,
@@ -42,6 +44,7 @@ fn row_comes(rt: &impl Abort, alloc: Global, told: Told, row: &str) -> Result<()
 
 fn tell(alloc: Global, told: Told, given: &str) -> Result<String, Fail> {
     match told {
+        Told::Exported => exported_told(alloc, given),
         Told::Field => field_told(alloc, given),
         Told::Fault => fault_told(alloc, given),
         Told::LongOrDeep => long_or_deep_told(alloc, given),
