@@ -12,7 +12,7 @@ use Rattle.lock_checks.proofs.Texts.{joined-none, joined-some}
 pub texts_keyed : IsKeyed bytes_eq
 texts_keyed = record { is = λ q r h. (bytes_eq-Decides q r).0 h; self = λ q. (bytes_eq-Decides q q).1 refl }
 
--- a text as a look-up lends it
+-- a text as a look-up borrows it
 abbrev pub lent_at : List ℕ → Bor (List ℕ)
 lent_at text = record { ref_ptr = (0, 0); now = text }
 

@@ -115,7 +115,7 @@ kept same key keyed old xs x i places there q =
     by_test true h = rw (keyed.is q (key x) h, there) refl
     by_test false h = or_none (old q)
 
--- the same in a walk over a list: at an element whose key stands nowhere yet
+-- a walk over a list notes the place of an element whose key stands nowhere yet
 pub noted_at : {A Q : Type 0} (same : Q → Q → Bool) (key : A → Q) → IsKeyed same → (old new : Q → Option ℕ) (xs : List A) (i : ℕ) (x : A)
     → i < length xs → x ≡ get_or xs i x
     → ((q : Q) → old q ≡ first_place (λ a. same q (key a)) (take i xs))

@@ -1,4 +1,5 @@
 -- Why a binding is refused, as a plan of questions.
+-- A `do` here is over plans: a plan puts its questions, and the next one goes on by what it came to.
 use Rattle.std.specs.Prelude.{ℕ, List, Option, Some, None, Result, Ok, Err}
 use Rattle.tree_core.specs.Plan.{Plan, Done, ◌>>=◌}
 use Rattle.yarn_lock_parser.specs.Lock.{Lock}

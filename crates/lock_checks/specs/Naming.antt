@@ -17,7 +17,7 @@ has_release entry name reference = bytes_eq entry.name name && bytes_eq referenc
 abbrev pub names : Entry → ℕ → List ℕ → List ℕ → Bool
 names entry version name reference = has_resolution entry name reference || ((version == 1) && has_release entry name reference)
 
--- the same for a locator, whose reference is read without its virtual part
+-- an entry names a locator, whose reference is read without its virtual part
 abbrev pub names_locator : Entry → ℕ → PackageLocator → Bool
 names_locator entry version locator = names entry version locator.name (plain_reference locator.reference)
 

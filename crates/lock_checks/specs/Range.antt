@@ -1,4 +1,5 @@
 -- The range of versions that a package's own package.json declares under a name.
+-- A `do` here is over plans: a plan puts its questions, and the next one goes on by what it came to.
 use Rattle.std.specs.Prelude.{ℕ, Bool, false, if◌then◌else◌, is_some, List, ◌∷◌, Option, Some, None, Result, Ok, Err, bytes_eq, codes, option_and_then}
 use Rattle.std.specs.Map.{lookup}
 use Rattle.std.specs.Option.{option_map_or}

@@ -7,7 +7,7 @@ pub fn location_on_tree()
     ensures { LocationOnTree }
 {}
 
-/// Why a binding is refused, in the same way.
+/// Why a binding is refused, said as a function of the tree, with its questions.
 pub fn fault_on_tree()
     ensures { FaultOnTree }
 {}

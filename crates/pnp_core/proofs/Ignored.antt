@@ -36,12 +36,14 @@ search-is_found pattern text t (Ok found) at h =
     let tells = found_tells pattern (chars text) in
     same_truth found (is_found pattern (chars text)) (λ a. tells.1 (h.0 a)) (λ a. h.1 (tells.0 a)) ∙ ap (λ x. is_found pattern (chars x)) at
 
+-- a clean text is that of the path that it names
+pub text_of-path_in : (t : List ℕ) → IsCleanPath t → text_of (path_in t) ≡ t
+text_of-path_in t (p, names, e) = ap text_of (ap path_in e ∙ path_in-text_of p names) ∙ sym e
+
 -- the text that a pattern is searched in, as it is made
-pub from_texts : (a text b relative : List ℕ) (folder path : Path) (f t : List ℕ) → a ≡ text → text ≡ normalize_path b → b ≡ relative → relative ≡ relative_from (text_of folder) (text_of folder) (text_of path) → folder ≡ path_in f → path ≡ path_in t → IsCleanPath f → IsCleanPath t → a ≡ text_from f t
-from_texts a text b relative folder path f t as_text normal as_relative from at_folder at_path (p, p_is, e) (q, q_is, g) =
-    let f_is : text_of folder ≡ f = ap text_of (at_folder ∙ ap path_in e ∙ path_in-text_of p p_is) ∙ sym e in
-    let t_is : text_of path ≡ t = ap text_of (at_path ∙ ap path_in g ∙ path_in-text_of q q_is) ∙ sym g in
-    as_text ∙ normal ∙ ap normalize_path (as_relative ∙ from ∙ ap (λ x. relative_from x x (text_of path)) f_is ∙ ap (λ x. relative_from f f x) t_is)
+pub from_texts : (a text b relative : List ℕ) (folder path : Path) (f : List ℕ) → a ≡ text → text ≡ normalize_path b → b ≡ relative → relative ≡ relative_from (text_of folder) (text_of folder) (text_of path) → folder ≡ path_in f → IsCleanPath f → a ≡ text_from f (text_of path)
+from_texts a text b relative folder path f as_text normal as_relative from at_folder clean =
+    as_text ∙ normal ∙ ap normalize_path (as_relative ∙ from ∙ ap (λ x. relative_from x x (text_of path)) (ap text_of at_folder ∙ text_of-path_in f clean))
 
 pub found-is_ignored : {E : Type 0} (m : Contents) (t : List ℕ) (pattern : Tree) (r : Result Bool E) → m.ignore_pattern_data ≡ Some pattern → IfOk r (λ found. found ≡ is_found pattern (chars (text_from m.manifest_dir t))) → IfOk r (λ ignored. ignored ≡ is_ignored m t)
 found-is_ignored m t pattern (Err e) some h = tt

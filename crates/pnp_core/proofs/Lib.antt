@@ -1,4 +1,5 @@
 pub mod Slashes
+pub mod Routes
 pub mod Belows
 pub mod TrieShapes
 pub mod NodeLists
@@ -23,3 +24,4 @@ pub mod PathForms
 pub mod OnTrees
 pub mod VirtualPaths
 pub mod Findings
+pub mod PatternReadings

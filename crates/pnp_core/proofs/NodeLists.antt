@@ -24,7 +24,7 @@ read f xs i x d lt is = get_or-map f xs i x d lt ∙ ap f (sym is)
 pub location_at-read : {T : Type 0} (ns : List (Node T)) (i : ℕ) (x : Node T) → i < length ns → x ≡ get_or ns i x → location_at ns i ≡ x.location
 location_at-read {T} ns i x lt is = read (λ (n : Node T). n.location) ns i x [] lt is
 
--- the same as goals have it
+-- the location of a node, as goals have it
 pub location_at-at : {T : Type 0} (ns : List (Node T)) (i : ℕ) (d : Node T) → i < length ns → location_at ns i ≡ (get_or ns i d).location
 location_at-at {T} ns i d lt = get_or-map (λ (n : Node T). n.location) ns i d [] lt
 

@@ -4,8 +4,9 @@ use Rattle.std.specs.List.{AllByRecursion, onto_first}
 use Rattle.std.proofs.lemmas.Bool.Decides.{eqb_tells}
 use Rattle.sugar_path.specs.Path.{Path, IsPath, is_absolute, ends_in_slash, with_slash, join, parts, by_part, by_parts, parent, steps, text_of, clean}
 use Rattle.sugar_path.proofs.Parts.{parts-slash, by_parts-append, clean-text_of, text_of-absolute}
-use Rattle.pnp_core.specs.NormalizePath.{location_path, with_end, normalize_path}
+use Rattle.pnp_core.specs.NormalizePath.{location_path, normal_names, with_end, normalize_path}
 use Rattle.pnp_core.specs.Slashed.{slashed}
+use Rattle.pnp_core.proofs.Routes.{names-rooted}
 use Rattle.pnp_core.proofs.Slashes.{clean-slashed, IsPath-location_path}
 
 -- ---- texts without `\`
@@ -109,7 +110,7 @@ text_of-some (n ∷ p) = behind (steps p)
 
 -- an absolute text, whose path has a text of its own
 pub normal-of : (t : List ℕ) (p : Path) → is_absolute t ≡ true → location_path t ≡ p → normalize_path t ≡ with_end t (text_of p)
-normal-of t p abs names = rw (abs, names, text_of-some p) refl
+normal-of t p abs names = let text : normal_names t ≡ text_of p = names-rooted t abs ∙ ap text_of names in rw (text, text_of-some p) refl
 
 absolute-append : (s u : List ℕ) → is_absolute s ≡ true → is_absolute (s ++ u) ≡ true
 absolute-append [] u h = cc

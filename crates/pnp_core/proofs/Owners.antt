@@ -59,6 +59,6 @@ insert_all-push es (x ∷ xs) k v = insert_all-push (insert_entry bytes_eq es x.
 pub entries_of-push : {A : Type 0} (xs : List (List ℕ × A)) (k : List ℕ) (v : A) → entries_of (xs ++ (k, v) ∷ []) ≡ insert_entry bytes_eq (entries_of xs) k v
 entries_of-push xs k v = insert_all-push [] xs k v
 
--- the same of a pair whose name may be null
+-- one more pair whose name may be null is put behind those so far
 pub entries_of-named : {A : Type 0} (xs : List (Option (List ℕ) × A)) (k : Option (List ℕ)) (v : A) → entries_of (map named (xs ++ (k, v) ∷ [])) ≡ insert_entry bytes_eq (entries_of (map named xs)) (unwrap_or k []) v
 entries_of-named {A} xs k v = ap entries_of (map-append (named {A = A}) xs ((k, v) ∷ [])) ∙ entries_of-push (map named xs) (unwrap_or k []) v

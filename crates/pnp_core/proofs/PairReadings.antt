@@ -22,7 +22,7 @@ read_pairs-member {A} f g made vs i v name a lt is reads = rw (drop_more vs i v 
 pub read_pairs-none : {A V : Type 0} (f : Data → Option (List ℕ × A)) (g : V → Data) (made : List (List ℕ × A)) (vs : List V) (i : ℕ) (v : V) → i < length vs → v ≡ get_or vs i v → f (g v) ≡ None → read_pairs f g made (drop i vs) ≡ None
 read_pairs-none f g made vs i v lt is reads = rw (drop_more vs i v lt, ← is, reads) refl
 
--- the same of pairs whose name may be null
+-- what is read of pairs whose name may be null
 abbrev pub read_named : {A V : Type 0} → (Data → Option (Option (List ℕ) × A)) → (V → Data) → List (List ℕ × A) → List V → Option (List (List ℕ × A))
 read_named f g made vs = option_map (λ rest. insert_all bytes_eq made (map named rest)) (items_by f (items_of (map g vs)))
 

@@ -13,7 +13,7 @@ use Rattle.sugar_path.proofs.RouteTexts.{join-push}
 use Rattle.sugar_path.proofs.Placed.{start-loose, IsPath-route_by_part, route_by_part-rooted}
 use Rattle.sugar_path.proofs.Heres.{here-place}
 use Rattle.sugar_path.proofs.Twice.{place-ends}
-use Rattle.pnp_core.specs.NormalizePath.{pieces, is_stuck, by_relative_part, by_relative_parts, location_path, relative_names, joined, normal_names, with_end, normalize_path}
+use Rattle.pnp_core.specs.NormalizePath.{pieces, normal_names, text_route, with_end, normalize_path}
 use Rattle.pnp_core.specs.Laws.{has_no_backslash, with_bare_dot}
 
 -- ---- the pieces of a text without `\` are its parts
@@ -26,127 +26,10 @@ pieces-parts (x ∷ xs) h = rw (pieces-parts xs (and_right (not (x == 92)) (has_
     by_test false true h = cc
     by_test false false h = refl
 
--- ---- the names of a text are those of its route
-rooted-parts : (p : Path) (xs : List (List ℕ)) → route_by_parts (Rooted p) xs ≡ Rooted (by_parts p xs)
-rooted-parts p [] = refl
-rooted-parts p (x ∷ xs) = ap (λ r. route_by_parts r xs) (by_tests (bytes_eq x [] || bytes_eq x (46 ∷ [])) (bytes_eq x (46 ∷ 46 ∷ []))) ∙ rooted-parts (by_part p x) xs
-  where
-    by_tests : (a b : Bool) → cond a (Rooted p) (cond b (Rooted (parent p)) (Rooted (x ∷ p))) ≡ Rooted (cond a p (cond b (parent p) (x ∷ p)))
-    by_tests true b = refl
-    by_tests false true = refl
-    by_tests false false = refl
-
--- the parts of a route, the last one first
-abbrev flat : Route → Path
-flat (Rooted p) = p
-flat (Relative k p) = p ++ replicate k (46 ∷ 46 ∷ [])
-
-stuck-dots : (k : ℕ) → is_stuck (replicate k (46 ∷ 46 ∷ [])) ≡ true
-stuck-dots zero = refl
-stuck-dots (suc k) = refl
-
-name-free : (n : List ℕ) → IsName n → bytes_eq n (46 ∷ 46 ∷ []) ≡ false
-name-free n h = by_tests (bytes_eq n []) (bytes_eq n (46 ∷ [])) (bytes_eq n (46 ∷ 46 ∷ [])) (and_left (is_plain n) (has_no_slash n) h)
-  where
-    by_tests : (a b c : Bool) → (not a && not b && not c) ≡ true → c ≡ false
-    by_tests true b c h = cc
-    by_tests false true c h = cc
-    by_tests false false true h = cc
-    by_tests false false false h = refl
-
--- `..` where a name stands takes it away, and else it stays
-flat-dots : (k : ℕ) (p : Path) → IsPath p → cond (is_stuck (p ++ replicate k (46 ∷ 46 ∷ []))) ((46 ∷ 46 ∷ []) ∷ (p ++ replicate k (46 ∷ 46 ∷ []))) (parent (p ++ replicate k (46 ∷ 46 ∷ []))) ≡ flat (route_up (Relative k p))
-flat-dots k [] h = rw (stuck-dots k) (ap (λ n. replicate n (46 ∷ 46 ∷ [])) (sym (add-one k)))
-flat-dots k (n ∷ p) h = rw (name-free n h.0) refl
-
-flat-part : (k : ℕ) (p : Path) (x : List ℕ) → IsPath p → by_relative_part (flat (Relative k p)) x ≡ flat (route_by_part (Relative k p) x)
-flat-part k p x h = by_test (bytes_eq x (46 ∷ 46 ∷ [])) refl
-  where
-    silent : (a : Bool) → cond a (flat (Relative k p)) (x ∷ flat (Relative k p)) ≡ flat (cond a (Relative k p) (route_down (Relative k p) x))
-    silent true = refl
-    silent false = refl
-
-    by_test : (b : Bool) → bytes_eq x (46 ∷ 46 ∷ []) ≡ b → by_relative_part (flat (Relative k p)) x ≡ flat (route_by_part (Relative k p) x)
-    by_test true e =
-        let dots : x ≡ 46 ∷ 46 ∷ [] = (bytes_eq-Decides x (46 ∷ 46 ∷ [])).0 e in
-        rw dots (flat-dots k p h)
-    by_test false e = rw e (silent (bytes_eq x [] || bytes_eq x (46 ∷ [])))
-
-flat-parts : (r : Route) (xs : List (List ℕ)) → is_rooted r ≡ false → IsPath (route_names r) → AllByRecursion HasNoSlash xs → by_relative_parts (flat r) xs ≡ flat (route_by_parts r xs)
-flat-parts r [] loose h slash = refl
-flat-parts (Rooted p) (x ∷ xs) loose h slash = cc
-flat-parts (Relative k p) (x ∷ xs) loose h slash =
-    ap (λ q. by_relative_parts q xs) (flat-part k p x h)
-    ∙ flat-parts (route_by_part (Relative k p) x) xs (route_by_part-rooted (Relative k p) x) (IsPath-route_by_part (Relative k p) x h slash.0) slash.1
-
--- ---- and so is their text
-join-behind : (xs : List (List ℕ)) (n : List ℕ) → length xs ≢ 0 → join_with_byte 47 (xs ++ n ∷ []) ≡ join_with_byte 47 xs ++ 47 ∷ n
-join-behind [] n some = absurd (some refl)
-join-behind (a ∷ xs) n some = join-push a xs n
-
-join-last : (n m : List ℕ) (p : Path) → join_with_byte 47 (reverse (n ∷ m ∷ p)) ≡ join_with_byte 47 (reverse (m ∷ p)) ++ 47 ∷ n
-join-last n m p = ap (join_with_byte 47) (reverse_onto (m ∷ p) n []) ∙ join-behind (reverse (m ∷ p)) n (λ e. absurd (omega (arith, e, length-reverse (m ∷ p))))
-
-joined-join : (p : Path) → joined p ≡ join_with_byte 47 (reverse p)
-joined-join [] = refl
-joined-join (n ∷ []) = refl
-joined-join (n ∷ m ∷ p) = ap (λ t. t ++ 47 ∷ n) (joined-join (m ∷ p)) ∙ sym (join-last n m p)
-
-steps-join : (n : List ℕ) (p : Path) → steps (n ∷ p) ≡ 47 ∷ join_with_byte 47 (reverse (n ∷ p))
-steps-join n [] = refl
-steps-join n (m ∷ p) = ap (λ t. t ++ 47 ∷ n) (steps-join m p) ∙ ap (λ t. 47 ∷ t) (sym (join-last n m p))
-
-text-join : (p : Path) → text_of p ≡ 47 ∷ join_with_byte 47 (reverse p)
-text-join [] = refl
-text-join (n ∷ p) = steps-join n p
-
-reverse-dots : (k : ℕ) → reverse {A = List ℕ} (replicate k (46 ∷ 46 ∷ [])) ≡ replicate k (46 ∷ 46 ∷ [])
-reverse-dots zero = refl
-reverse-dots (suc k) =
-    reverse_onto (replicate k (46 ∷ 46 ∷ [])) (46 ∷ 46 ∷ []) []
-    ∙ ap (λ ns. ns ++ (46 ∷ 46 ∷ []) ∷ []) (reverse-dots k)
-    ∙ replicate_more k (46 ∷ 46 ∷ [])
-    ∙ ap (λ n. replicate n (46 ∷ 46 ∷ [])) (add-one k)
-
-flat-text : (r : Route) → is_rooted r ≡ false → joined (flat r) ≡ route_text r
-unfolding route_text
-flat-text (Rooted p) loose = cc
-flat-text (Relative k p) loose =
-    joined-join (p ++ replicate k (46 ∷ 46 ∷ []))
-    ∙ ap (join_with_byte 47) (reverse-append p (replicate k (46 ∷ 46 ∷ [])) ∙ ap (λ ns. ns ++ reverse p) (reverse-dots k))
-
-rooted-text : (p : Path) → text_of p ≡ route_text (Rooted p)
-unfolding route_text
-rooted-text p = text-join p
-
-route_of-start : (t : List ℕ) (r : Route) → route_start t ≡ r → route_of t ≡ route_by_parts r (parts t)
-unfolding route_of
-route_of-start t r e = ap (λ s. route_by_parts s (parts t)) e
-
-location-parts : (t : List ℕ) → has_no_backslash t ≡ true → location_path t ≡ by_parts [] (parts t)
-unfolding location_path
-location-parts t h = ap (by_parts []) (pieces-parts t h)
-
-relative-parts : (t : List ℕ) → has_no_backslash t ≡ true → relative_names t ≡ by_relative_parts [] (parts t)
-unfolding relative_names
-relative-parts t h = ap (by_relative_parts []) (pieces-parts t h)
-
-loose-parts : (r : Route) (xs : List (List ℕ)) → is_rooted r ≡ false → is_rooted (route_by_parts r xs) ≡ false
-loose-parts r [] h = h
-loose-parts r (x ∷ xs) h = loose-parts (route_by_part r x) xs (route_by_part-rooted r x ∙ h)
-
+-- ---- so its route is the route of a path
 names-text : (t : List ℕ) → has_no_backslash t ≡ true → normal_names t ≡ route_text (route_of t)
-names-text t h = by_root (is_absolute t) refl
-  where
-    by_root : (b : Bool) → is_absolute t ≡ b → cond b (text_of (location_path t)) (joined (relative_names t)) ≡ route_text (route_of t)
-    by_root true e =
-        ap text_of (location-parts t h)
-        ∙ rooted-text (by_parts [] (parts t))
-        ∙ ap route_text (sym (route_of-start t (Rooted []) (ap (λ b. cond b (Rooted []) (Relative 0 [])) e) ∙ rooted-parts [] (parts t)))
-    by_root false e =
-        ap joined (relative-parts t h ∙ flat-parts (Relative 0 []) (parts t) refl tt (parts-no_slash t))
-        ∙ flat-text (route_by_parts (Relative 0 []) (parts t)) (loose-parts (Relative 0 []) (parts t) refl)
-        ∙ ap route_text (sym (route_of-start t (Relative 0 []) (start-loose t e)))
+unfolding text_route route_of
+names-text t h = ap (λ ps. route_text (route_by_parts (route_start t) ps)) (pieces-parts t h)
 
 -- ---- the forms
 start-text : (r : Route) → is_start r ≡ true → route_text r ≡ []

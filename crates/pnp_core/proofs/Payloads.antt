@@ -1,8 +1,7 @@
 -- What is read of a manifest's text, one character at a time.
-use Rattle.std.proofs.Common.{◌≡◌, ◌≢◌, ◌<◌, ◌≤◌, ◌+◌, ◌-◌, ◌/◌, ◌==◌, ◌⊎◌, ℕ, zero, suc, take, get_or, Bool, true, false, cond, List, [], ◌∷◌, ◌++◌, length, drop, append_assoc, refl, sym, ap, ◌∙◌, Option, Some, None, Bor, arith, inl, inr}
-use Rattle.std.specs.Prelude.{option_map, MatchOption, nat_lt, nat_le}
+use Rattle.std.proofs.Common.{◌≡◌, ◌≢◌, ◌<◌, ◌≤◌, ◌+◌, ◌-◌, ◌/◌, ◌==◌, ◌⊎◌, ℕ, zero, suc, take, get_or, Bool, true, false, cond, List, [], ◌∷◌, ◌++◌, length, drop, append_assoc, refl, sym, ap, ◌∙◌, Option, Some, None, arith, inl, inr}
+use Rattle.std.specs.Prelude.{nat_lt, nat_le}
 use Rattle.std.specs.List.{AllByRecursion}
-use Rattle.std.specs.Str.Pattern.{FindsTextPrefix, StripsPrefix, LacksTextAt}
 use Rattle.std.proofs.Math.Utf8.{encode, next}
 use Rattle.std.proofs.lemmas.Bool.Decides.{eqb_tells, leb_tells}
 use Rattle.std.proofs.lemmas.Str.{encode_ascii, length-encode, len_utf8_bounds}
@@ -10,50 +9,8 @@ use Rattle.std.proofs.Math.Seq.{drop-cons}
 use Rattle.std.proofs.lemmas.List.{take_all, drop_all, append-nil}
 use Rattle.memchr.specs.Find.{IsFirstByte, is_byte2}
 use Rattle.sugar_path.specs.Front.{after}
+use Rattle.sugar_path.proofs.Words.{told_apart}
 use Rattle.pnp_core.specs.Payload.{is_blank, after_blank, after_blanks, after_constant, after_call, after_opening, after_leftmost, quoted, kept}
-
--- two numbers that differ
-differs : (a b : ℕ) → a ≢ b → (a == b) ≡ false
-differs a b ne = by_test (eqb_tells a b)
-  where
-    by_test : ((a == b) ≡ true) × (a ≡ b) ⊎ ((a == b) ≡ false) × (a ≢ b) → (a == b) ≡ false
-    by_test (inl w) = absurd (ne w.1)
-    by_test (inr w) = w.0
-
-same : (a : ℕ) → (a == a) ≡ true
-same a = by_test (eqb_tells a a)
-  where
-    by_test : ((a == a) ≡ true) × (a ≡ a) ⊎ ((a == a) ≡ false) × (a ≢ a) → (a == a) ≡ true
-    by_test (inl w) = w.0
-    by_test (inr w) = absurd (w.1 refl)
-
--- ---- a word at the front
-
-after-append : (w t : List ℕ) → after w (w ++ t) ≡ Some t
-unfolding after
-after-append [] t = refl
-after-append (c ∷ cs) t = rw (same c) (after-append cs t)
-
-after-some : (w s t : List ℕ) → after w s ≡ Some t → s ≡ w ++ t
-unfolding after
-after-some [] s t e = cc
-after-some (c ∷ cs) [] t e = cc
-after-some (c ∷ cs) (d ∷ s) t e = by_test (eqb_tells d c) (after-some cs s t)
-  where
-    by_test : ((d == c) ≡ true) × (d ≡ c) ⊎ ((d == c) ≡ false) × (d ≢ c) → (after cs s ≡ Some t → s ≡ cs ++ t) → d ∷ s ≡ c ∷ cs ++ t
-    by_test (inl w) rest = let found = rw w.0 at e in let tail = rest found in rw (w.1, tail) refl
-    by_test (inr w) rest = let none = rw w.0 at e in cc
-
-after-lacks : (w s : List ℕ) → LacksTextAt w s 0 → after w s ≡ None
-after-lacks w s lacks = by_found (after w s) (after-some w s)
-  where
-    by_found : (o : Option (List ℕ)) → ((t : List ℕ) → o ≡ Some t → s ≡ w ++ t) → o ≡ None
-    by_found None h = refl
-    by_found (Some t) h = absurd (lacks t (h t refl))
-
-pub after-strip_prefix : (w s : List ℕ) (r : Option (Bor (List ℕ))) → MatchOption r (FindsTextPrefix w s None) (λ x. StripsPrefix (FindsTextPrefix w) s x.now) → option_map (λ t. t.now) r ≡ after w s
-after-strip_prefix w s None h = sym (after-lacks w s h)
-after-strip_prefix w s (Some x) (n, found, is, len) = ap Some is ∙ sym (ap (after w) found.1 ∙ after-append w (drop n s))
 
 -- ---- blanks
 
@@ -101,7 +58,7 @@ encode-some : (c : ℕ) → encode c ≡ [] → ⊥
 encode-some c e = let none : length (encode c) ≡ 0 = ap length e in absurd (omega (arith, length-encode c, (len_utf8_bounds c).0))
 
 not_blank : (b : ℕ) → 128 ≤ b → is_blank b ≡ false
-not_blank b h = rw (differs b 32 (λ e. absurd (omega arith)), differs b 13 (λ e. absurd (omega arith)), differs b 10 (λ e. absurd (omega arith))) refl
+not_blank b h = rw (told_apart b 32 (λ e. absurd (omega arith)), told_apart b 13 (λ e. absurd (omega arith)), told_apart b 10 (λ e. absurd (omega arith))) refl
 
 pub after_blank-char : (c : ℕ) (t : List ℕ) → after_blank (encode c ++ t) ≡ cond (is_blank c) (Some t) None
 after_blank-char c t = by_case (leb_tells 128 c)
@@ -116,7 +73,7 @@ after_blank-char c t = by_case (leb_tells 128 c)
 
 quoted-high : (bs t : List ℕ) → IsHigh bs → quoted (bs ++ t) ≡ bs ++ quoted t
 quoted-high [] t h = refl
-quoted-high (b ∷ bs) t h = rw (differs b 39 (λ e. absurd (omega (arith, h.0))), differs b 92 (λ e. absurd (omega (arith, h.0)))) (ap (λ s. b ∷ s) (quoted-high bs t h.1))
+quoted-high (b ∷ bs) t h = rw (told_apart b 39 (λ e. absurd (omega (arith, h.0))), told_apart b 92 (λ e. absurd (omega (arith, h.0)))) (ap (λ s. b ∷ s) (quoted-high bs t h.1))
 
 -- the character after a backslash stays
 pub kept-char : (c : ℕ) (t : List ℕ) → kept (encode c ++ t) ≡ encode c ++ quoted t
@@ -198,7 +155,7 @@ quoted-goes_on made t whole rest n c e cut escape step =
 
 opening-high : (b : ℕ) (s : List ℕ) → 128 ≤ b → after_opening (b ∷ s) ≡ None
 unfolding after after_constant after_call
-opening-high b s h = rw (differs b 99 (λ e. absurd (omega arith)), differs b 104 (λ e. absurd (omega arith))) refl
+opening-high b s h = rw (told_apart b 99 (λ e. absurd (omega arith)), told_apart b 104 (λ e. absurd (omega arith))) refl
 
 leftmost-high : (bs t : List ℕ) → IsHigh bs → after_leftmost (bs ++ t) ≡ after_leftmost t
 leftmost-high [] t h = refl

@@ -106,7 +106,7 @@ package_at-located dir reg l = rw (lookup-map (λ k. bytes_eq l.name k) (located
     by_rows None = refl
     by_rows (Some es) = lookup-map (λ k. bytes_eq l.reference k) (located dir) es
 
--- ---- the same where the values of a map are seen by a function
+-- ---- rows where the values of a map are seen by a function
 
 values_of-map : {K X Y : Type 0} (g : X → Y) (es : List (K × X)) (i : ℕ) (v : X) → slice_get (values_of es) i ≡ Some v → slice_get (values_of (map (λ e. (e.0, g e.1)) es)) i ≡ Some (g v)
 values_of-map g [] i v here = cc

@@ -5,7 +5,7 @@ use Rattle.std.specs.List.{onto_first, position_or_len, before_first, after_firs
 use Rattle.std.proofs.lemmas.List.{map-append, reverse-append}
 use Rattle.memchr.specs.Find.{IsFirstByte, is_byte}
 use Rattle.sugar_path.specs.Path.{Path, IsPath, IsCleanPath, parts, is_absolute, ends_in_slash, by_parts, clean}
-use Rattle.pnp_core.specs.NormalizePath.{pieces, location_path, by_relative_part, by_relative_parts, relative_names}
+use Rattle.pnp_core.specs.NormalizePath.{pieces, location_path}
 use Rattle.pnp_core.specs.Slashed.{slashed, names_of}
 use Rattle.sugar_path.proofs.Parts.{IsPath-clean, text_of-absolute}
 use Rattle.std.proofs.lemmas.Bool.Decides.{eqb_tells}
@@ -20,7 +20,7 @@ slashed-none (x ∷ xs) e = by_test (x == 92) e (slashed-none xs)
     by_test true e rest = absurd (omega arith)
     by_test false e rest = ap (λ s. x ∷ s) (rest (omega arith))
 
--- the same, where no byte is found that is a `\`
+-- a text stays where no byte is found that is a `\`
 pub slashed-lacks : (t : List ℕ) (r : Option ℕ) → IsFirstByte (is_byte 92) t r → is_some r ≡ false → slashed t ≡ t
 slashed-lacks t (Some n) first is = absurd (cc)
 slashed-lacks t None none is = by_bytes t (λ k less. none k (omega arith) less)
@@ -72,15 +72,6 @@ clean-slashed t = rw (parts-slashed t) (by_test (is_absolute (slashed t)))
 -- one more name is the path's last
 pub names_of-push : (xs : List (Bor (List ℕ))) (x : Bor (List ℕ)) → names_of (xs ++ x ∷ []) ≡ x.now ∷ names_of xs
 names_of-push xs x = ap reverse (map-append (λ n. n.now) xs (x ∷ [])) ∙ reverse-append (map (λ n. n.now) xs) (x.now ∷ [])
-
-pub by_relative_parts-append : (p : Path) (xs ys : List (List ℕ)) → by_relative_parts p (xs ++ ys) ≡ by_relative_parts (by_relative_parts p xs) ys
-by_relative_parts-append p [] ys = refl
-by_relative_parts-append p (x ∷ xs) ys = by_relative_parts-append (by_relative_part p x) xs ys
-
--- the names of a relative text, read from its parts
-pub relative_names-parts : (t : List ℕ) → by_relative_parts [] (parts (slashed t)) ≡ relative_names t
-unfolding relative_names
-relative_names-parts t = ap (by_relative_parts []) (parts-slashed t)
 
 -- the last byte, by its index
 pub ends_in_slash-last : (t : List ℕ) → ends_in_slash t ≡ (get_or t (length t - 1) 0 == 47)

@@ -26,7 +26,7 @@ is_name m k = by_test (bytes_eq m k) refl
 pub same_name : (m : List ℕ) → bytes_eq m m ≡ true
 same_name m = (bytes_eq-Decides m m).1 refl
 
--- the same of equal paths
+-- a path lies below another one's child where equal paths do
 pub below_moved : (x y v w : Path) (k : List ℕ) → x ≡ y → v ≡ w → below x (k ∷ v) ≡ true → below y (k ∷ w) ≡ true
 below_moved x y v w k e f h = sym (ap (λ z. below z (k ∷ v)) e ∙ ap (λ z. below y (k ∷ z)) f) ∙ h
 
@@ -242,7 +242,7 @@ before n loc loc' i = cond (i == suc n) (loc i) (loc' i)
 abbrev ways_before : (n : ℕ) (below_it : List ℕ → Option ℕ) (child' : ℕ → List ℕ → Option ℕ) → ℕ → List ℕ → Option ℕ
 ways_before n below_it child' i k = cond (i == n) (below_it k) (child' i k)
 
--- the same with a node beside the lower one
+-- a node put between two others, with one more beside the lower one
 pub parted_beside : (n : ℕ) (loc loc' : ℕ → Path) (child child' : ℕ → List ℕ → Option ℕ) (at : ℕ) (m : List ℕ) (l : Path) (m' : List ℕ) (c : ℕ) (x : List ℕ) (p : Path) → IsTrie n loc child → IsPath l → IsPath p → child at m ≡ Some c → below l (m ∷ loc at) ≡ true → below (loc c) (m' ∷ l) ≡ true → below p (x ∷ l) ≡ true → m' ≢ x
     → IsBeside n loc loc' child child' at m l (λ k. cond (bytes_eq m' k) (Some c) None) x p → IsTrie (suc (suc n)) loc' child'
 parted_beside n loc loc' child child' at m l m' c x p t path path' e b h g apart a =

@@ -6,6 +6,7 @@ pub mod Payload
 pub mod Manifest
 pub mod Copying
 pub mod ManifestReading
+pub mod PatternReading
 pub mod Owner
 pub mod Ownership
 pub mod Trie

@@ -1,4 +1,5 @@
 -- The manifest that a file of a tree is.
+-- A `do` here is over plans: a plan puts its questions, and the next one goes on by what it came to.
 use Rattle.std.specs.Prelude.{Result, Ok, Err}
 use Rattle.sugar_path.specs.Path.{Path}
 use Rattle.tree_core.specs.Plan.{Plan, Done, ◌>>=◌, read}
@@ -19,7 +20,7 @@ abbrev pub or_refused : Path → Result Contents HydrationCause → Result Conte
 or_refused p (Ok m) = Ok m
 or_refused p (Err cause) = Err (NoManifest (failed_hydration cause p))
 
--- the same, where a cause is told in Yarn's words
+-- the manifest that the file at a path is, where a cause is told in Yarn's words
 unfoldable pub told_loading : Path → Plan (Result Contents Refusal)
 told_loading p = do
   result ← loading p

@@ -1,4 +1,5 @@
 -- The manifest that bytes are: the JSON of their payload, field by field.
+-- A `do` here is over readings: it goes on with what a reading gives, and gives nothing where one of them doesn't read.
 use Rattle.std.specs.Prelude.{ℕ, false, if◌then◌else◌, List, [], Option, Some, None, Result, Ok, Err, ◌≡◌, map, filter, codes, bytes_eq, is_none, option_map, unwrap_or}
 use Rattle.std.specs.Option.{option_or}
 use Rattle.std.specs.Str.{is_utf8, chars}
@@ -130,7 +131,7 @@ from_fields (Some read) = with_pattern_text read.0 read.1
 abbrev pub manifest_in : Data → Result Contents HydrationCause
 manifest_in d = if has_float d then Err BadJson else from_fields (fields_in d)
 
--- the same of a text's value, where it is JSON
+-- the manifest that the value of a text says, where the text is JSON
 abbrev pub from_data : Option Data → Result Contents HydrationCause
 from_data None = Err BadJson
 from_data (Some d) = manifest_in d

@@ -1,4 +1,5 @@
 -- The manifest file nearest to a path.
+-- A `do` here is over plans: a plan puts its questions, and the next one goes on by what it came to.
 use Rattle.std.specs.Prelude.{◌∷◌, ℕ, List, Option, Result, Ok, codes, map, option_map}
 use Rattle.sugar_path.specs.Path.{Path, up, text_of}
 use Rattle.tree_core.specs.Plan.{Plan, Done, ◌>>=◌, first_existing}

@@ -4,12 +4,12 @@ use Rattle.std.specs.Char.{is_ascii_alphabetic}
 use Rattle.std.specs.List.{ends_with}
 use Rattle.std.specs.Str.{all_ascii_digits}
 use Rattle.std.specs.Str.Parse.{digits_value, without_leading_plus}
-use Rattle.sugar_path.specs.Path.{is_absolute, parts, join}
+use Rattle.sugar_path.specs.Path.{Path, is_absolute, parts, join}
 use Rattle.pnp_core.specs.declared.virtual_path.VPath.{VPath}
 use Rattle.pnp_core.specs.declared.virtual_path.VPath.TheVariants.{Zip, Virtual, Native}
 use Rattle.pnp_core.specs.declared.virtual_path.ZipInfo.{ZipInfo}
 use Rattle.pnp_core.specs.declared.virtual_path.VirtualInfo.{VirtualInfo}
-use Rattle.pnp_core.specs.NormalizePath.{joined, normalize_path}
+use Rattle.pnp_core.specs.NormalizePath.{normalize_path}
 
 -- what stands between the slashes of a path, in the order of its text
 abbrev pub Segments : Type 0
@@ -22,6 +22,12 @@ behind_root (c ∷ t) = if c == 47 then t else c ∷ t
 -- the segments of a text behind its root, if it has one; where nothing is left, there are none
 abbrev pub segments : List ℕ → Segments
 segments t = if bytes_eq (behind_root t) [] then [] else parts (behind_root t)
+
+-- names, the last one first, with a `/` between each two
+abbrev pub joined : Path → List ℕ
+joined [] = []
+joined (n ∷ []) = n
+joined (n ∷ m ∷ p) = joined (m ∷ p) ++ 47 ∷ n
 
 -- segments with a `/` between each two
 abbrev pub text_of_segments : Segments → List ℕ

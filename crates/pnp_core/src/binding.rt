@@ -21,7 +21,7 @@ pub fn binding_of(
     binding_of_name(alloc, manifest, owner, &Text::of(alloc, name)?)
 }
 
-/// The same of a name that is at hand as a text of its own: nothing is copied to be looked up.
+/// The binding of a name that is at hand as a text of its own: nothing is copied to be looked up.
 pub fn binding_of_name(
     alloc: Global,
     manifest: &Manifest,

@@ -121,7 +121,7 @@ fn entries_of_items<V: FromJson, J: JsonValue>(
     Ok(Entries { map })
 }
 
-// The same with the empty text for a null name.
+// A map of pairs, with the empty text for a null name.
 fn named_entries_of_items<V: FromJson, J: JsonValue>(
     alloc: Global,
     items: &[J],

@@ -20,6 +20,8 @@ use sugar_path::{CleanPath, Text, is_clean};
 
 /// Gives a manifest that was read the path of its file: sets its folder and its path, reads its locations from the folder,
 /// fills its pool, and makes the trie of its locations. Where no memory is found, the manifest is as before.
+/// A manifest that has its folder already, as one that is given a file once more, still has the trie of its rows: where rows or
+/// `manifest_dir` are edited by hand, `location_trie` has to fit them again before the call (or `manifest_dir` be empty).
 pub fn init_pnp_manifest(alloc: Global, manifest: &mut Manifest, p: &str) -> Result<(), AllocError>
     requires clean { IsCleanPath p.now }
     requires top_level_row { IsTrue (has_row manifest.old top_level) }
@@ -167,7 +169,8 @@ fn is_plain(text: &str) -> bool
     is_clean(text) && has_no_backslash(text)
 }
 
-fn has_no_backslash(text: &str) -> bool
+// Whether `\` stands nowhere in a text.
+pub(crate) fn has_no_backslash(text: &str) -> bool
     ensures { IsTrue result → slashed text.now ≡ text.now }
 {
     memchr(b'\\', text.as_bytes()).is_none()

@@ -2,6 +2,7 @@
 ghost use Rattle.pnp_core.specs.Laws.{NormalizesAsNormal};
 ghost use Rattle.pnp_core.specs.OnTree.{NearestOnTree, NearestTextOnTree, LoadedOnTree, ToldOnTree};
 ghost use Rattle.pnp_core.specs.Ownership.{OwnerOwns};
+ghost use Rattle.pnp_core.specs.PatternReading.{PatternRead};
 ghost use Rattle.pnp_core.specs.FindingOnTree.{FindingOnTree};
 ghost use Rattle.pnp_core.specs.VirtualLaws.{PartsAreAll};
 
@@ -31,7 +32,7 @@ pub fn nearest_on_tree()
     ensures { NearestOnTree }
 {}
 
-/// The text of the nearest manifest file, in the same way.
+/// The text of the nearest manifest file, said as a function of the tree, with its questions.
 pub fn nearest_text_on_tree()
     ensures { NearestTextOnTree }
 {}
@@ -41,7 +42,13 @@ pub fn loaded_on_tree()
     ensures { LoadedOnTree }
 {}
 
-/// The manifest that a file is, or its refusal in Yarn's words, in the same way.
+/// The manifest that a file is, or its refusal in Yarn's words, said as a function of the tree, with its question.
 pub fn told_on_tree()
     ensures { ToldOnTree }
+{}
+
+/// The ignore pattern of a manifest is the one that the grammar of patterns gives for the text in its value.
+/// A value is refused for its pattern exactly where all else in it reads and that text has a first fault.
+pub fn pattern_read()
+    ensures { PatternRead }
 {}

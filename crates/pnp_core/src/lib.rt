@@ -41,7 +41,7 @@ pub use manifest::{
 pub use missing_peer::{find_broken_peer_dependencies, missing_peer_of};
 pub use nearest::{closest_manifest, find_closest_pnp_manifest_path};
 pub use normalize::normalize_path;
-pub use owner::find_locator;
+pub use owner::{find_locator, owner_of};
 pub use payload::payload_of;
 pub use readers::read_manifest;
 pub use registry::{get_package, has_package, is_dependency_tree_root, is_excluded_from_fallback};

@@ -1,8 +1,10 @@
 // The normal form of the paths in a manifest.
 ghost use Rattle.std.specs.Prelude.{◌≡◌, [], List, ℕ, IfOk, OnOk, string_bytes, map, reverse};
 ghost use Rattle.sugar_path.specs.Path.{parts, text_of};
-ghost use Rattle.pnp_core.specs.NormalizePath.{normalize_path, normal_names, location_path, by_relative_part, by_relative_parts, relative_names, joined, with_end};
-ghost use Rattle.pnp_core.specs.Slashed.{slashed, names_of};
+ghost use Rattle.sugar_path.specs.Route.{Route, Relative, route_by_part, route_by_parts, route_text};
+ghost use Rattle.pnp_core.specs.NormalizePath.{normalize_path, normal_names, location_path, with_end};
+ghost use Rattle.pnp_core.specs.Slashed.{ArePartsOf, slashed, names_of};
+ghost use Rattle.pnp_core.specs.VirtualPath.{joined};
 
 use std::alloc::{AllocError, Global};
 use sugar_path::{CleanPath, Text};
@@ -93,9 +95,10 @@ fn with_slashes(alloc: Global, text: &str) -> Result<String, AllocError>
     Ok(slashed)
 }
 
-// The names of a relative text, with a `/` between each two.
+// The text of the route of a relative text.
 fn relative_text(alloc: Global, text: &str) -> Result<String, AllocError>
-    ensures { IfOk result (λ s. string_bytes s ≡ joined (by_relative_parts [] (parts text.now))) }
+    ensures { IfOk result (λ s.
+        string_bytes s ≡ route_text (route_by_parts (Relative 0 []) (parts text.now))) }
 {
     let mut names = Vec::new(alloc);
     for part in text.split('/') {
@@ -107,8 +110,8 @@ fn relative_text(alloc: Global, text: &str) -> Result<String, AllocError>
 
 // Goes on by one part of a relative text.
 fn follow_relative<'a>(names: &mut Vec<&'a str>, part: &'a str) -> Result<(), AllocError>
-    ensures { OnOk result (
-        names_of names.new.items ≡ by_relative_part (names_of names.old.items) part.now) }
+    ensures { OnOk result ((r : Route) → ArePartsOf names.old.items r
+        → ArePartsOf names.new.items (route_by_part r part.now)) }
 {
     if part == "" || part == "." {
         return Ok(());

@@ -2,9 +2,9 @@
 ghost use Rattle.std.specs.Prelude.{◌≡◌, IfOk};
 ghost use Rattle.std.specs.Option.{option_copied};
 ghost use Rattle.std.specs.Str.{chars};
-ghost use Rattle.sugar_path.specs.Path.{IsCleanPath};
+ghost use Rattle.sugar_path.specs.Path.{IsCleanPath, text_of};
 ghost use Rattle.es_pattern.specs.Found.{is_found};
-ghost use Rattle.pnp_core.specs.Owner.{IsReady, is_ignored, owner_of_text, text_from};
+ghost use Rattle.pnp_core.specs.Owner.{IsReady, is_ignored, owner, owner_of_text, text_from};
 
 use crate::{Manifest, PackageLocator, normalize_path};
 use es_pattern::Pattern;
@@ -22,18 +22,31 @@ pub fn find_locator<'a>(
     requires clean { IsCleanPath path.now }
     ensures { IfOk result (λ owner. option_copied owner ≡ owner_of_text manifest.now path.now) }
 {
+    let path = CleanPath::of(alloc, path)?;
+    let owner = owner_of(alloc, manifest, &path)?;
+    Ok(owner)
+}
+
+/// The package that owns a path that is clean already. Without an ignore pattern, and without `\` in the path, it takes no memory.
+pub fn owner_of<'a>(
+    alloc: Global,
+    manifest: &'a Manifest,
+    path: &CleanPath,
+) -> Result<Option<&'a PackageLocator>, AllocError>
+    requires { IsReady manifest.now }
+    ensures { IfOk result (λ found. option_copied found ≡ owner manifest.now path.now) }
+{
     if is_ignored(alloc, manifest, path)? {
         return Ok(None);
     }
-    let owner = manifest.location_trie.get_ancestor_value(alloc, path)?;
+    let owner = manifest.location_trie.nearest_value(alloc, path)?;
     Ok(owner)
 }
 
 // Whether the ignore pattern is found in the path's text from the manifest's folder.
-fn is_ignored(alloc: Global, manifest: &Manifest, path: &str) -> Result<bool, AllocError>
-    requires folder { IsCleanPath manifest.now.manifest_dir }
-    requires clean { IsCleanPath path.now }
-    ensures { IfOk result (λ ignored. ignored ≡ is_ignored manifest.now path.now) }
+fn is_ignored(alloc: Global, manifest: &Manifest, path: &CleanPath) -> Result<bool, AllocError>
+    requires { IsCleanPath manifest.now.manifest_dir }
+    ensures { IfOk result (λ ignored. ignored ≡ is_ignored manifest.now (text_of path.now)) }
 {
     match &manifest.ignore_pattern_data {
         None => Ok(false),
@@ -46,15 +59,13 @@ fn is_found_from(
     alloc: Global,
     pattern: &Pattern,
     folder: &str,
-    path: &str,
+    path: &CleanPath,
 ) -> Result<bool, AllocError>
-    requires folder { IsCleanPath folder.now }
-    requires clean { IsCleanPath path.now }
+    requires { IsCleanPath folder.now }
     ensures { IfOk result (λ found.
-        found ≡ is_found pattern.now (chars (text_from folder.now path.now))) }
+        found ≡ is_found pattern.now (chars (text_from folder.now (text_of path.now)))) }
 {
     let folder = CleanPath::of(alloc, folder)?;
-    let path = CleanPath::of(alloc, path)?;
     let relative = path.relative_to(alloc, &folder)?;
     let text = normalize_path(alloc, relative.as_str())?;
     pattern.is_found(alloc, text.as_str())

@@ -19,7 +19,7 @@ pub fn payload_of(alloc: Global, text: &str) -> Result<Option<Text>, AllocError>
     }
 }
 
-/// The same, lent where no character of it is escaped.
+/// The payload in a text, which is borrowed where no character of it is escaped.
 pub(crate) fn payload_in(alloc: Global, text: &str) -> Result<Option<CowStr<'_>>, AllocError>
     ensures { IfOk result (λ found. option_map cow_str_bytes found ≡ payload text.now) }
 {
@@ -120,7 +120,7 @@ fn quoted(alloc: Global, text: &str) -> Result<CowStr<'_>, AllocError>
     }
 }
 
-// The same in a string of its own. It is taken in runs between the escapes.
+// The text of a literal in a string of its own. It is taken in runs between the escapes.
 fn unescaped(alloc: Global, text: &str) -> Result<String, AllocError>
     ensures { IfOk result (λ s. string_bytes s ≡ quoted text.now) }
 {

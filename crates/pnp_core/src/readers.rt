@@ -36,7 +36,7 @@ pub fn read_manifest(alloc: Global, value: &Value) -> Result<Manifest, ReadManif
     manifest_of_fields(alloc, value)
 }
 
-/// The same of a text that is JSON.
+/// The manifest that a text of JSON says.
 pub(crate) fn manifest_of_json(alloc: Global, text: &str) -> Result<Manifest, ReadManifestError>
     ensures { IsReadAs result (from_data (read text.now)) }
 {
@@ -91,7 +91,7 @@ fn fields<J: JsonValue>(alloc: Global, value: &J) -> Result<(Manifest, Option<Te
     Ok((with_registry(manifest, registry), pattern))
 }
 
-// The same of a value that is given up: what is made of a row takes the room of the rows before it.
+// The fields of a manifest whose value is given up: what is made of a row takes the room of the rows before it.
 fn fields_given_up(
     alloc: Global,
     value: json::Value<'_>,

@@ -1,10 +1,11 @@
 // Values at locations, found by the nearest location above a path. They are kept in a compressed trie.
 ghost use Rattle.std.specs.Prelude.{◌≡◌, [], IsTrue, IfOk, IfErr, OnOk, OnErr};
 ghost use Rattle.std.specs.Option.{option_copied};
-ghost use Rattle.sugar_path.specs.Path.{IsPath, is_absolute};
+ghost use Rattle.sugar_path.specs.Path.{IsPath, is_absolute, text_of};
 ghost use Rattle.pnp_core.specs.NormalizePath.{location_path};
 ghost use Rattle.pnp_core.specs.Trie.{Puts, nearest_value, CountsNodes};
 
+use crate::initialize::has_no_backslash;
 use crate::normalize::location;
 use crate::trie_nodes::{Node, nearest, node_at};
 use std::alloc::{AllocError, Global};
@@ -54,7 +55,7 @@ impl<T: Drop> Trie<T> {
         }
     }
 
-    // The same at a path.
+    // Puts a value at a path.
     pub(crate) fn insert_at(&mut self, location: CleanPath, value: T) -> Result<(), (T, AllocError)>
         requires { IsPath location }
         ensures ok { OnOk result (Puts self.old self.new location value) }
@@ -77,10 +78,32 @@ impl<T: Drop> Trie<T> {
             option_copied found ≡ nearest_value self.now (location_path key.now)) }
     {
         let path = location(alloc, key)?;
-        match nearest(&self.nodes, &path) {
-            None => Ok(None),
-            Some(node) => Ok(self.nodes[node.0].value.as_ref()),
+        Ok(self.value_above(&path))
+    }
+
+    // The value of the nearest location that a clean path's text names or lies below. Only where `\` stands in it is it read anew.
+    pub(crate) fn nearest_value(
+        &self,
+        alloc: Global,
+        path: &CleanPath,
+    ) -> Result<Option<&T>, AllocError>
+        ensures { IfOk result (λ found.
+            option_copied found ≡ nearest_value self.now (location_path (text_of path.now))) }
+    {
+        if has_no_backslash(path.as_str()) {
+            return Ok(self.value_above(path));
         }
+        let named = location(alloc, path.as_str())?;
+        Ok(self.value_above(&named))
+    }
+
+    // The value of the nearest location that a path is or lies below.
+    fn value_above(&self, path: &CleanPath) -> Option<&T>
+        requires { IsPath path.now }
+        ensures { option_copied result ≡ nearest_value self.now path.now }
+    {
+        let node = nearest(&self.nodes, path)?;
+        self.nodes[node.0].value.as_ref()
     }
 
     /// How many nodes there are: one for `/`, one for each location, and one for the longest path that each two locations share,

@@ -1,4 +1,4 @@
-// What a manifest answers. It is lent to each question, so that one function owns it.
+// What a manifest answers. Each question borrows it, so that one function owns it.
 ghost use Rattle.pnp_core.specs.Owner.{IsReady};
 
 use crate::bindings::bound_told;

@@ -6,7 +6,7 @@ use crate::answers::{answers, each_answer_comes};
 use crate::manifests::{manifest_text, path, ready_from};
 use pnp_core::{
     Manifest, PackageLocator, find_broken_peer_dependencies, find_locator, get_package,
-    has_package, is_dependency_tree_root, is_excluded_from_fallback,
+    has_package, is_dependency_tree_root, is_excluded_from_fallback, owner_of,
 };
 use std::alloc::Global;
 use std::test::Fail;
@@ -84,12 +84,16 @@ pub(crate) fn locator(alloc: Global, package: &str) -> Result<PackageLocator, Fa
     })
 }
 
-/// The name of the package that owns a path.
+/// The name of the package that owns a path, by its text and as a clean path.
 pub(crate) fn owner_told(alloc: Global, manifest: &Manifest, text: &str) -> Result<Text, Fail>
     requires { IsReady manifest.now }
 {
     let path = path(alloc, text)?;
-    match find_locator(alloc, manifest, path.as_str())? {
+    let owner = find_locator(alloc, manifest, path.as_str())?;
+    if owner != owner_of(alloc, manifest, &path)? {
+        return Err(Fail::from("another owner by the clean path"));
+    }
+    match owner {
         Some(owner) if owner.name.as_str().is_empty() => Ok(Text::of(alloc, "the top level")?),
         Some(owner) => Ok(owner.name.try_clone(alloc)?),
         None => Ok(Text::of(alloc, "nothing")?),

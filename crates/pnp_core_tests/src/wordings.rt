@@ -14,7 +14,7 @@ use tree_core::Recorder;
 
 /// A package, a specifier that its file asks for, the file, and what it is told, with `\n` where a line ends.
 pub(crate) fn messages() -> &'static str {
-    r#"# one of Node's own modules that isn't declared, asked by the application and by a package
+    r#"# a builtin module that isn't declared, asked by the application and by a package
 undeclared app@workspace:. fs/promises /w/main.js = Your application tried to access fs. While this module is usually interpreted as a Node builtin, your resolver is running inside a non-Node resolution context where such builtins are ignored. Since fs isn't otherwise declared in your dependencies, this makes the require call ambiguous and unsound.\n\nRequired package: fs (via "fs/promises")\nRequired by: /w/main.js
 undeclared foo@npm:1.0.0 fs /w/.yarn/foo/index.js = foo tried to access fs. While this module is usually interpreted as a Node builtin, your resolver is running inside a non-Node resolution context where such builtins are ignored. Since fs isn't otherwise declared in foo's dependencies, this makes the require call ambiguous and unsound.\n\nRequired package: fs\nRequired by: /w/.yarn/foo/index.js
 # any other name

@@ -1,4 +1,4 @@
-use Rattle.yarn_lock_parser.proofs.Fronts.{after-strip_prefix}
+use Rattle.sugar_path.proofs.Words.{after-strip_prefix}
 use Rattle.lock_checks.proofs.reference.after.Goals as goal
 
 pub returns : goal.returns

@@ -1,6 +1,6 @@
 use Rattle.std.proofs.Common.{◌≡◌, string_bytes, take}
-use Rattle.pnp_core.specs.NormalizePath.{joined}
 use Rattle.pnp_core.specs.Slashed.{names_of}
+use Rattle.pnp_core.specs.VirtualPath.{joined}
 use Rattle.pnp_core.proofs.normalize.join_names.Given as goal
 
 -- the names so far are written

@@ -1,22 +1,10 @@
-use Rattle.std.proofs.Common.{refl, subst, sym, ◌∙◌}
-use Rattle.std.specs.Prelude.{IsTrue}
-use Rattle.sugar_path.specs.Path.{is_absolute}
-use Rattle.pnp_core.specs.Manifest.{Contents, rows}
-use Rattle.pnp_core.specs.Located.{contents_of}
-use Rattle.pnp_core.specs.NormalizePath.{location_path}
-use Rattle.pnp_core.proofs.Slashes.{IsPath-location_path, clean-is_absolute}
-use Rattle.pnp_core.proofs.Owners.{nearest_value-owner}
+use Rattle.std.proofs.Common.{ap, ◌∙◌}
+use Rattle.sugar_path.specs.Path.{text_of}
+use Rattle.pnp_core.specs.Owner.{owner_of_text}
+use Rattle.pnp_core.proofs.Ignored.{text_of-path_in}
 use Rattle.pnp_core.proofs.owner.find_locator.Goals as goal
-
-pub get_ancestor_value-requires : goal.get_ancestor_value-requires
-get_ancestor_value-requires c = clean-is_absolute c.args.path.now c.requires.clean
-
-pub returns-then-branch : goal.returns-then-branch
-returns-then-branch c = rw (sym c.in_ok-is_ignored.ensures ∙ c.if-branch.true) refl
 
 pub returns : goal.returns
 returns c =
-    let HasFolder : Contents → Type 0 = λ m. IsTrue (is_absolute m.manifest_dir) in
-    let folder = subst HasFolder (sym c.manifest.view_is) (clean-is_absolute c.args.manifest.now.manifest_dir c.requires.ready.folder) in
-    rw (sym c.in_ok-is_ignored.ensures ∙ c.if-branch.false, ← c.manifest.view_is)
-    (c.in_ok-owner.ensures ∙ nearest_value-owner c.manifest.inside.location_trie (rows (contents_of c.manifest.inside).package_registry_data) (c.manifest.invariant folder) (location_path c.args.path.now) (IsPath-location_path c.args.path.now))
+    c.in_ok-owner.ensures
+    ∙ ap (owner_of_text c.args.manifest.now) (ap text_of c.in_ok-path.ensures ∙ text_of-path_in c.args.path.now c.requires.clean)

@@ -1,4 +1,4 @@
-use Rattle.pnp_core.proofs.Payloads.{after-strip_prefix}
+use Rattle.sugar_path.proofs.Words.{after-strip_prefix}
 use Rattle.pnp_core.proofs.payload.after_word.Goals as goal
 
 pub returns : goal.returns
