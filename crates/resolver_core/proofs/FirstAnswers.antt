@@ -10,7 +10,7 @@ use Rattle.resolver_core.specs.declared.pattern.Pattern.{Pattern}
 use Rattle.resolver_core.specs.declared.pattern.Pattern.TheVariants.{Exact, Wildcard}
 use Rattle.resolver_core.specs.declared.refusal.TsRefusal.{TsRefusal}
 use Rattle.resolver_core.specs.Pattern.{deciding}
-use Rattle.resolver_core.specs.Mapping.{Mapping, Try, Tries, Last, First, Mapped, Passed, Unchecked, OrUnchecked, OrFault, is_in_modules, masked, plain, with_slug, unchecked, here, is_passed, slug_of, replaced, tries_of, by_targets, by_pattern, mapped, passed, or_unchecked, or_fault}
+use Rattle.resolver_core.specs.Mapping.{Mapping, Try, Tries, Last, First, Mapped, Passed, Unchecked, OrUnchecked, OrFault, is_in_modules, masked, plain, with_slug, unchecked, here, is_passed, slug_of, with_rest, tries_of, by_targets, by_pattern, mapped, passed, or_unchecked, or_fault}
 use Rattle.resolver_core.specs.MappingOnTree.{Answers, made, tried_on, or_else, first_on, or_more, targets_on, mapped_on, Fails, IsFirstAnswer, listed, all_listed, tries_in, FirstAnswerDecides}
 
 -- a try whose answer tells the same file
@@ -136,7 +136,7 @@ same-by_pattern m base s (Some (Exact text target)) = by_test (is_absolute targe
     by_test : (b : Bool) → AllByRecursion SameFile (tries_in (cond b (Unchecked (unchecked target (slug_of target))) (OrUnchecked (Last (record { base = Real m.base_url; specifier = here target; answer = with_slug (slug_of target) })) (unchecked (join m.base_url target) (slug_of target)))))
     by_test true = tt
     by_test false = ((λ r. refl), tt)
-same-by_pattern m base s (Some (Wildcard text prefix targets)) = same-by_targets (Real m.base_url) base s text prefix (map (replaced (drop (length prefix) s)) targets)
+same-by_pattern m base s (Some (Wildcard text prefix targets)) = same-by_targets (Real m.base_url) base s text prefix (map (with_rest (drop (length prefix) s)) targets)
 
 same-mapped : (m : Mapping) (base : FileName) (s : List ℕ) → AllByRecursion SameFile (tries_in (mapped m base s))
 same-mapped m base s = by_test (is_passed base s)
@@ -169,7 +169,7 @@ no-file-pattern m base s (Some (Exact text target)) = by_test (is_absolute targe
     by_test : (b : Bool) → NoFile (cond b (Unchecked (unchecked target (slug_of target))) (OrUnchecked (Last (record { base = Real m.base_url; specifier = here target; answer = with_slug (slug_of target) })) (unchecked (join m.base_url target) (slug_of target))))
     by_test true = refl
     by_test false = refl
-no-file-pattern m base s (Some (Wildcard text prefix targets)) = no-file-targets (Real m.base_url) base s text prefix (map (replaced (drop (length prefix) s)) targets)
+no-file-pattern m base s (Some (Wildcard text prefix targets)) = no-file-targets (Real m.base_url) base s text prefix (map (with_rest (drop (length prefix) s)) targets)
 
 no-file-mapped : (m : Mapping) (base : FileName) (s : List ℕ) → NoFile (mapped m base s)
 no-file-mapped m base s = by_test (is_passed base s)

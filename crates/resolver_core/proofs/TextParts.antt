@@ -1,11 +1,11 @@
--- Parts of texts: what stands behind the last `/`, and what replaces each `*`.
+-- Parts of texts: what stands behind the last `/`.
 use Rattle.std.proofs.Common.{◌≡◌, ◌≢◌, ◌<◌, ◌+◌, ◌-◌, ◌==◌, ◌||◌, bytes_eq, inl, inr, ℕ, suc, Bool, true, false, not, cond, List, [], ◌∷◌, ◌++◌, length, get_or, take, drop, refl, sym, ap, ◌∙◌, arith}
-use Rattle.std.specs.List.{suffix_len, after_last, position_or_len, before_first, after_first}
+use Rattle.std.specs.List.{suffix_len, after_last}
 use Rattle.std.proofs.lemmas.Bool.Decides.{eqb_tells}
 use Rattle.std.proofs.lemmas.List.Sums.{suffix_len_is}
 use Rattle.sugar_path.specs.Path.{ends_in_slash}
 use Rattle.sugar_path.proofs.RouteTexts.{ends-last}
-use Rattle.resolver_core.specs.Mapping.{is_slash, replaced}
+use Rattle.resolver_core.specs.Mapping.{is_slash}
 
 not_eq : (a b : ℕ) → a ≢ b → (a == b) ≡ false
 not_eq a b h = elim (eqb_tells a b) [ inl w ↦ absurd (h w.1) | inr w ↦ w.0 ]
@@ -26,31 +26,6 @@ last_part-some t k lt at after =
   where
     last : (j : ℕ) → j ≡ k → not (is_slash (get_or t j 0)) ≡ false
     last j is = rw (is, at) refl
-
--- A target without `*` stays.
-pub replaced-none : (rest t : List ℕ) → position_or_len (λ b. b == 42) t ≡ length t → replaced rest t ≡ t
-replaced-none rest [] e = refl
-replaced-none rest (x ∷ xs) e = by_test (x == 42) e (replaced-none rest xs)
-  where
-    by_test : (b : Bool) → cond (not b) (1 + position_or_len (λ b. b == 42) xs) 0 ≡ suc (length xs) → (position_or_len (λ b. b == 42) xs ≡ length xs → replaced rest xs ≡ xs) → cond b rest (x ∷ []) ++ replaced rest xs ≡ x ∷ xs
-    by_test true e later = absurd (omega arith)
-    by_test false e later = ap (λ s. x ∷ s) (later (omega arith))
-
--- The first `*` is replaced, and the others behind it.
-pub replaced-first : (rest t : List ℕ) → position_or_len (λ b. b == 42) t < length t → replaced rest t ≡ before_first (λ b. b == 42) t ++ (rest ++ replaced rest (after_first (λ b. b == 42) t))
-replaced-first rest [] lt = absurd (omega arith)
-replaced-first rest (x ∷ xs) lt = by_test (x == 42) lt (replaced-first rest xs)
-  where
-    by_test : (b : Bool) → cond (not b) (1 + position_or_len (λ b. b == 42) xs) 0 < suc (length xs)
-        → (position_or_len (λ b. b == 42) xs < length xs → replaced rest xs ≡ take (position_or_len (λ b. b == 42) xs) xs ++ (rest ++ replaced rest (drop (position_or_len (λ b. b == 42) xs + 1) xs)))
-        → cond b rest (x ∷ []) ++ replaced rest xs ≡ take (cond (not b) (1 + position_or_len (λ b. b == 42) xs) 0) (x ∷ xs) ++ (rest ++ replaced rest (drop (cond (not b) (1 + position_or_len (λ b. b == 42) xs) 0 + 1) (x ∷ xs)))
-    by_test true lt later = refl
-    by_test false lt later =
-        let k = position_or_len (λ b. b == 42) xs in
-        let one : 1 + k ≡ suc k = omega arith in
-        let two : suc k + 1 ≡ suc (suc k) = omega arith in
-        let next : k + 1 ≡ suc k = omega arith in
-        rw (one, two) (ap (λ s. x ∷ s) (rw next at later (omega arith)))
 
 -- A folder that isn't empty ends in `/` where its last byte is one.
 pub closed-last : (t : List ℕ) (r : Bool) → (length t == 0) ≡ false → r ≡ (get_or t (length t - 1) 0 == 47) → r ≡ (bytes_eq t [] || ends_in_slash t)

@@ -1,6 +1,7 @@
 -- A resolver that keeps the latest answers, over any inner order.
-use Rattle.std.specs.Prelude.{ℕ, ◌-◌, ◌&&◌, Bool, true, false, bytes_eq, take, List, ◌∷◌, Option, Some, None, Result, Ok}
-use Rattle.std.specs.Map.{lookup, lookup_entry, remove_entry}
+use Rattle.std.specs.Prelude.{ℕ, ◌-◌, ◌≤◌, ◌&&◌, Bool, true, false, bytes_eq, length, take, List, ◌∷◌, Option, Some, None, Result, Ok}
+use Rattle.std.specs.List.{IsDistinct}
+use Rattle.std.specs.Map.{keys_of, lookup, lookup_entry, remove_entry}
 use Rattle.tree_core.specs.Plan.{Plan, Done}
 use Rattle.swc_loader.specs.declared.resolution.FileName.{FileName}
 use Rattle.swc_loader.specs.declared.resolution.FileName.TheVariants.{Real, Custom, Anon}
@@ -46,6 +47,11 @@ put_first capacity r answer kept None = (r, answer) ∷ take (capacity - 1) kept
 -- the list after an answer
 abbrev pub kept_after : ℕ → CachedRequest → Resolution → Kept → Kept
 kept_after capacity r answer kept = put_first capacity r answer kept (lookup_entry (request_eq r) kept)
+
+-- what holds of each list of kept answers: no request stands in it twice, and it has at most as many entries as may be kept
+pub record IsKept (capacity : ℕ) (kept : Kept) : Type 0 where
+  pub distinct : IsDistinct request_eq (keys_of kept)
+  pub few : length kept ≤ capacity
 
 -- what a resolver that keeps answers hangs on: its list, its capacity, and what the inner one hangs on
 pub record CacheView (V : Type 0) : Type 0 where

@@ -1,5 +1,5 @@
 -- The mapping of requests by TypeScript's `paths` and `baseUrl`, over any inner order: which inner requests are made, and how each ends.
-use Rattle.std.specs.Prelude.{ℕ, ◌==◌, ◌&&◌, ◌||◌, Bool, false, not, if◌then◌else◌, nat_eq, bytes_eq, codes, get_or, length, drop, List, [], ◌∷◌, ◌++◌, map, flat_map, Option, Some, None, Result, Ok, Err}
+use Rattle.std.specs.Prelude.{ℕ, ◌==◌, ◌&&◌, ◌||◌, Bool, false, not, if◌then◌else◌, nat_eq, bytes_eq, codes, get_or, length, drop, List, [], ◌∷◌, ◌++◌, map, Option, Some, None, Result, Ok, Err}
 use Rattle.std.specs.List.{list_any, after_last, before_first, starts_with}
 use Rattle.sugar_path.specs.Path.{parts, is_absolute, join}
 use Rattle.tree_core.specs.Plan.{Plan, Done, ◌>>=◌, ◌>>=?◌}
@@ -10,7 +10,8 @@ use Rattle.resolver_core.specs.declared.pattern.Pattern.{Pattern}
 use Rattle.resolver_core.specs.declared.pattern.Pattern.TheVariants.{Exact, Wildcard}
 use Rattle.resolver_core.specs.declared.refusal.TsRefusal.{TsRefusal}
 use Rattle.resolver_core.specs.declared.refusal.TsRefusal.TheVariants.{Inner, TsFault}
-use Rattle.resolver_core.specs.Pattern.{is_star, deciding}
+use Rattle.star_texts.specs.Star.{replaced}
+use Rattle.resolver_core.specs.Pattern.{deciding}
 
 -- an order of search: what a request comes to, from a base, by a specifier
 abbrev pub Order : Type 0 → Type 0
@@ -103,8 +104,8 @@ by_exact base_url target =
     (unchecked (join base_url target) (slug_of target))
 
 -- a target with the rest of the specifier in place of each `*`
-abbrev pub replaced : List ℕ → List ℕ → List ℕ
-replaced rest target = flat_map (λ b. if is_star b then rest else (b ∷ [])) target
+abbrev pub with_rest : List ℕ → List ℕ → List ℕ
+with_rest rest target = replaced target rest
 
 -- The tries of a wildcard's target: the request as it is, and then the replaced target from the base folder.
 abbrev pub tries_of : FileName → FileName → List ℕ → List ℕ → Tries
@@ -123,7 +124,7 @@ by_targets folder base s text prefix targets = OrFault text (map (tries_of folde
 -- A wildcard: what of the specifier stands behind the prefix replaces each `*`.
 abbrev pub by_wildcard : FileName → FileName → List ℕ → List ℕ → List ℕ → List (List ℕ) → Mapped
 by_wildcard folder base s text prefix targets =
-    by_targets folder base s text prefix (map (replaced (drop (length prefix) s)) targets)
+    by_targets folder base s text prefix (map (with_rest (drop (length prefix) s)) targets)
 
 -- No pattern: behind the base folder first, unless the specifier begins with a dot.
 abbrev pub by_base_folder : List ℕ → FileName → List ℕ → Mapped

@@ -1,7 +1,8 @@
--- The patterns of a mapping, as TypeScript's `paths` has them: which settings are accepted, in which order patterns are tested, and which one decides.
+-- The patterns of a mapping, as TypeScript's `paths` has them: which settings are accepted, in which order patterns are tested, and which one decides. The `do` here is over results.
 use Rattle.std.specs.Prelude.{◌≡◌, ℕ, ◌+◌, ◌==◌, Bool, true, false, nat_eq, nat_lt, bytes_eq, length, take, drop, List, [], ◌∷◌, Option, Some, None, option_map, Result, Ok, Err, position, find}
 use Rattle.std.specs.List.{starts_with}
 use Rattle.sugar_path.specs.Results.{◌>>=◌}
+use Rattle.star_texts.specs.Star.{around_star}
 use Rattle.resolver_core.specs.Sorting.{sorted_by}
 use Rattle.resolver_core.specs.declared.pattern.Pattern.{Pattern}
 use Rattle.resolver_core.specs.declared.pattern.Pattern.TheVariants.{Exact, Wildcard}
@@ -11,14 +12,6 @@ use Rattle.resolver_core.specs.declared.pattern.TsError.TheVariants.{EmptyTarget
 -- the settings of a mapping: patterns, each with its targets
 abbrev pub Paths : Type 0
 Paths = List (List ℕ × List (List ℕ))
-
--- the `*` of a pattern or of a target, for which any text may stand
-abbrev pub is_star : ℕ → Bool
-is_star b = b == 42
-
--- what stands around the first `*` of a text
-abbrev pub around_star : List ℕ → Option (List ℕ × List ℕ)
-around_star text = option_map (λ at. (take at text, drop (at + 1) text)) (position is_star text)
 
 -- a pattern without `*` has one target
 abbrev pub exact : ℕ → List ℕ → List ℕ → List (List ℕ) → Result Pattern TsError

@@ -1,7 +1,7 @@
 // A resolver that keeps the latest answers of another one.
-ghost use Rattle.std.specs.Prelude.{◌≡◌, ◌<◌, [], IfOk, IfErr, OnOk, OnErr, IsSome, None};
+ghost use Rattle.std.specs.Prelude.{◌≡◌, ◌<◌, ◌==◌, length, [], IfOk, IfErr, OnOk, OnErr, IsSome, None};
 ghost use Rattle.swc_loader.specs.declared.resolution.Resolution.{Resolution as Answer};
-ghost use Rattle.resolver_core.specs.Caching.{kept_answer, kept_after};
+ghost use Rattle.resolver_core.specs.Caching.{IsKept, kept_answer, kept_after};
 ghost use Rattle.tree_core.specs.Resolving.{Resolves};
 ghost use Rattle.tree_core.specs.RecorderView.{asking_of};
 ghost use Rattle.resolver_core.specs.Resolving.{IsRefused};
@@ -47,6 +47,21 @@ impl<R> CachingResolver<R> {
             Ok(kept) => Ok(CachingResolver { kept, inner }),
             Err(e) => Err((inner, e)),
         }
+    }
+
+    /// How many answers are kept: at most as many as may be, each of a request of its own.
+    pub fn len(&self) -> usize
+        ensures len { result ≡ length (kept_of self.now) }
+        ensures kept { IsKept (capacity_of self.now) (kept_of self.now) }
+    {
+        self.kept.len()
+    }
+
+    /// Whether no answer is kept.
+    pub fn is_empty(&self) -> bool
+        ensures { result ≡ (length (kept_of self.now) == 0) }
+    {
+        self.kept.is_empty()
     }
 }
 

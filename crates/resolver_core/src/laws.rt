@@ -1,6 +1,14 @@
-// What a mapping comes to on each tree. The resolvers have it by their contracts.
+// The law of every resolver, and what a mapping comes to on each tree. The resolvers have it by their contracts.
 ghost use Rattle.resolver_core.specs.Laws.{PatternsInOrder};
 ghost use Rattle.resolver_core.specs.MappingOnTree.{FirstAnswerDecides, MappingOnTree};
+ghost use Rattle.resolver_core.specs.Resolving.{TrailsSuffice};
+
+use crate::Resolve;
+
+/// Trees that give the same replies to what one of them is asked by a resolver's order have one answer, and are asked the same.
+pub fn trails_suffice<R: Resolve>()
+    ensures { TrailsSuffice R.order }
+{}
 
 /// A mapping in front of an order, said as a function of what that order comes to on the tree, with its questions.
 pub fn mapping_on_tree<X>()

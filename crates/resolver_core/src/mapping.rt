@@ -9,7 +9,7 @@ ghost use Rattle.resolver_core.specs.Resolving.{IsRefused};
 
 use crate::pattern::sorted_patterns;
 use crate::requests::map_request;
-use crate::tries::Request;
+use crate::tries::MappedRequest;
 use crate::{Pattern, Resolve, TsError, TsRefusal};
 use std::alloc::Global;
 use std::marker::Model;
@@ -21,7 +21,7 @@ use tree_core::{Recorder, ResolveError, Tree};
 #[derive(Drop)]
 pub struct Mapping {
     base_url: Text,
-    // the same as the base of a request
+    // the base folder, as the base of a request
     folder: FileName,
     patterns: List<Pattern>,
 }
@@ -75,7 +75,7 @@ impl Mapping {
         // A refusal leaves the resolver behind it as it was.
         ensures refused { IsRefused result → R.view inner.new ≡ R.view inner.old }
     {
-        let request = Request {
+        let request = MappedRequest {
             base,
             specifier,
             base_url: self.base_url.as_str(),

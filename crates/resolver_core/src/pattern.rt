@@ -2,8 +2,9 @@
 ghost use Rattle.std.specs.Prelude.{◌≡◌, ◌≢◌, [], IfOk, option_map};
 ghost use Rattle.std.specs.Option.{option_copied};
 ghost use Rattle.std.specs.Ordering.{is_lt};
-ghost use Rattle.resolver_core.specs.Pattern.{IsReadAs, pattern_of, pattern_without_star, patterns_from, sorted_patterns, around_star, comes_before, in_order, matches, deciding};
+ghost use Rattle.resolver_core.specs.Pattern.{IsReadAs, pattern_of, pattern_without_star, patterns_from, sorted_patterns, comes_before, in_order, matches, deciding};
 
+use star_texts::around_star;
 use std::alloc::{AllocError, Global};
 use std::cmp::Ordering;
 use sugar_path::{List, Text};
@@ -146,13 +147,6 @@ fn exact(at: usize, text: Text, targets: List<Text>) -> Result<Pattern, TsError>
         Some(target) if targets.is_empty() => Ok(Pattern::Exact { text, target }),
         _ => Err(TsError::ExactNeedsOne { at }),
     }
-}
-
-// What stands around the first `*` of a text.
-fn around_star(text: &str) -> Option<(&str, &str)>
-    ensures { option_map (λ x. (x.0.now, x.1.now)) result ≡ around_star text.now }
-{
-    text.split_once('*')
 }
 
 // Patterns in the order in which they are tested.

@@ -5,11 +5,11 @@ ghost use Rattle.std.specs.Option.{option_copied};
 ghost use Rattle.tree_core.specs.Asks.{Asks};
 ghost use Rattle.tree_core.specs.RecorderView.{asking_of};
 ghost use Rattle.swc_loader.specs.declared.resolution.FileName.TheVariants.{Real};
-ghost use Rattle.resolver_core.specs.Mapping.{Last, Passed, OrFault, plain, by_mapped, by_exact, by_wildcard, by_only_target, by_base_folder, tries_of, replaced, mapping_order, passed, unchecked};
+ghost use Rattle.resolver_core.specs.Mapping.{Last, Passed, OrFault, plain, by_mapped, by_exact, by_wildcard, by_only_target, by_base_folder, tries_of, with_rest, mapping_order, passed, unchecked};
 
 use crate::pattern::deciding;
-use crate::texts::{here, is_passed, joined, last_part, replaced, slug_of};
-use crate::tries::{Request, by_target, each_target, inner_request};
+use crate::texts::{here, is_passed, joined, last_part, slug_of, with_rest};
+use crate::tries::{MappedRequest, by_target, each_target, inner_request};
 use crate::{Pattern, Resolve, TsRefusal};
 use std::alloc::{AllocError, Global};
 use sugar_path::{List, Text};
@@ -22,7 +22,7 @@ pub(crate) fn map_request<R: Resolve, T: Tree>(
     tree: &mut Recorder<'_, T>,
     inner: &mut R,
     patterns: &[Pattern],
-    request: &Request<'_>,
+    request: &MappedRequest<'_>,
 ) -> Result<Result<Resolution, TsRefusal<R::Refusal>>, ReadError>
 where
     R::Refusal: Drop,
@@ -59,7 +59,7 @@ fn by_exact<R: Resolve, T: Tree>(
     alloc: Global,
     tree: &mut Recorder<'_, T>,
     inner: &mut R,
-    request: &Request<'_>,
+    request: &MappedRequest<'_>,
     target: &str,
 ) -> Result<Result<Resolution, TsRefusal<R::Refusal>>, ReadError>
 where
@@ -90,7 +90,7 @@ fn by_wildcard<R: Resolve, T: Tree>(
     alloc: Global,
     tree: &mut Recorder<'_, T>,
     inner: &mut R,
-    request: &Request<'_>,
+    request: &MappedRequest<'_>,
     text: &Text,
     prefix: &str,
     targets: &[Text],
@@ -117,7 +117,7 @@ fn by_only_target<R: Resolve, T: Tree>(
     alloc: Global,
     tree: &mut Recorder<'_, T>,
     inner: &mut R,
-    request: &Request<'_>,
+    request: &MappedRequest<'_>,
     rest: &str,
     target: &str,
 ) -> Result<Result<Resolution, TsRefusal<R::Refusal>>, ReadError>
@@ -125,10 +125,10 @@ where
     R::Refusal: Drop,
     ensures asks { Asks (asking_of tree.old) (asking_of tree.new) result
         (by_mapped (R.order (R.view inner.old)) (by_only_target request.now.folder.now
-        request.now.base.now request.now.specifier.now (replaced rest.now target.now))) }
+        request.now.base.now request.now.specifier.now (with_rest rest.now target.now))) }
     ensures refused { IfOk result (λ r. OnErr r (R.view inner.new ≡ R.view inner.old)) }
 {
-    let path = replaced(alloc, rest, target)?;
+    let path = with_rest(alloc, rest, target)?;
     let tried = by_target(alloc, tree, inner, request, path.as_str())?;
     match tried {
         Ok(found) => Ok(Ok(found)),
@@ -144,7 +144,7 @@ fn by_each_target<R: Resolve, T: Tree>(
     alloc: Global,
     tree: &mut Recorder<'_, T>,
     inner: &mut R,
-    request: &Request<'_>,
+    request: &MappedRequest<'_>,
     text: &Text,
     rest: &str,
     targets: &[Text],
@@ -153,7 +153,7 @@ where
     R::Refusal: Drop,
     ensures asks { Asks (asking_of tree.old) (asking_of tree.new) result
         (by_mapped (R.order (R.view inner.old)) (OrFault text.now (map (tries_of request.now.folder.now
-        request.now.base.now request.now.specifier.now) (map (replaced rest.now) targets.now)))) }
+        request.now.base.now request.now.specifier.now) (map (with_rest rest.now) targets.now)))) }
     ensures refused { IfOk result (λ r. OnErr r (R.view inner.new ≡ R.view inner.old)) }
 {
     let tried = each_target(alloc, tree, inner, request, rest, targets)?;
@@ -174,7 +174,7 @@ fn by_base_folder<R: Resolve, T: Tree>(
     alloc: Global,
     tree: &mut Recorder<'_, T>,
     inner: &mut R,
-    request: &Request<'_>,
+    request: &MappedRequest<'_>,
 ) -> Result<Result<Resolution, TsRefusal<R::Refusal>>, ReadError>
 where
     R::Refusal: Drop,
@@ -199,7 +199,7 @@ fn as_it_is<R: Resolve, T: Tree>(
     alloc: Global,
     tree: &mut Recorder<'_, T>,
     inner: &mut R,
-    request: &Request<'_>,
+    request: &MappedRequest<'_>,
 ) -> Result<Result<Resolution, TsRefusal<R::Refusal>>, ReadError>
     ensures asks { Asks (asking_of tree.old) (asking_of tree.new) result
         (by_mapped (R.order (R.view inner.old))

@@ -3,8 +3,9 @@ ghost use Rattle.std.specs.Prelude.{◌≡◌, ◌||◌, [], IfOk, bytes_eq, str
 ghost use Rattle.std.specs.List.{after_last, before_first};
 ghost use Rattle.std.specs.Option.{option_copied};
 ghost use Rattle.sugar_path.specs.Path.{join, with_slash, ends_in_slash};
-ghost use Rattle.resolver_core.specs.Mapping.{is_slash, is_dot, is_modules, is_in_modules, is_passed, here, slug_of, replaced};
+ghost use Rattle.resolver_core.specs.Mapping.{is_slash, is_dot, is_modules, is_in_modules, is_passed, here, slug_of, with_rest};
 
+use star_texts::replaced;
 use std::alloc::{AllocError, Global};
 use sugar_path::Text;
 use swc_loader::FileName;
@@ -36,18 +37,10 @@ fn is_modules(part: &str) -> bool
 }
 
 // A target with the rest of the specifier in place of each `*`.
-pub(crate) fn replaced(alloc: Global, rest: &str, target: &str) -> Result<Text, AllocError>
-    ensures { IfOk result (λ text. text ≡ replaced rest.now target.now) }
+pub(crate) fn with_rest(alloc: Global, rest: &str, target: &str) -> Result<Text, AllocError>
+    ensures { IfOk result (λ text. text ≡ with_rest rest.now target.now) }
 {
-    let mut text = String::new(alloc);
-    let mut left = target;
-    while let Some((front, behind)) = left.split_once('*') {
-        text.push_str(front)?;
-        text.push_str(rest)?;
-        left = behind;
-    }
-    text.push_str(left)?;
-    Ok(Text::from(text))
+    Ok(Text::from(replaced(alloc, target, rest)?))
 }
 
 // A text behind `./`.

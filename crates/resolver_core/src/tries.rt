@@ -3,10 +3,10 @@ ghost use Rattle.std.specs.Prelude.{◌≡◌, ◌≢◌, [], map, IfOk, OnErr, 
 ghost use Rattle.tree_core.specs.Asks.{Asks, seen};
 ghost use Rattle.tree_core.specs.Resolving.{resolving};
 ghost use Rattle.tree_core.specs.RecorderView.{asking_of};
-ghost use Rattle.resolver_core.specs.Mapping.{plain, masked, tried, tries_of, first_success, each_target, replaced};
+ghost use Rattle.resolver_core.specs.Mapping.{plain, masked, tried, tries_of, first_success, each_target, with_rest};
 
 use crate::Resolve;
-use crate::texts::{here, is_in_modules, replaced};
+use crate::texts::{here, is_in_modules, with_rest};
 use std::alloc::{AllocError, Global};
 use sugar_path::{List, Text};
 use swc_loader::{FileName, Resolution};
@@ -14,7 +14,7 @@ use tree_core::{ReadError, Recorder, ResolveError, Tree};
 
 // A request to a mapping, and its base folder, as a text and as a base.
 #[derive(Clone, Copy)]
-pub(crate) struct Request<'r> {
+pub(crate) struct MappedRequest<'r> {
     pub base: &'r FileName,
     pub specifier: &'r str,
     pub base_url: &'r str,
@@ -27,9 +27,7 @@ fn settled<A, X>(outcome: Result<A, ResolveError<X>>) -> Result<Result<A, X>, Re
 {
     match outcome {
         Ok(answer) => Ok(Ok(answer)),
-        Err(ResolveError::Refused(refusal)) => Ok(Err(refusal)),
-        Err(ResolveError::TreeFault) => Err(ReadError::Fault),
-        Err(ResolveError::NoMemory) => Err(ReadError::NoMemory),
+        Err(e) => Ok(Err(e.refusal()?)),
     }
 }
 
@@ -73,7 +71,7 @@ pub(crate) fn by_target<R: Resolve, T: Tree>(
     alloc: Global,
     tree: &mut Recorder<'_, T>,
     inner: &mut R,
-    request: &Request<'_>,
+    request: &MappedRequest<'_>,
     target: &str,
 ) -> Result<Result<Resolution, R::Refusal>, ReadError>
 where
@@ -102,7 +100,7 @@ pub(crate) fn each_target<R: Resolve, T: Tree>(
     alloc: Global,
     tree: &mut Recorder<'_, T>,
     inner: &mut R,
-    request: &Request<'_>,
+    request: &MappedRequest<'_>,
     rest: &str,
     targets: &[Text],
 ) -> Result<Result<Resolution, List<R::Refusal>>, ReadError>
@@ -110,12 +108,12 @@ where
     R::Refusal: Drop,
     ensures asks { Asks (asking_of tree.old) (asking_of tree.new) result
         (each_target (R.order (R.view inner.old)) (map (tries_of request.now.folder.now
-        request.now.base.now request.now.specifier.now) (map (replaced rest.now) targets.now)) []) }
+        request.now.base.now request.now.specifier.now) (map (with_rest rest.now) targets.now)) []) }
     ensures refused { IfOk result (λ r. OnErr r (R.view inner.new ≡ R.view inner.old)) }
 {
     let mut refusals = List::new(alloc);
     for target in targets {
-        let path = replaced(alloc, rest, target.as_str())?;
+        let path = with_rest(alloc, rest, target.as_str())?;
         let tried = by_target(alloc, tree, inner, request, path.as_str())?;
         match tried {
             Ok(found) => return Ok(Ok(found)),

@@ -74,8 +74,10 @@ fn a_kept_answer_asks_nothing(rt: HostRuntime) -> Result<(), Fail> {
     tree.put("/w/part.js", b"", "/w/part.js")?;
     match CachingResolver::new(alloc, DEFAULT_CAP, inner) {
         Ok(mut resolver) => {
+            assert!(rt; resolver.is_empty());
             assert_eq!(rt; questions(alloc, &mut resolver, &mut tree)?, 3);
             assert_eq!(rt; questions(alloc, &mut resolver, &mut tree)?, 0);
+            assert_eq!(rt; resolver.len(), 1);
             Ok(())
         }
         Err(_) => Err(Fail::from("no memory")),

@@ -1,7 +1,6 @@
 -- The rules for browsers come to what the tree has, and their reading puts the questions that the laws say.
 use Rattle.std.proofs.Common.{◌≡◌, ℕ, Bool, true, false, cond, List, [], ◌∷◌, ◌++◌, map, codes, Option, Some, None, option_map, ap, ◌∙◌}
-use Rattle.serde_json.specs.Data.{Data, Members, no_members, member}
-use Rattle.serde_json.specs.Find.{as_str}
+use Rattle.serde_json.specs.Data.{Data, null, boolean, number, string, array, object, Members, no_members, member}
 use Rattle.sugar_path.specs.Path.{Path, text_of, parent, up}
 use Rattle.tree_core.specs.declared.question.Question.TheVariants as question
 use Rattle.tree_core.specs.Tree.{Files}
@@ -14,15 +13,14 @@ use Rattle.swc_loader.specs.declared.browser_rules.Source.{Source}
 use Rattle.swc_loader.specs.declared.browser_rules.Source.TheVariants as source
 use Rattle.swc_loader.specs.declared.browser_rules.Rule.{Rule}
 use Rattle.swc_loader.specs.declared.browser_rules.ModuleRule.{ModuleRule}
-use Rattle.swc_loader.specs.declared.located.Placed.{Placed}
 use Rattle.swc_loader.specs.declared.target.TargetEnv.{TargetEnv}
 use Rattle.swc_loader.specs.declared.target.TargetEnv.TheVariants.{Browser, Node}
 use Rattle.swc_loader.specs.Conventions.{Conventions}
 use Rattle.swc_loader.specs.Search.{package_file}
 use Rattle.swc_loader.specs.Specifier.{begins_in}
 use Rattle.swc_loader.specs.Settings.{NodeSettings}
-use Rattle.swc_loader.specs.BrowserRules.{is_false, place_behind, file_or_specifier, source_of, hidden_rule, placed_rule, rule_by, rule_of, with_rule, rules_of, browser_entries, rules_at, rules_by_target, root, rules_if, rules_over, ruled, rule_by_target, rule_for, placed_by, ruled_file}
-use Rattle.swc_loader.specs.BrowserRulesOnTree.{places_behind, source_on, rule_by_on, rule_on, rules_on, source_asks, asks_by, entry_asks, entries_asks, entries_at, rules_at_on, rules_at_asks, rules_by_target_on, rules_asks_by_target, root_on, root_asks, rules_if_on, rules_if_asks, rule_by_target_on, asks_by_target, rule_asks, ruled_file_on, RulesOnTree, RuleOnTree}
+use Rattle.swc_loader.specs.BrowserRules.{place_behind, file_or_specifier, source_of, ignoring_rule, placed_rule, rule_of, with_rule, rules_of, browser_entries, rules_at, rules_by_target, root, rules_if, rules_over, ruled, rule_by_target, rule_for, placed_by, ruled_file}
+use Rattle.swc_loader.specs.BrowserRulesOnTree.{places_behind, source_on, rule_on, rules_on, source_asks, entry_asks, entries_asks, entries_at, rules_at_on, rules_at_asks, rules_by_target_on, rules_asks_by_target, root_on, root_asks, rules_if_on, rules_if_asks, rule_by_target_on, asks_by_target, rule_asks, ruled_file_on, RulesOnTree, RuleOnTree}
 
 answer-source : (t : Files) (c : Conventions) (r : Path) (key : List ℕ) → answer t (source_of c r key) ≡ source_on t c r key
 answer-source t c r key = by_test (begins_in key (codes "."))
@@ -42,30 +40,32 @@ asked-source t c r key = by_test (begins_in key (codes "."))
 by_text : Conventions → Path → List ℕ → Source → Plan (Option Rule)
 by_text c r text about = place_behind c r text >>= λ target. Done (placed_rule about target)
 
-answer-rule_by : (t : Files) (c : Conventions) (r : Path) (key : List ℕ) (text : Option (List ℕ)) (hidden : Bool) → answer t (rule_by c r key text hidden) ≡ rule_by_on t c r key text hidden
+answer-rule : (t : Files) (c : Conventions) (r : Path) (key : List ℕ) (d : Data) → answer t (rule_of c r key d) ≡ rule_on t c r key d
 unfolding by_text
-answer-rule_by t c r key (Some text) hidden =
+answer-rule t c r key (string text) =
     answer-then t (source_of c r key) (by_text c r text)
     ∙ ap (λ about. answer t (by_text c r text about)) (answer-source t c r key)
     ∙ answer-made t (place_behind c r text) (placed_rule (source_on t c r key))
     ∙ ap (placed_rule (source_on t c r key)) (answer-first_file t (places_behind c r text))
-answer-rule_by t c r key None true = answer-made t (source_of c r key) hidden_rule ∙ ap hidden_rule (answer-source t c r key)
-answer-rule_by t c r key None false = answer-done t _
+answer-rule t c r key (boolean false) = answer-made t (source_of c r key) ignoring_rule ∙ ap ignoring_rule (answer-source t c r key)
+answer-rule t c r key (boolean true) = answer-done t _
+answer-rule t c r key null = answer-done t _
+answer-rule t c r key (number n) = answer-done t _
+answer-rule t c r key (array ds) = answer-done t _
+answer-rule t c r key (object ms) = answer-done t _
 
-answer-rule : (t : Files) (c : Conventions) (r : Path) (key : List ℕ) (d : Data) → answer t (rule_of c r key d) ≡ rule_on t c r key d
-answer-rule t c r key d = answer-rule_by t c r key (as_str d) (is_false d)
-
-asked-rule_by : (t : Files) (c : Conventions) (r : Path) (key : List ℕ) (text : Option (List ℕ)) (hidden : Bool) → asked t (rule_by c r key text hidden) ≡ asks_by t c r key text hidden
+asked-rule : (t : Files) (c : Conventions) (r : Path) (key : List ℕ) (d : Data) → asked t (rule_of c r key d) ≡ entry_asks t c r key d
 unfolding by_text
-asked-rule_by t c r key (Some text) hidden =
+asked-rule t c r key (string text) =
     asked-then t (source_of c r key) (by_text c r text)
     ∙ ap (λ qs. qs ++ asked t (by_text c r text (answer t (source_of c r key)))) (asked-source t c r key)
     ∙ ap (λ qs. source_asks t c r key ++ qs) (asked-made t (place_behind c r text) (placed_rule (answer t (source_of c r key))) ∙ asked-first_file t (places_behind c r text))
-asked-rule_by t c r key None true = asked-made t (source_of c r key) hidden_rule ∙ asked-source t c r key
-asked-rule_by t c r key None false = asked-done {A = Option Rule} t _
-
-asked-rule : (t : Files) (c : Conventions) (r : Path) (key : List ℕ) (d : Data) → asked t (rule_of c r key d) ≡ entry_asks t c r key d
-asked-rule t c r key d = asked-rule_by t c r key (as_str d) (is_false d)
+asked-rule t c r key (boolean false) = asked-made t (source_of c r key) ignoring_rule ∙ asked-source t c r key
+asked-rule t c r key (boolean true) = asked-done {A = Option Rule} t _
+asked-rule t c r key null = asked-done {A = Option Rule} t _
+asked-rule t c r key (number n) = asked-done {A = Option Rule} t _
+asked-rule t c r key (array ds) = asked-done {A = Option Rule} t _
+asked-rule t c r key (object ms) = asked-done {A = Option Rule} t _
 
 answer-rules : (t : Files) (c : Conventions) (r : Path) (ms : Members) → answer t (rules_of c r ms) ≡ rules_on t c r ms
 answer-rules t c r no_members = answer-done t _

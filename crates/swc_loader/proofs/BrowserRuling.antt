@@ -1,11 +1,13 @@
 -- Steps of the reading of rules for browsers, one folder, entry or rule at a time.
 use Rattle.std.proofs.Common.{◌≡◌, ◌<◌, ◌≤◌, ℕ, ◌+◌, Bool, true, false, not, cond, if◌then◌else◌, List, [], ◌∷◌, ◌++◌, map, drop, get_or, length, Option, Some, None, option_map, unwrap_or, Result, String, Global, string_bytes, refl, sym, ap, ◌∙◌, subst, append_assoc, append-nil}
-use Rattle.std.specs.Prelude.{option_and_then}
+use Rattle.std.specs.Prelude.{◌||◌, option_and_then}
+use Rattle.std.specs.List.{list_any, last_or}
+use Rattle.std.specs.Option.{option_map_or}
 use Rattle.std.proofs.lemmas.List.{drop_more, drop_all}
 use Rattle.serde_json.specs.View.{view, members_view}
 use Rattle.serde_json.specs.declared.value.Value.{Value}
-use Rattle.serde_json.specs.Data.{Data, Members, no_members, member}
-use Rattle.serde_json.specs.Find.{as_str}
+use Rattle.serde_json.specs.Data.{Data, null, boolean, number, string, array, object, Members, no_members, member}
+use Rattle.serde_json.specs.Find.{as_str, as_bool}
 use Rattle.sugar_path.specs.Path.{Path, parent, is_root, up}
 use Rattle.tree_core.specs.declared.tree.ReadError.{ReadError}
 use Rattle.tree_core.specs.Asks.{Asking, Asks, Leads}
@@ -18,7 +20,7 @@ use Rattle.swc_loader.specs.declared.browser_rules.ModuleRule.TheVariants.{NoRul
 use Rattle.swc_loader.specs.Conventions.{Conventions}
 use Rattle.swc_loader.specs.Entry.{package_in}
 use Rattle.swc_loader.specs.Search.{package_file}
-use Rattle.swc_loader.specs.BrowserRules.{is_false, rule_by, rule_of, with_rule, rules_of, map_in, browser_entries, root, is_source, or_later, ruled}
+use Rattle.swc_loader.specs.BrowserRules.{rule_of, with_rule, rules_of, map_in, browser_entries, root, is_source, rules_about, ignores, said_by_last, ignore_or_last, ruled}
 
 -- a folder that has a package.json is the root, and else it is looked for further up
 abbrev pub or_above : Path → Bool → Plan (Option Path)
@@ -70,16 +72,32 @@ left_rules-step c r read key d ms =
         then-then (rules_of c r ms) (λ rules. Done (with_rule rule rules)) (behind_rules read)
         ∙ then_alike (rules_of c r ms) _ (behind_rules (read ++ with_rule rule [])) (λ rules. ap (λ xs. Done xs) (joined rule rules))
 
--- a call by the rule of a value of which it is known whether it is a text, and whether it is false
-pub by_value : {old new : Asking} {result : Result (Option Rule) ReadError} (c : Conventions) (r : Path) (key : List ℕ) (d : Data) {text : Option (List ℕ)} {hidden : Bool} → as_str d ≡ text → is_false d ≡ hidden → Asks old new result (rule_by c r key text hidden) → Asks old new result (rule_of c r key d)
-by_value {old = old} {new = new} {result = result} c r key d {text = text} texts hides h =
-    let T : Option (List ℕ) → Type 0 = λ x. Asks old new result (rule_by c r key x (is_false d)) in
-    let B : Bool → Type 0 = λ x. Asks old new result (rule_by c r key text x) in
-    subst T (sym texts) (subst B (sym hides) h)
+-- what a value is of which it is known whether it is a text, and whether it is false
+pub is_text : (d : Data) {text : List ℕ} → as_str d ≡ Some text → d ≡ string text
+is_text null h = cc
+is_text (boolean b) h = cc
+is_text (number n) h = cc
+is_text (string s) h = cc
+is_text (array ds) h = cc
+is_text (object ms) h = cc
 
--- a call by the rule of a value that is a text
-pub by_text : {old new : Asking} {result : Result (Option Rule) ReadError} (c : Conventions) (r : Path) (key : List ℕ) (d : Data) {text : List ℕ} → as_str d ≡ Some text → Asks old new result (rule_by c r key (Some text) (is_false d)) → Asks old new result (rule_of c r key d)
-by_text c r key d texts h = by_value c r key d texts refl h
+pub is_false : (d : Data) → unwrap_or (as_bool d) true ≡ false → d ≡ boolean false
+is_false null h = cc
+is_false (boolean b) h = cc
+is_false (number n) h = cc
+is_false (string s) h = cc
+is_false (array ds) h = cc
+is_false (object ms) h = cc
+
+-- any other value gives no rule
+pub no_rule : (c : Conventions) (r : Path) (key : List ℕ) (d : Data) → as_str d ≡ None → unwrap_or (as_bool d) true ≡ true → rule_of c r key d ≡ Done None
+no_rule c r key null texts flag = refl
+no_rule c r key (boolean true) texts flag = refl
+no_rule c r key (boolean false) texts flag = cc
+no_rule c r key (number n) texts flag = refl
+no_rule c r key (string s) texts flag = cc
+no_rule c r key (array ds) texts flag = refl
+no_rule c r key (object ms) texts flag = refl
 
 -- the entries of a package.json with a map
 pub entries-map : (c : Conventions) (content : Option (List ℕ)) {d : Data} {ms : Members} → package_in c content ≡ Some d → map_in d ≡ Some ms → browser_entries c content ≡ ms
@@ -113,14 +131,62 @@ leads_no_entry {old = old} {mid = mid} {whole = whole} c r read all is h =
     let P : Plan (List Rule) → Type 0 = λ rest. Leads old mid whole rest in
     subst P (ap (λ xs. left_rules c r read (members_view xs)) is ∙ left_rules-none c r read) h
 
+-- what a rule says of its source, before what later rules say of it
+abbrev pub or_later : Option Path → ModuleRule → ModuleRule
+or_later None later = Ignored
+or_later (Some f) Ignored = Ignored
+or_later (Some f) (File g) = File g
+or_later (Some f) NoRule = File f
+
+or_right : (a b : Bool) → (a || b) ≡ false → b ≡ false
+or_right true b none = cc
+or_right false b none = none
+
+-- the last of rules none of which ignores names a file, whatever came before
+last_names : (f : Path) (y : Rule) (ys : List Rule) → list_any ignores (y ∷ ys) ≡ false → said_by_last (last_or (Some y) ys) ≡ or_later (Some f) (said_by_last (last_or (Some y) ys))
+last_names f y [] none = by_target y.target (or_left (ignores y) none)
+  where
+    or_left : (a : Bool) → (a || false) ≡ false → a ≡ false
+    or_left true none = cc
+    or_left false none = refl
+
+    by_target : (o : Option Path) → option_map_or (λ (_ : Path). false) o true ≡ false → option_map_or File o Ignored ≡ or_later (Some f) (option_map_or File o Ignored)
+    by_target None none = cc
+    by_target (Some g) none = refl
+last_names f y (z ∷ zs) none = last_names f z zs (or_right (ignores y) (list_any ignores (z ∷ zs)) none)
+
+-- a rule before others that are about the same source
+before_others : (o : Option Path) (about : Source) (rules : List Rule) → ignore_or_last (record { source = about; target = o } ∷ rules) ≡ or_later o (ignore_or_last rules)
+before_others None about rules = refl
+before_others (Some f) about rules = by_any (list_any ignores rules) refl
+  where
+    first : Rule
+    first = record { source = about; target = Some f }
+
+    by_rules : (rs : List Rule) → list_any ignores rs ≡ false → said_by_last (last_or (Some first) rs) ≡ or_later (Some f) (said_by_last (last_or None rs))
+    by_rules [] none = refl
+    by_rules (y ∷ ys) none = last_names f y ys none
+
+    by_any : (b : Bool) → list_any ignores rules ≡ b → cond b Ignored (said_by_last (last_or (Some first) rules)) ≡ or_later (Some f) (cond b Ignored (said_by_last (last_or None rules)))
+    by_any true is = refl
+    by_any false is = by_rules rules is
+
+-- what rules say of a source, one rule after the other
+ruled-step : (rule : Rule) (rules : List Rule) (about : Source) → ruled (rule ∷ rules) about ≡ cond (is_source rule.source about) (or_later rule.target (ruled rules about)) (ruled rules about)
+ruled-step rule rules about = by_test (is_source rule.source about)
+  where
+    by_test : (b : Bool) → ignore_or_last (cond b (rule ∷ rules_about about rules) (rules_about about rules)) ≡ cond b (or_later rule.target (ruled rules about)) (ruled rules about)
+    by_test true = before_others rule.target rule.source (rules_about about rules)
+    by_test false = refl
+
 -- the file that the last rule named, where later rules say something
 abbrev pub said_before : Option Path → ModuleRule → ModuleRule
 said_before None later = later
 said_before (Some f) later = or_later (Some f) later
 
-said_before-hidden : (last : Option Path) → said_before last Ignored ≡ Ignored
-said_before-hidden None = refl
-said_before-hidden (Some f) = refl
+said_before-ignored : (last : Option Path) → said_before last Ignored ≡ Ignored
+said_before-ignored None = refl
+said_before-ignored (Some f) = refl
 
 said_before-named : (last : Option Path) (f : Path) (later : ModuleRule) → said_before last (or_later (Some f) later) ≡ said_before (Some f) later
 said_before-named None f later = refl
@@ -129,8 +195,8 @@ said_before-named (Some g) f Ignored = refl
 said_before-named (Some g) f (File h) = refl
 
 -- the rules from one of them on
-ruled-at : (rules : List Rule) (i : ℕ) (rule : Rule) (about : Source) → i < length rules → rule ≡ get_or rules i rule → ruled (drop i rules) about ≡ (if is_source rule.source about then or_later rule.target (ruled (drop (i + 1) rules) about) else ruled (drop (i + 1) rules) about)
-ruled-at rules i rule about lt is = ap (λ rs. ruled rs about) (drop_more rules i rule lt ∙ ap (λ r. r ∷ drop (i + 1) rules) (sym is))
+ruled-at : (rules : List Rule) (i : ℕ) (rule : Rule) (about : Source) → i < length rules → rule ≡ get_or rules i rule → ruled (drop i rules) about ≡ cond (is_source rule.source about) (or_later rule.target (ruled (drop (i + 1) rules) about)) (ruled (drop (i + 1) rules) about)
+ruled-at rules i rule about lt is = ap (λ rs. ruled rs about) (drop_more rules i rule lt ∙ ap (λ r. r ∷ drop (i + 1) rules) (sym is)) ∙ ruled-step rule (drop (i + 1) rules) about
 
 -- a rule on another source says nothing
 pub ruled-other : (last : Option Path) (rules : List Rule) (i : ℕ) (rule : Rule) (about : Source) → i < length rules → rule ≡ get_or rules i rule → is_source rule.source about ≡ false → ruled rules about ≡ said_before last (ruled (drop i rules) about) → ruled rules about ≡ said_before last (ruled (drop (i + 1) rules) about)
@@ -145,13 +211,13 @@ ruled-named last rules i rule about f lt is same target h =
     ∙ ap (said_before last) (ruled-at rules i rule about lt is ∙ ap (λ b. if b then or_later rule.target rest else rest) same ∙ ap (λ t. or_later t rest) target)
     ∙ said_before-named last f rest
 
--- a rule that hides its source decides
-pub ruled-hidden : (last : Option Path) (rules : List Rule) (i : ℕ) (rule : Rule) (about : Source) → i < length rules → rule ≡ get_or rules i rule → is_source rule.source about ≡ true → rule.target ≡ None → ruled rules about ≡ said_before last (ruled (drop i rules) about) → ruled rules about ≡ Ignored
-ruled-hidden last rules i rule about lt is same target h =
+-- a rule by which its source is ignored decides
+pub ruled-ignored : (last : Option Path) (rules : List Rule) (i : ℕ) (rule : Rule) (about : Source) → i < length rules → rule ≡ get_or rules i rule → is_source rule.source about ≡ true → rule.target ≡ None → ruled rules about ≡ said_before last (ruled (drop i rules) about) → ruled rules about ≡ Ignored
+ruled-ignored last rules i rule about lt is same target h =
     let rest : ModuleRule = ruled (drop (i + 1) rules) about in
     h
     ∙ ap (said_before last) (ruled-at rules i rule about lt is ∙ ap (λ b. if b then or_later rule.target rest else rest) same ∙ ap (λ t. or_later t rest) target)
-    ∙ said_before-hidden last
+    ∙ said_before-ignored last
 
 -- at the end the last file that was named holds
 pub ruled-end : (last : Option Path) (rules : List Rule) (i : ℕ) (about : Source) → length rules ≤ i → ruled rules about ≡ said_before last (ruled (drop i rules) about) → ruled rules about ≡ said_before last NoRule

@@ -14,7 +14,7 @@ use Rattle.swc_loader.specs.Search.{folder, place}
 use Rattle.swc_loader.specs.SearchOnTree.{folder_asks, place_asks}
 use Rattle.swc_loader.specs.Settings.{NodeSettings}
 use Rattle.swc_loader.specs.BrowserRules.{ruled_file}
-use Rattle.swc_loader.specs.Located.{behind, searched, whole, inside, if_same, resolve_at, searched_on, searched_asks, folder_of, place_of, whole_on, inside_on, whole_asks, inside_asks, located_on, located_asks, LocatedOnTree}
+use Rattle.swc_loader.specs.Located.{behind, searched, whole, inside, resolve_at, searched_on, searched_asks, folder_of, place_of, whole_on, inside_on, whole_asks, inside_asks, located_on, located_asks, LocatedOnTree}
 use Rattle.swc_loader.proofs.BrowserLaws.{answer-ruled_file, asked-ruled_file}
 use Rattle.swc_loader.proofs.Searches.{folder_on_tree, place_on_tree}
 
@@ -49,11 +49,11 @@ asked-whole t s l = asked-after t s (text_of l) (folder s.conventions s.target l
 
 answer-inside : (t : Files) (s : NodeSettings) (text : List ℕ) → answer t (inside s text) ≡ inside_on t s text
 unfolding inside
-answer-inside t s text = answer-after t s text (place s.conventions s.target [] text) (place_of t s text) (place_on_tree.answers t s.conventions s.target [] text)
+answer-inside t s text = answer-after t s text (place s.conventions s.target [] text) (place_of t s text) (place_on_tree.answers t s.conventions s.target (clean [] text) text)
 
 asked-inside : (t : Files) (s : NodeSettings) (text : List ℕ) → asked t (inside s text) ≡ inside_asks t s text
 unfolding inside
-asked-inside t s text = asked-after t s text (place s.conventions s.target [] text) (place_of t s text) (place_asks t s.conventions s.target [] text) (place_on_tree.answers t s.conventions s.target [] text) (place_on_tree.asks t s.conventions s.target [] text)
+asked-inside t s text = asked-after t s text (place s.conventions s.target [] text) (place_of t s text) (place_asks t s.conventions s.target [] text) (place_on_tree.answers t s.conventions s.target (clean [] text) text) (place_on_tree.asks t s.conventions s.target (clean [] text) text)
 
 answer-located : (t : Files) (s : NodeSettings) (l : Path) (subpath : Option (List ℕ)) → answer t (resolve_at s l subpath) ≡ located_on t s l subpath
 answer-located t s l None = answer-whole t s l

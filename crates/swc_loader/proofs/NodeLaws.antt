@@ -6,10 +6,9 @@ use Rattle.sugar_path.specs.Path.{Path, text_of, clean, join, up, below, is_abso
 use Rattle.tree_core.specs.declared.question.Question.{Question}
 use Rattle.tree_core.specs.declared.question.Question.TheVariants as question
 use Rattle.tree_core.specs.Tree.{Files}
-use Rattle.tree_core.specs.First.{is_key, first_key, up_to_first}
+use Rattle.tree_core.specs.First.{first_key, up_to_first}
 use Rattle.tree_core.specs.Plan.{Plan, Done, answer, asked, ◌>>=◌, file, canon}
-use Rattle.tree_core.specs.Rows.{Going, end_of, order, or_refused, refuses_by, ends_by, never_refuses}
-use Rattle.tree_core.specs.Results.{asks_after}
+use Rattle.tree_core.specs.Rows.{Going, end_of, or_refused, never_refuses}
 use Rattle.tree_core.proofs.Asking.{answer-then, asked-then, answer-done, asked-done}
 use Rattle.tree_core.proofs.Firsts.{answer-file, asked-file}
 use Rattle.tree_core.proofs.RowLaws.{answer-made, asked-made, answer-order, asked-order, answer-refuses_by, asked-refuses_by, answer-ends_by, asked-ends_by, answer-never_refuses, asked-never_refuses, step, step_asks, row, decided_asks}
@@ -27,17 +26,17 @@ use Rattle.swc_loader.specs.declared.located.Placed.{Placed}
 use Rattle.swc_loader.specs.declared.located.Placed.TheVariants as placed
 use Rattle.swc_loader.specs.declared.search.Searched.{Searched}
 use Rattle.swc_loader.specs.Search.{places, place_without_entry, place, found_or_nothing}
-use Rattle.swc_loader.specs.SearchOnTree.{place_on, place_asks}
-use Rattle.swc_loader.specs.Walk.{walk, walk_on, walk_asks}
+use Rattle.swc_loader.specs.SearchOnTree.{place_asks}
+use Rattle.swc_loader.specs.Walk.{walk, walk_asks}
 use Rattle.swc_loader.specs.Specifier.{is_relative}
 use Rattle.swc_loader.specs.Settings.{NodeSettings}
 use Rattle.swc_loader.specs.Spelling.{canonical_or_path, path_as_written, canonical_name, spelled, custom, answer_of, answered}
 use Rattle.swc_loader.specs.BrowserRules.{module_rule}
 use Rattle.swc_loader.specs.BrowserRulesOnTree.{rule_asks}
 use Rattle.swc_loader.specs.Located.{searched}
-use Rattle.swc_loader.specs.NodeRows.{is_probed, probe, or_unanswered, unless_probed, path_text, by_rule, ruled_specifier, core_module_for, decided_or_target, before_search, target_or_answer, target_before_search, is_told_relative, answered_placed, folder_from, base_folder, told, at_root, behind_base, walked, by_modules, search}
+use Rattle.swc_loader.specs.NodeRows.{is_probed, probe, or_unanswered, unless_probed, by_rule, ruled_specifier, core_module_for, decided_or_target, before_search, target_or_answer, target_before_search, is_told_relative, answered_placed, folder_from, base_folder, told, at_root, behind_base, walked, search}
 use Rattle.swc_loader.specs.NodeOrder.{node_rows, node}
-use Rattle.swc_loader.specs.NodeOnTree.{name_on, answer_on, answer_asks, probe_on, unless_probed_on, probe_asks, answer_asks_if, module_rule_on, by_rule_on, by_rule_asks, ruled_specifier_on, before_on, before_asks, answer_placed_on, placed_asks, base_on, told_on, told_asks, behind_base_text, folders_on, at_root_on, behind_base_on, walked_on, search_on, base_asks, search_asks, node_on, node_asks, NodeSearchOnTree, NodeOnTree}
+use Rattle.swc_loader.specs.NodeOnTree.{name_on, answer_on, answer_asks, probe_on, unless_probed_on, probe_asks, answer_asks_if, module_rule_on, by_rule_on, by_rule_asks, ruled_specifier_on, before_on, before_asks, answer_placed_on, placed_asks, base_on, told_on, told_asks, behind_base_text, folders_on, at_root_on, behind_base_on, walked_on, search_on, base_asks, search_asks, node_on, node_asks, NameOnTree, AnswerOnTree, BeforeSearchOnTree, NodeSearchOnTree, NodeOnTree}
 use Rattle.swc_loader.proofs.BrowserLaws.{rule_on_tree}
 use Rattle.swc_loader.proofs.Locations.{answer-searched, asked-searched}
 use Rattle.swc_loader.proofs.Searches.{place_on_tree, place_without_entry_on_tree}
@@ -72,6 +71,12 @@ answer-answered t s via f relative = answer-made t (spelled s f relative) (answe
 pub asked-answered : (t : Files) (s : NodeSettings) (via : Option Via) (f : Path) (relative : Bool) → asked t (answered s via f relative) ≡ answer_asks s f
 unfolding answered
 asked-answered t s via f relative = asked-made t (spelled s f relative) (answer_of via f) ∙ asked-spelled t s f relative
+
+pub name_on_tree : NameOnTree
+name_on_tree = record { answers = answer-spelled; asks = asked-spelled }
+
+pub answer_on_tree : AnswerOnTree
+answer_on_tree = record { answers = answer-answered; asks = asked-answered }
 
 answer-placed : (t : Files) (s : NodeSettings) (relative : Bool) (found : Placed) → answer t (never_refuses {X = NodeRefusal} (answered_placed s relative found)) ≡ Ok (answer_placed_on t s relative found)
 answer-placed t s relative (placed.File f rewritten) =
@@ -112,11 +117,11 @@ told_after_asks t s target relative p found questions is asks = asked-then t p (
 
 answer-at_root : (t : Files) (s : NodeSettings) (target : List ℕ) → answer t (at_root s target) ≡ told_on t s target false (at_root_on t s target)
 unfolding at_root
-answer-at_root t s target = told_after t s target false (place s.conventions s.target [] target) (at_root_on t s target) (place_on_tree.answers t s.conventions s.target [] target)
+answer-at_root t s target = told_after t s target false (place s.conventions s.target [] target) (at_root_on t s target) (place_on_tree.answers t s.conventions s.target (clean [] target) target)
 
 asked-at_root : (t : Files) (s : NodeSettings) (target : List ℕ) → asked t (at_root s target) ≡ place_asks t s.conventions s.target [] target ++ told_asks t s target (at_root_on t s target)
 unfolding at_root
-asked-at_root t s target = told_after_asks t s target false (place s.conventions s.target [] target) (at_root_on t s target) (place_asks t s.conventions s.target [] target) (place_on_tree.answers t s.conventions s.target [] target) (place_on_tree.asks t s.conventions s.target [] target)
+asked-at_root t s target = told_after_asks t s target false (place s.conventions s.target [] target) (at_root_on t s target) (place_asks t s.conventions s.target [] target) (place_on_tree.answers t s.conventions s.target (clean [] target) target) (place_on_tree.asks t s.conventions s.target (clean [] target) target)
 
 answer-behind_base : (t : Files) (s : NodeSettings) (base target : List ℕ) → answer t (behind_base s base target) ≡ told_on t s target (not (is_absolute base)) (behind_base_on t s base target)
 unfolding behind_base
@@ -125,7 +130,7 @@ answer-behind_base t s base target =
     let rest : Path → Plan (Result Resolution NodeRefusal) = λ folder. at folder >>= told s target (not (is_absolute base)) in
     answer-then t (base_folder (clean s.cwd base)) rest
     ∙ ap (λ folder. answer t (rest folder)) (answer-base_folder t (clean s.cwd base))
-    ∙ told_after t s target (not (is_absolute base)) (at (base_on t (clean s.cwd base))) (behind_base_on t s base target) (place_on_tree.answers t s.conventions s.target [] (behind_base_text t s base target))
+    ∙ told_after t s target (not (is_absolute base)) (at (base_on t (clean s.cwd base))) (behind_base_on t s base target) (place_on_tree.answers t s.conventions s.target (clean [] (behind_base_text t s base target)) (behind_base_text t s base target))
 
 asked-behind_base : (t : Files) (s : NodeSettings) (base target : List ℕ) → asked t (behind_base s base target) ≡ base_asks s base ++ (place_asks t s.conventions s.target [] (behind_base_text t s base target) ++ told_asks t s target (behind_base_on t s base target))
 unfolding behind_base
@@ -135,7 +140,7 @@ asked-behind_base t s base target =
     asked-then t (base_folder (clean s.cwd base)) rest
     ∙ ap (λ qs. qs ++ asked t (rest (answer t (base_folder (clean s.cwd base))))) (asked-base_folder t (clean s.cwd base))
     ∙ ap (λ folder. base_asks s base ++ asked t (rest folder)) (answer-base_folder t (clean s.cwd base))
-    ∙ ap (λ qs. base_asks s base ++ qs) (told_after_asks t s target (not (is_absolute base)) (at (base_on t (clean s.cwd base))) (behind_base_on t s base target) (place_asks t s.conventions s.target [] (behind_base_text t s base target)) (place_on_tree.answers t s.conventions s.target [] (behind_base_text t s base target)) (place_on_tree.asks t s.conventions s.target [] (behind_base_text t s base target)))
+    ∙ ap (λ qs. base_asks s base ++ qs) (told_after_asks t s target (not (is_absolute base)) (at (base_on t (clean s.cwd base))) (behind_base_on t s base target) (place_asks t s.conventions s.target [] (behind_base_text t s base target)) (place_on_tree.answers t s.conventions s.target (clean [] (behind_base_text t s base target)) (behind_base_text t s base target)) (place_on_tree.asks t s.conventions s.target (clean [] (behind_base_text t s base target)) (behind_base_text t s base target)))
 
 answer-walked : (t : Files) (s : NodeSettings) (base target : List ℕ) → answer t (walked s base target) ≡ told_on t s target true (walked_on t s base target)
 unfolding walked
@@ -278,6 +283,9 @@ asked-before : (t : Files) (s : NodeSettings) (importer : Path) (specifier : Lis
 unfolding before_search by_rules
 asked-before t s importer specifier =
     asked-made t (ruled_specifier s importer specifier) (by_rules s specifier) ∙ asked-ruled_specifier t s importer specifier
+
+pub before_search_on_tree : BeforeSearchOnTree
+before_search_on_tree = record { answers = answer-before; asks = asked-before }
 
 pub answer-target : {X : Type 0} (t : Files) (s : NodeSettings) (importer : Path) (specifier : List ℕ) → answer t (target_before_search {X = X} s importer specifier) ≡ target_or_answer (before_on t s importer specifier)
 unfolding target_before_search

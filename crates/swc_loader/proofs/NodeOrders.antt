@@ -1,5 +1,5 @@
 -- How the order for Node's modules goes on behind its first row.
-use Rattle.std.proofs.Common.{◌≡◌, ℕ, Bool, true, not, if◌then◌else◌, List, Option, Some, None, Result, Ok, Err, refl, sym, ap, ◌∙◌, subst}
+use Rattle.std.proofs.Common.{◌≡◌, ℕ, Bool, true, not, if◌then◌else◌, List, Option, Some, None, Result, Ok, Err, refl, sym, ◌∙◌, subst}
 use Rattle.sugar_path.specs.Path.{Path, clean, is_absolute}
 use Rattle.tree_core.specs.declared.tree.ReadError.{ReadError}
 use Rattle.tree_core.specs.Asks.{Asking, Asks}
@@ -93,7 +93,12 @@ asks_walked {old = old} {new = new} {result = result} s base target on h =
     subst P (sym on) h
 
 -- a base that is no path is refused
-pub no_path : (s : NodeSettings) (base : FileName) (specifier : List ℕ) → ((text : List ℕ) → base ≡ Real text → ⊥) → by_base s base specifier ≡ Done (Err BaseNotAFile)
-no_path s (Real text) specifier other = absurd (other text refl)
-no_path s (Custom name) specifier other = refl
-no_path s Anon specifier other = refl
+pub no_path : (base : FileName) → ((text : List ℕ) → base ≡ Real text → ⊥) → path_text base ≡ Err BaseNotAFile
+no_path (Real text) other = absurd (other text refl)
+no_path (Custom name) other = refl
+no_path Anon other = refl
+
+pub refused_base : (s : NodeSettings) (base : FileName) (specifier : List ℕ) → path_text base ≡ Err BaseNotAFile → by_base s base specifier ≡ Done (Err BaseNotAFile)
+refused_base s (Real text) specifier e = cc
+refused_base s (Custom name) specifier e = refl
+refused_base s Anon specifier e = refl

@@ -1,5 +1,5 @@
 -- The search of a place, where the code has read the text's path and the settings itself.
-use Rattle.std.proofs.Common.{◌≡◌, ℕ, List, [], Result, sym, ap, ◌∙◌, subst}
+use Rattle.std.proofs.Common.{◌≡◌, ℕ, List, [], Result, ap, ◌∙◌, subst}
 use Rattle.sugar_path.specs.Path.{Path, clean}
 use Rattle.tree_core.specs.declared.tree.ReadError.{ReadError}
 use Rattle.tree_core.specs.Asks.{Asking, Asks}

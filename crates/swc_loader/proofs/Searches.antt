@@ -1,6 +1,6 @@
 -- The plans of the searches come to what the tree has, and put the questions that the laws say.
 use Rattle.std.proofs.Common.{◌≡◌, ℕ, Bool, true, false, cond, List, [], ◌∷◌, ◌++◌, Option, Some, None, refl, ap, ◌∙◌}
-use Rattle.sugar_path.specs.Path.{Path, clean, text_of}
+use Rattle.sugar_path.specs.Path.{Path, text_of}
 use Rattle.tree_core.specs.declared.question.Question.TheVariants as question
 use Rattle.tree_core.specs.Tree.{Files}
 use Rattle.tree_core.specs.First.{is_key, first_key, up_to_first}
@@ -12,10 +12,10 @@ use Rattle.swc_loader.specs.declared.entry.PackageEntry.{PackageEntry}
 use Rattle.swc_loader.specs.declared.entry.PackageEntry.TheVariants as entry
 use Rattle.swc_loader.specs.declared.search.Searched.TheVariants.{File, Malformed}
 use Rattle.swc_loader.specs.Conventions.{Conventions}
-use Rattle.swc_loader.specs.Candidates.{files}
+use Rattle.swc_loader.specs.Candidates.{files_at}
 use Rattle.swc_loader.specs.Entry as of
-use Rattle.swc_loader.specs.Search.{package_file, index_files, entry_places, places, found_or_nothing, first_found, by_entry, packaged, folder, or_else, place_at, place}
-use Rattle.swc_loader.specs.SearchOnTree.{first_on, by_entry_on, entry_on, folder_on, or_folder, place_on, by_entry_asks, folder_asks, unless_found, place_asks, FolderOnTree, PlaceOnTree, PlainPlaceOnTree}
+use Rattle.swc_loader.specs.Search.{package_file, index_files, entry_places, places, found_or_nothing, first_found, by_entry, packaged, folder, or_else, place_at}
+use Rattle.swc_loader.specs.SearchOnTree.{first_on, by_entry_on, entry_on, folder_on, or_folder, place_at_on, by_entry_asks, folder_asks, unless_found, place_at_asks, FolderOnTree, PlaceOnTree, PlainPlaceOnTree}
 
 answer-found : (t : Files) (ps : List Path) → answer t (first_found ps) ≡ first_on t ps
 unfolding first_found
@@ -73,25 +73,25 @@ asked-folder t c env d =
     by_test true = asked-packaged t c env d
     by_test false = asked-found t (index_files c d)
 
-answer-place : (t : Files) (c : Conventions) (env : TargetEnv) (cwd : Path) (text : List ℕ) → answer t (place c env cwd text) ≡ place_on t c env cwd text
+answer-place : (t : Files) (c : Conventions) (env : TargetEnv) (p : Path) (text : List ℕ) → answer t (place_at c env p text) ≡ place_at_on t c env p text
 unfolding place_at
-answer-place t c env cwd text =
-    let next = λ (found : Option Path). or_else found (folder c env (clean cwd text)) in
-    answer-then t (first_file (files c cwd text)) next ∙ ap (λ found. answer t (next found)) (answer-first_file t (files c cwd text)) ∙ by_found (first_key t (files c cwd text))
+answer-place t c env p text =
+    let next = λ (found : Option Path). or_else found (folder c env p) in
+    answer-then t (first_file (files_at c p text)) next ∙ ap (λ found. answer t (next found)) (answer-first_file t (files_at c p text)) ∙ by_found (first_key t (files_at c p text))
   where
-    by_found : (found : Option Path) → answer t (or_else found (folder c env (clean cwd text))) ≡ or_folder found (folder_on t c env (clean cwd text))
+    by_found : (found : Option Path) → answer t (or_else found (folder c env p)) ≡ or_folder found (folder_on t c env p)
     by_found (Some f) = answer-done t (File f)
-    by_found None = answer-folder t c env (clean cwd text)
+    by_found None = answer-folder t c env p
 
-asked-place : (t : Files) (c : Conventions) (env : TargetEnv) (cwd : Path) (text : List ℕ) → asked t (place c env cwd text) ≡ place_asks t c env cwd text
+asked-place : (t : Files) (c : Conventions) (env : TargetEnv) (p : Path) (text : List ℕ) → asked t (place_at c env p text) ≡ place_at_asks t c env p text
 unfolding place_at
-asked-place t c env cwd text =
-    let next = λ (found : Option Path). or_else found (folder c env (clean cwd text)) in
-    asked-then t (first_file (files c cwd text)) next ∙ ap (λ qs. qs ++ asked t (next (answer t (first_file (files c cwd text))))) (asked-first_file t (files c cwd text)) ∙ ap (λ qs. up_to_first t (files c cwd text) ++ qs) (ap (λ found. asked t (next found)) (answer-first_file t (files c cwd text)) ∙ by_found (first_key t (files c cwd text)))
+asked-place t c env p text =
+    let next = λ (found : Option Path). or_else found (folder c env p) in
+    asked-then t (first_file (files_at c p text)) next ∙ ap (λ qs. qs ++ asked t (next (answer t (first_file (files_at c p text))))) (asked-first_file t (files_at c p text)) ∙ ap (λ qs. up_to_first t (files_at c p text) ++ qs) (ap (λ found. asked t (next found)) (answer-first_file t (files_at c p text)) ∙ by_found (first_key t (files_at c p text)))
   where
-    by_found : (found : Option Path) → asked t (or_else found (folder c env (clean cwd text))) ≡ unless_found found (folder_asks t c env (clean cwd text))
+    by_found : (found : Option Path) → asked t (or_else found (folder c env p)) ≡ unless_found found (folder_asks t c env p)
     by_found (Some f) = asked-done t (File f)
-    by_found None = asked-folder t c env (clean cwd text)
+    by_found None = asked-folder t c env p
 
 pub folder_on_tree : FolderOnTree
 folder_on_tree = record { answers = answer-folder; asks = asked-folder }

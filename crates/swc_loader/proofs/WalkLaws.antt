@@ -1,9 +1,9 @@
 -- The walk comes to what the tree has, and puts the questions that its law says.
 use Rattle.std.proofs.Common.{◌≡◌, ℕ, Bool, true, false, cond, List, [], ◌∷◌, ◌++◌, Option, Some, None, refl, ap, ◌∙◌}
-use Rattle.sugar_path.specs.Path.{Path, text_of}
+use Rattle.sugar_path.specs.Path.{Path, text_of, clean}
 use Rattle.tree_core.specs.declared.question.Question.TheVariants as question
 use Rattle.tree_core.specs.Tree.{Files, is_folder}
-use Rattle.tree_core.specs.Plan.{Plan, Done, answer, asked, ◌>>=◌, folder_there}
+use Rattle.tree_core.specs.Plan.{Done, answer, asked, folder_there}
 use Rattle.tree_core.proofs.Asking.{answer-then, asked-then, answer-done, asked-done}
 use Rattle.swc_loader.specs.declared.target.TargetEnv.{TargetEnv}
 use Rattle.swc_loader.specs.declared.search.Searched.{Searched}
@@ -30,7 +30,7 @@ answer-in_modules t c env target d =
     ∙ by_test (is_folder t (text_of (modules_of d)))
   where
     by_test : (b : Bool) → answer t (cond b (place c env [] (text_in_modules d target)) (Done Nothing)) ≡ cond b (place_on t c env [] (text_in_modules d target)) Nothing
-    by_test true = place_on_tree.answers t c env [] (text_in_modules d target)
+    by_test true = place_on_tree.answers t c env (clean [] (text_in_modules d target)) (text_in_modules d target)
     by_test false = answer-done t Nothing
 
 asked-in_modules : (t : Files) (c : Conventions) (env : TargetEnv) (target : List ℕ) (d : Path) → asked t (in_modules c env target d) ≡ in_modules_asks t c env target d
@@ -42,7 +42,7 @@ asked-in_modules t c env target d =
     ∙ ap (λ qs. question.Dir (text_of (modules_of d)) ∷ qs) (by_test (is_folder t (text_of (modules_of d))))
   where
     by_test : (b : Bool) → asked t (cond b (place c env [] (text_in_modules d target)) (Done Nothing)) ≡ cond b (place_asks t c env [] (text_in_modules d target)) []
-    by_test true = place_on_tree.asks t c env [] (text_in_modules d target)
+    by_test true = place_on_tree.asks t c env (clean [] (text_in_modules d target)) (text_in_modules d target)
     by_test false = asked-done t Nothing
 
 answer-walk : (t : Files) (c : Conventions) (env : TargetEnv) (target : List ℕ) (ds : List Path) → answer t (walk c env target ds) ≡ walk_on t c env target ds

@@ -1,7 +1,9 @@
--- The rules that the `browser` map of a package.json gives, as bundlers read it: which files and modules something else stands for, and which are hidden.
-use Rattle.std.specs.Prelude.{ℕ, Bool, true, false, not, if◌then◌else◌, List, [], ◌∷◌, map, codes, bytes_eq, Option, Some, None, option_map, option_and_then, unwrap_or}
-use Rattle.serde_json.specs.Data.{Data, null, boolean, number, string, array, object, Members, no_members, member}
-use Rattle.serde_json.specs.Find.{get, as_str, as_object}
+-- The rules that the `browser` map of a package.json gives, as bundlers read it: which files and modules something else stands for, and which are ignored. Each `do` here is over plans.
+use Rattle.std.specs.Prelude.{ℕ, Bool, true, false, if◌then◌else◌, List, [], ◌∷◌, map, filter, codes, bytes_eq, Option, Some, None, option_map, option_and_then, unwrap_or}
+use Rattle.std.specs.List.{list_any, last_or}
+use Rattle.std.specs.Option.{option_map_or}
+use Rattle.serde_json.specs.Data.{Data, boolean, string, Members, no_members, member}
+use Rattle.serde_json.specs.Find.{get, as_object}
 use Rattle.sugar_path.specs.Path.{Path, text_of, join, up, parent, path_eq}
 use Rattle.tree_core.specs.Plan.{Plan, Done, ◌>>=◌, read, first_file}
 use Rattle.swc_loader.specs.declared.browser_rules.Source.{Source}
@@ -35,34 +37,22 @@ source_of c root key =
     then (place_behind c root key >>= λ found. Done (file_or_specifier key found))
     else Done (source.Specifier key)
 
--- the rule that hides its source
-abbrev pub hidden_rule : Source → Option Rule
-hidden_rule about = Some (record { source = about; target = None })
+-- the rule by which its source is ignored
+abbrev pub ignoring_rule : Source → Option Rule
+ignoring_rule about = Some (record { source = about; target = None })
 
 -- the rule by which a file stands for its source; without a place there is none
 abbrev pub placed_rule : Source → Option Path → Option Rule
 placed_rule about target = option_map (λ f. record { source = about; target = Some f }) target
 
-abbrev pub is_false : Data → Bool
-is_false null = false
-is_false (boolean b) = not b
-is_false (number n) = false
-is_false (string s) = false
-is_false (array ds) = false
-is_false (object ms) = false
-
--- The rule of an entry with a text, of one that is `false`, and of any other: the place of the text stands for the source, whatever the text begins with; `false` hides the source; `true` says nothing.
-abbrev pub rule_by : Conventions → Path → List ℕ → Option (List ℕ) → Bool → Plan (Option Rule)
-rule_by c root key (Some text) hidden = do
+-- The rule of an entry, by the kind of its value: the place of a text stands for the source, whatever the text begins with; by `false` the source is ignored; any other value gives no rule.
+abbrev pub rule_of : Conventions → Path → List ℕ → Data → Plan (Option Rule)
+rule_of c root key (string text) = do
   about ← source_of c root key
   target ← place_behind c root text
   Done (placed_rule about target)
-rule_by c root key None true = source_of c root key >>= λ about. Done (hidden_rule about)
-rule_by c root key None false = Done None
-
--- the rule of an entry
-abbrev pub rule_of : Conventions → Path → List ℕ → Data → Plan (Option Rule)
-rule_of c root key value = rule_by c root key (as_str value) (is_false value)
+rule_of c root key (boolean false) = source_of c root key >>= λ about. Done (ignoring_rule about)
+rule_of c root key _ = Done None
 
 abbrev pub with_rule : Option Rule → List Rule → List Rule
 with_rule None rules = rules
@@ -120,18 +110,26 @@ is_source (source.File f) (source.Specifier t) = false
 is_source (source.Specifier t) (source.File f) = false
 is_source (source.Specifier t) (source.Specifier u) = bytes_eq t u
 
--- what a rule says of its source, before what later rules say of it
-abbrev pub or_later : Option Path → ModuleRule → ModuleRule
-or_later None later = Ignored
-or_later (Some f) Ignored = Ignored
-or_later (Some f) (File g) = File g
-or_later (Some f) NoRule = File f
+-- the rules that are about a source, in their order
+abbrev pub rules_about : Source → List Rule → List Rule
+rules_about about rules = filter (λ rule. is_source rule.source about) rules
 
--- what rules say of a source: a rule that hides it goes before all others, and of those by which a file stands for it the last one holds
+-- by this rule its source is ignored
+abbrev pub ignores : Rule → Bool
+ignores rule = option_map_or (λ _. false) rule.target true
+
+-- what the last of rules says: its file stands for the source
+abbrev pub said_by_last : Option Rule → ModuleRule
+said_by_last None = NoRule
+said_by_last (Some rule) = option_map_or File rule.target Ignored
+
+-- of rules about one source, an ignore wins, else the last
+abbrev pub ignore_or_last : List Rule → ModuleRule
+ignore_or_last rules = if list_any ignores rules then Ignored else said_by_last (last_or None rules)
+
+-- what rules say of a source: of those about it, an ignore wins, else the last
 abbrev pub ruled : List Rule → Source → ModuleRule
-ruled [] about = NoRule
-ruled (rule ∷ rules) about =
-    if is_source rule.source about then or_later rule.target (ruled rules about) else ruled rules about
+ruled rules about = ignore_or_last (rules_about about rules)
 
 -- what the rules for a path say of a source; for the target Node there are none
 abbrev pub rule_by_target : TargetEnv → Conventions → Path → Source → Plan ModuleRule

@@ -1,7 +1,6 @@
 -- What the rules for browsers are on a tree, and which questions their reading puts, as plain functions of the tree: the laws by which a reader checks the plans.
-use Rattle.std.specs.Prelude.{◌≡◌, ℕ, Bool, true, false, if◌then◌else◌, List, [], ◌∷◌, ◌++◌, map, codes, Option, Some, None, option_map}
-use Rattle.serde_json.specs.Data.{Data, Members, no_members, member}
-use Rattle.serde_json.specs.Find.{as_str}
+use Rattle.std.specs.Prelude.{◌≡◌, ℕ, false, if◌then◌else◌, List, [], ◌∷◌, ◌++◌, map, codes, Option, Some, None, option_map}
+use Rattle.serde_json.specs.Data.{Data, boolean, string, Members, no_members, member}
 use Rattle.sugar_path.specs.Path.{Path, text_of, join, up, parent}
 use Rattle.tree_core.specs.declared.question.Question.{Question}
 use Rattle.tree_core.specs.declared.question.Question.TheVariants as question
@@ -20,7 +19,7 @@ use Rattle.swc_loader.specs.Conventions.{Conventions}
 use Rattle.swc_loader.specs.Search.{places, package_file}
 use Rattle.swc_loader.specs.Specifier.{begins_in}
 use Rattle.swc_loader.specs.Settings.{NodeSettings}
-use Rattle.swc_loader.specs.BrowserRules.{is_false, file_or_specifier, hidden_rule, placed_rule, with_rule, browser_entries, ruled, placed_by, rules_for, rule_for, ruled_file}
+use Rattle.swc_loader.specs.BrowserRules.{file_or_specifier, ignoring_rule, placed_rule, with_rule, browser_entries, ruled, placed_by, rules_for, rule_for}
 
 -- where a text behind a root may be found
 abbrev pub places_behind : Conventions → Path → List ℕ → List Path
@@ -34,14 +33,11 @@ source_on t c root key =
     else source.Specifier key
 
 -- the rule of an entry, on a tree
-abbrev pub rule_by_on : Files → Conventions → Path → List ℕ → Option (List ℕ) → Bool → Option Rule
-rule_by_on t c root key (Some text) hidden =
-    placed_rule (source_on t c root key) (first_key t (places_behind c root text))
-rule_by_on t c root key None true = hidden_rule (source_on t c root key)
-rule_by_on t c root key None false = None
-
 abbrev pub rule_on : Files → Conventions → Path → List ℕ → Data → Option Rule
-rule_on t c root key value = rule_by_on t c root key (as_str value) (is_false value)
+rule_on t c root key (string text) =
+    placed_rule (source_on t c root key) (first_key t (places_behind c root text))
+rule_on t c root key (boolean false) = ignoring_rule (source_on t c root key)
+rule_on t c root key _ = None
 
 -- the rules of entries, on a tree
 abbrev pub rules_on : Files → Conventions → Path → Members → List Rule
@@ -55,14 +51,11 @@ source_asks t c root key =
     if begins_in key (codes ".") then up_to_first t (places_behind c root key) else []
 
 -- the place of its source, where the entry is a text or `false`, and then that of its text
-abbrev pub asks_by : Files → Conventions → Path → List ℕ → Option (List ℕ) → Bool → List Question
-asks_by t c root key (Some text) hidden =
-    source_asks t c root key ++ up_to_first t (places_behind c root text)
-asks_by t c root key None true = source_asks t c root key
-asks_by t c root key None false = []
-
 abbrev pub entry_asks : Files → Conventions → Path → List ℕ → Data → List Question
-entry_asks t c root key value = asks_by t c root key (as_str value) (is_false value)
+entry_asks t c root key (string text) =
+    source_asks t c root key ++ up_to_first t (places_behind c root text)
+entry_asks t c root key (boolean false) = source_asks t c root key
+entry_asks t c root key _ = []
 
 -- those of each entry, also where an earlier one would decide
 abbrev pub entries_asks : Files → Conventions → Path → Members → List Question

@@ -1,6 +1,7 @@
 -- File candidates: the paths at which the text of a specifier may be a file, in order, as bundlers and TypeScript's resolver try them.
-use Rattle.std.specs.Prelude.{ℕ, ◌==◌, ◌&&◌, Bool, true, false, not, if◌then◌else◌, List, [], ◌∷◌, ◌++◌, map, filter, Option, Some, None, bytes_eq, drop, unwrap_or}
+use Rattle.std.specs.Prelude.{ℕ, ◌==◌, ◌&&◌, Bool, false, not, if◌then◌else◌, List, [], ◌∷◌, ◌++◌, map, filter, None, bytes_eq, codes, drop, unwrap_or}
 use Rattle.std.specs.List.{list_any, before_last, after_last, last_or}
+use Rattle.std.specs.Option.{option_map_or}
 use Rattle.std.specs.Map.{lookup}
 use Rattle.sugar_path.specs.Path.{Path, parts, clean}
 use Rattle.swc_loader.specs.Conventions.{Conventions}
@@ -54,24 +55,23 @@ in_folder d names = map (λ m. m ∷ d) names
 
 -- a part of a text that takes a step: it is neither empty nor `.`
 abbrev pub is_step : List ℕ → Bool
-is_step part = not (bytes_eq part []) && not (bytes_eq part (46 ∷ []))
+is_step part = not (bytes_eq part []) && not (bytes_eq part (codes "."))
 
 -- a step that is no `..` is a name
-abbrev pub is_named_by : Option (List ℕ) → Bool
-is_named_by None = false
-is_named_by (Some part) = not (bytes_eq part (46 ∷ 46 ∷ []))
+abbrev pub is_name : List ℕ → Bool
+is_name part = is_step part && not (bytes_eq part (codes ".."))
+
+-- the last of these parts is a name
+abbrev pub ends_in_name : List (List ℕ) → Bool
+ends_in_name parts = option_map_or is_name (last_or None parts) false
 
 -- a text is named where its last component, with trailing `/` and `.` dropped, is a name
 abbrev pub is_named : List ℕ → Bool
-is_named t = is_named_by (last_or None (filter is_step (parts t)))
+is_named t = ends_in_name (filter is_step (parts t))
 
--- a text is closed where what follows its last `/` is neither empty nor `.` nor `..`
-abbrev pub is_closed_by : Option (List ℕ) → Bool
-is_closed_by None = false
-is_closed_by (Some part) = is_step part && not (bytes_eq part (46 ∷ 46 ∷ []))
-
+-- a text is closed where what follows its last `/` is a name
 abbrev pub is_closed : List ℕ → Bool
-is_closed t = is_closed_by (last_or None (parts t))
+is_closed t = ends_in_name (parts t)
 
 -- the candidates for the last name of a path, each in that name's folder; `/` has none
 abbrev pub candidates_at : Conventions → Path → Bool → List Path

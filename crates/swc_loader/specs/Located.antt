@@ -1,4 +1,4 @@
--- The search at the location of a package.
+-- The search at the location of a package. Each `do` here is over plans.
 use Rattle.std.specs.Prelude.{◌≡◌, ℕ, if◌then◌else◌, List, [], ◌∷◌, ◌++◌, Option, Some, None, Result, Ok, Err}
 use Rattle.sugar_path.specs.Path.{Path, text_of, clean, path_eq}
 use Rattle.tree_core.specs.declared.question.Question.{Question}

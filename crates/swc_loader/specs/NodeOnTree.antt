@@ -1,4 +1,4 @@
--- What the order for Node's modules comes to on a tree, and which questions it puts, as plain functions of the tree: the laws by which a reader checks the plans.
+-- What the order for Node's modules comes to on a tree, and which questions it puts, as plain functions of the tree: the laws by which a reader checks the plans. Each `do` here is over results.
 use Rattle.std.specs.Prelude.{◌≡◌, ℕ, Bool, true, false, not, if◌then◌else◌, List, [], ◌∷◌, ◌++◌, Option, Some, None, option_map, Result, Ok, Err}
 use Rattle.std.specs.Option.{option_or}
 use Rattle.std.specs.FinMap.{get}
@@ -28,10 +28,10 @@ use Rattle.swc_loader.specs.SearchOnTree.{place_on, place_asks}
 use Rattle.swc_loader.specs.Walk.{walk_on, walk_asks}
 use Rattle.swc_loader.specs.Specifier.{is_relative}
 use Rattle.swc_loader.specs.Settings.{NodeSettings}
-use Rattle.swc_loader.specs.Spelling.{path_as_written, canonical_or_path, custom, answer_of}
+use Rattle.swc_loader.specs.Spelling.{path_as_written, canonical_or_path, spelled, custom, answer_of, answered}
 use Rattle.swc_loader.specs.BrowserRulesOnTree.{rule_for_on, rule_asks}
 use Rattle.swc_loader.specs.Located.{searched_on, searched_asks}
-use Rattle.swc_loader.specs.NodeRows.{is_probed, path_text, core_module_for, decided_or_target, target_or_answer, folder_from, is_told_relative, search}
+use Rattle.swc_loader.specs.NodeRows.{is_probed, path_text, core_module_for, decided_or_target, before_search, target_or_answer, folder_from, is_told_relative, search}
 use Rattle.swc_loader.specs.NodeOrder.{node}
 
 -- the name that a file is answered by
@@ -184,6 +184,27 @@ node_asks t s base specifier =
     before_asks t s (clean s.cwd importer) unanswered ++
     asks_after (target_or_answer {X = NodeRefusal} (before_on t s (clean s.cwd importer) unanswered))
     (λ target. search_asks t s importer target))))
+
+-- the name that a file is answered by, on each tree
+pub record NameOnTree : Type 0 where
+  pub answers : (t : Files) (s : NodeSettings) (f : Path) (relative : Bool) →
+      answer t (spelled s f relative) ≡ name_on t s f relative
+  pub asks : (t : Files) (s : NodeSettings) (f : Path) (relative : Bool) →
+      asked t (spelled s f relative) ≡ answer_asks s f
+
+-- the answer of a file that was found, on each tree
+pub record AnswerOnTree : Type 0 where
+  pub answers : (t : Files) (s : NodeSettings) (via : Option Via) (f : Path) (relative : Bool) →
+      answer t (answered s via f relative) ≡ answer_on t s via f relative
+  pub asks : (t : Files) (s : NodeSettings) (via : Option Via) (f : Path) (relative : Bool) →
+      asked t (answered s via f relative) ≡ answer_asks s f
+
+-- what is decided before a search, or its target, on each tree
+pub record BeforeSearchOnTree : Type 0 where
+  pub answers : (t : Files) (s : NodeSettings) (importer : Path) (specifier : List ℕ) →
+      answer t (before_search s importer specifier) ≡ before_on t s importer specifier
+  pub asks : (t : Files) (s : NodeSettings) (importer : Path) (specifier : List ℕ) →
+      asked t (before_search s importer specifier) ≡ before_asks t s importer specifier
 
 -- the search by a target, on each tree
 pub record NodeSearchOnTree : Type 0 where

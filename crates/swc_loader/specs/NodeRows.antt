@@ -1,4 +1,4 @@
--- The rows of the order of search for Node's modules, each by itself, as docs/ORDER.md lists the node rows.
+-- The rows of the order of search for Node's modules, each by itself, as docs/ORDER.md lists the node rows. Each `do` here is over plans.
 use Rattle.std.specs.Prelude.{ℕ, ◌==◌, ◌&&◌, Bool, true, false, not, if◌then◌else◌, List, [], ◌∷◌, ◌++◌, codes, get_or, Option, Some, None, Result, Ok, Err}
 use Rattle.std.specs.Option.{option_or}
 use Rattle.sugar_path.specs.Path.{Path, text_of, clean, join, up, parent, below, is_absolute}

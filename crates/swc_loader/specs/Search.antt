@@ -1,4 +1,4 @@
--- The search of a folder and of a place, as plans of questions.
+-- The search of a folder and of a place, as plans of questions. Each `do` here is over plans.
 use Rattle.std.specs.Prelude.{ℕ, if◌then◌else◌, List, [], ◌∷◌, ◌++◌, flat_map, Option, Some, None, codes}
 use Rattle.sugar_path.specs.Path.{Path, clean, join, text_of}
 use Rattle.tree_core.specs.Plan.{Plan, Done, ◌>>=◌, file, read, first_file}
@@ -8,7 +8,7 @@ use Rattle.swc_loader.specs.declared.entry.PackageEntry.TheVariants as entry
 use Rattle.swc_loader.specs.declared.search.Searched.{Searched}
 use Rattle.swc_loader.specs.declared.search.Searched.TheVariants.{File, Nothing, Malformed}
 use Rattle.swc_loader.specs.Conventions.{Conventions}
-use Rattle.swc_loader.specs.Candidates.{with_endings, in_folder, files_at, files}
+use Rattle.swc_loader.specs.Candidates.{with_endings, in_folder, files_at}
 use Rattle.swc_loader.specs.Entry as of
 
 -- the index files of a folder, in order: each index name with each ending

@@ -10,11 +10,11 @@ use Rattle.swc_loader.specs.declared.target.TargetEnv.{TargetEnv}
 use Rattle.swc_loader.specs.declared.entry.PackageEntry.{PackageEntry}
 use Rattle.swc_loader.specs.declared.entry.PackageEntry.TheVariants as entry
 use Rattle.swc_loader.specs.declared.search.Searched.{Searched}
-use Rattle.swc_loader.specs.declared.search.Searched.TheVariants.{File, Nothing, Malformed}
+use Rattle.swc_loader.specs.declared.search.Searched.TheVariants.{File, Malformed}
 use Rattle.swc_loader.specs.Conventions.{Conventions}
-use Rattle.swc_loader.specs.Candidates.{files}
+use Rattle.swc_loader.specs.Candidates.{files_at}
 use Rattle.swc_loader.specs.Entry as of
-use Rattle.swc_loader.specs.Search.{index_files, places, place_without_entry, package_file, found_or_nothing, entry_places, folder, place}
+use Rattle.swc_loader.specs.Search.{index_files, places, place_without_entry, package_file, found_or_nothing, entry_places, folder, place_at}
 
 -- the first of paths that is a file
 abbrev pub first_on : Files → List Path → Searched
@@ -41,10 +41,13 @@ abbrev pub or_folder : Option Path → Searched → Searched
 or_folder (Some f) found = File f
 or_folder None found = found
 
--- the place of a text: the first of its file candidates that is a file, else what its folder gives
+-- the place of a text that means a path: the first of its file candidates that is a file, else what its folder gives
+abbrev pub place_at_on : Files → Conventions → TargetEnv → Path → List ℕ → Searched
+place_at_on t c env p text = or_folder (first_key t (files_at c p text)) (folder_on t c env p)
+
+-- the place of a text that is read from a folder
 abbrev pub place_on : Files → Conventions → TargetEnv → Path → List ℕ → Searched
-place_on t c env cwd text =
-    or_folder (first_key t (files c cwd text)) (folder_on t c env (clean cwd text))
+place_on t c env cwd text = place_at_on t c env (clean cwd text) text
 
 -- the questions behind the reading of an entry
 abbrev pub by_entry_asks : Files → Conventions → Path → PackageEntry → List Question
@@ -65,10 +68,13 @@ unless_found (Some f) questions = []
 unless_found None questions = questions
 
 -- whether the file candidates are files, up to the first that is one, and where none is, those of the folder
+abbrev pub place_at_asks : Files → Conventions → TargetEnv → Path → List ℕ → List Question
+place_at_asks t c env p text =
+    up_to_first t (files_at c p text) ++
+    unless_found (first_key t (files_at c p text)) (folder_asks t c env p)
+
 abbrev pub place_asks : Files → Conventions → TargetEnv → Path → List ℕ → List Question
-place_asks t c env cwd text =
-    up_to_first t (files c cwd text) ++
-    unless_found (first_key t (files c cwd text)) (folder_asks t c env (clean cwd text))
+place_asks t c env cwd text = place_at_asks t c env (clean cwd text) text
 
 -- the search of a folder, on each tree
 pub record FolderOnTree : Type 0 where
@@ -77,12 +83,12 @@ pub record FolderOnTree : Type 0 where
   pub asks : (t : Files) (c : Conventions) (env : TargetEnv) (d : Path) →
       asked t (folder c env d) ≡ folder_asks t c env d
 
--- the search of a place, on each tree
+-- the search of the place of any text that means a path, on each tree
 pub record PlaceOnTree : Type 0 where
-  pub answers : (t : Files) (c : Conventions) (env : TargetEnv) (cwd : Path) (text : List ℕ) →
-      answer t (place c env cwd text) ≡ place_on t c env cwd text
-  pub asks : (t : Files) (c : Conventions) (env : TargetEnv) (cwd : Path) (text : List ℕ) →
-      asked t (place c env cwd text) ≡ place_asks t c env cwd text
+  pub answers : (t : Files) (c : Conventions) (env : TargetEnv) (p : Path) (text : List ℕ) →
+      answer t (place_at c env p text) ≡ place_at_on t c env p text
+  pub asks : (t : Files) (c : Conventions) (env : TargetEnv) (p : Path) (text : List ℕ) →
+      asked t (place_at c env p text) ≡ place_at_asks t c env p text
 
 -- the search of a place without entry, on each tree
 pub record PlainPlaceOnTree : Type 0 where

@@ -2,7 +2,6 @@
 use Rattle.std.specs.Prelude.{ℕ, Bool, not, ◌&&◌, ◌||◌, List, [], ◌∷◌, ◌++◌, nat_eq, bytes_eq, codes}
 use Rattle.std.specs.List.{starts_with}
 use Rattle.sugar_path.specs.Path.{is_absolute}
-use Rattle.tree_core.specs.Builtins.{is_builtin}
 
 -- the first component of a text is this one
 abbrev pub begins_in : List ℕ → List ℕ → Bool

@@ -1,4 +1,4 @@
--- By which name a file is answered.
+-- By which name a file is answered. Each `do` here is over plans.
 use Rattle.std.specs.Prelude.{ℕ, Bool, if◌then◌else◌, List, Option, Some, None}
 use Rattle.sugar_path.specs.Path.{Path, text_of}
 use Rattle.sugar_path.specs.Relative.{relative_from}
@@ -37,7 +37,7 @@ abbrev pub answer_of : Option Via → Path → FileName → Resolution
 answer_of via f name =
     record { filename = name; slug = None; found = Some (record { file = text_of f; via = via }) }
 
--- A name that isn't looked for as a file: that of one of Node's own modules, or of what a rule hides. It is answered without a file.
+-- A name that isn't looked for as a file: that of a builtin module, or of what a rule ignores. It is answered without a file.
 abbrev pub custom : List ℕ → Resolution
 custom name = record { filename = Custom name; slug = None; found = None }
 

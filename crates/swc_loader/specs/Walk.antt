@@ -1,4 +1,4 @@
--- The walk up through the folders' `node_modules`, as Node looks for packages.
+-- The walk up through the folders' `node_modules`, as Node looks for packages. Each `do` here is over plans.
 use Rattle.std.specs.Prelude.{◌≡◌, ℕ, if◌then◌else◌, List, [], ◌∷◌, ◌++◌, Option, Some, None, codes}
 use Rattle.sugar_path.specs.Path.{Path, join, text_of}
 use Rattle.tree_core.specs.declared.question.Question.{Question}

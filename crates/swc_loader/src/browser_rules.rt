@@ -3,7 +3,7 @@ ghost use Rattle.std.specs.Prelude.{◌≡◌, ◌++◌, ◌∷◌, [], IfOk, On
 ghost use Rattle.serde_json.specs.View.{view, members_view};
 ghost use Rattle.tree_core.specs.Asks.{Asks};
 ghost use Rattle.swc_loader.specs.BrowserRules as plan;
-ghost use Rattle.swc_loader.specs.BrowserRules.{is_source, is_false, ruled, place_behind, source_of, map_in, rule_of, rules_of};
+ghost use Rattle.swc_loader.specs.BrowserRules.{is_source, ruled, place_behind, source_of, map_in, rule_of, rules_of};
 
 use crate::entry::package_in;
 use crate::search::{joined, place_without_entry};
@@ -28,7 +28,7 @@ pub enum Source {
 pub struct Rule {
     /// What it is about.
     pub source: Source,
-    /// The file that stands for the source. None where the source is hidden.
+    /// The file that stands for the source. None where the source is ignored.
     pub target: Option<CleanPath>,
 }
 
@@ -36,7 +36,7 @@ pub struct Rule {
 #[derive(Debug, Drop)]
 pub enum ModuleRule {
     NoRule,
-    /// It is hidden.
+    /// It is ignored.
     Ignored,
     /// This file stands for it.
     File(CleanPath),
@@ -89,7 +89,7 @@ pub(crate) fn rule_for<R: Asker>(
     }
 }
 
-// What rules say of a source: one that hides it goes before all others, and else the last one holds.
+// What rules say of a source: an ignore wins, else the last.
 fn ruled(alloc: Global, rules: &[Rule], about: &Source) -> Result<ModuleRule, AllocError>
     ensures { IfOk result (λ r. r ≡ ruled rules.now about.now) }
 {
@@ -214,7 +214,7 @@ fn put_rule(rules: &mut Vec<Rule>, rule: Rule) -> Result<(), AllocError>
     Ok(())
 }
 
-// The rule of an entry.
+// The rule of an entry, by the kind of its value.
 fn entry_rule<R: Asker>(
     alloc: Global,
     tree: &mut R,
@@ -231,21 +231,13 @@ fn entry_rule<R: Asker>(
         let target = place_behind(alloc, tree, conventions, root, text)?;
         return Ok(placed_rule(about, target));
     }
-    if !is_false(value) {
+    // Of the other values `false` alone gives one.
+    if value.as_bool().unwrap_or(true) {
         return Ok(None);
     }
     let source = source_of(alloc, tree, conventions, root, key)?;
-    Ok(Some(Rule {
-        source,
-        target: None,
-    }))
-}
-
-// Whether a value is `false`.
-fn is_false(value: &Value) -> bool
-    ensures { result ≡ is_false (view value.now) }
-{
-    matches!(value, Value::Bool(false))
+    let target = None;
+    Ok(Some(Rule { source, target }))
 }
 
 // The rule by which a file stands for a source; without a file there is none.

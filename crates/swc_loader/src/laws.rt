@@ -3,19 +3,19 @@ ghost use Rattle.swc_loader.specs.SearchOnTree.{FolderOnTree, PlaceOnTree, Plain
 ghost use Rattle.swc_loader.specs.Walk.{WalkOnTree};
 ghost use Rattle.swc_loader.specs.Located.{LocatedOnTree};
 ghost use Rattle.swc_loader.specs.BrowserRulesOnTree.{RulesOnTree, RuleOnTree};
-ghost use Rattle.swc_loader.specs.NodeOnTree.{NodeSearchOnTree, NodeOnTree};
+ghost use Rattle.swc_loader.specs.NodeOnTree.{NameOnTree, AnswerOnTree, BeforeSearchOnTree, NodeSearchOnTree, NodeOnTree};
 
 /// The search of a folder, said as a function of the tree, with its questions.
 pub fn folder_on_tree()
     ensures { FolderOnTree }
 {}
 
-/// The search of the place of a text, said as a function of the tree, with its questions.
+/// The search of the place of any text that means a path, said as a function of the tree, with its questions.
 pub fn place_on_tree()
     ensures { PlaceOnTree }
 {}
 
-/// The same without entry.
+/// The search of the place of a text without entry, said as a function of the tree, with its questions.
 pub fn place_without_entry_on_tree()
     ensures { PlainPlaceOnTree }
 {}
@@ -38,6 +38,21 @@ pub fn rule_on_tree()
 /// The search at the location of a package, said as a function of the tree, with its questions.
 pub fn located_on_tree()
     ensures { LocatedOnTree }
+{}
+
+/// The name that a file is answered by, said as a function of the tree, with its question.
+pub fn name_on_tree()
+    ensures { NameOnTree }
+{}
+
+/// The answer of a file that was found, said as a function of the tree, with its question.
+pub fn answer_on_tree()
+    ensures { AnswerOnTree }
+{}
+
+/// What is decided before a search, or its target, said as a function of the tree, with its questions.
+pub fn before_search_on_tree()
+    ensures { BeforeSearchOnTree }
 {}
 
 /// The search by a target, said as a function of the tree, with its questions.

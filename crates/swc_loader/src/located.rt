@@ -52,14 +52,8 @@ fn search_whole<R: Asker>(
     ensures { Resolves (R.asking tree.old) (R.asking tree.new) result
         (whole resolver.now location.now) }
 {
-    let found = folder(
-        alloc,
-        tree,
-        readings,
-        resolver.conventions(),
-        resolver.target(),
-        location,
-    )?;
+    let context = resolver.context();
+    let found = folder(alloc, tree, readings, &context, location)?;
     placed_file(alloc, tree, readings, resolver, location.as_str(), found)
 }
 
@@ -79,15 +73,8 @@ fn search_behind<R: Asker>(
     if at == *location {
         return search_whole(alloc, tree, readings, resolver, location);
     }
-    let found = place(
-        alloc,
-        tree,
-        readings,
-        resolver.conventions(),
-        resolver.target(),
-        text,
-        &at,
-    )?;
+    let context = resolver.context();
+    let found = place(alloc, tree, readings, &context, text, &at)?;
     placed_file(alloc, tree, readings, resolver, text, found)
 }
 

@@ -9,7 +9,7 @@ use sugar_path::Text;
 pub enum FileName {
     /// A path, read from the project's working folder where it is relative.
     Real(Text),
-    /// A name that isn't looked for as a file: one of Node's own modules, or what a rule for browsers hides.
+    /// A name that isn't looked for as a file: a builtin module, or what a rule for browsers ignores.
     Custom(Text),
     /// A source without a name.
     Anon,

@@ -1,12 +1,12 @@
 // A resolver of Node's modules.
 mod node_rows;
 
-use crate::browser_rules::{rule_for, rules_at};
+use crate::browser_rules::{rule_for, ruled_file, rules_at};
 use crate::located::search_at;
 use crate::spelling::spelled_name;
 use crate::{
     Conventions, FileName, Found, ModuleRule, NodeRefusal, Placed, Readings, Resolution, Rule,
-    Source, TargetEnv, Via,
+    SearchContext, Source, TargetEnv, Via,
 };
 use indexmap::IndexMap;
 use std::alloc::{AllocError, Global};
@@ -14,7 +14,7 @@ use std::marker::Model;
 use sugar_path::{CleanPath, List, Text};
 use tree_core::{Asker, ReadError, ResolveError};
 
-/// A resolver of Node's modules: relative and absolute paths, Node's own modules, aliases, packages in `node_modules`, and for
+/// A resolver of Node's modules: relative and absolute paths, builtin modules, aliases, packages in `node_modules`, and for
 /// browsers the rules of their `browser` maps.
 #[derive(Drop)]
 pub struct NodeModulesResolver {
@@ -49,8 +49,7 @@ impl NodeModulesResolver {
     ghost use Rattle.tree_core.specs.Resolving.{Resolves};
     ghost use Rattle.swc_loader.specs.Settings.{settings_of};
     ghost use Rattle.swc_loader.specs.Spelling.{spelled, answered};
-    ghost use Rattle.swc_loader.specs.NodeOrder.{node};
-    ghost use Rattle.swc_loader.specs.BrowserRules.{module_rule, rules_for};
+    ghost use Rattle.swc_loader.specs.BrowserRules.{module_rule, ruled_file, rules_for};
     ghost use Rattle.swc_loader.specs.Located.{resolve_at};
 
     /// A resolver that reads relative texts from this working folder.
@@ -73,7 +72,7 @@ impl NodeModulesResolver {
         }
     }
 
-    /// The same, but nothing is found in `node_modules`.
+    /// A resolver that reads relative texts from this working folder, and finds nothing in `node_modules`.
     pub fn without_node_modules(
         cwd: Text,
         target: TargetEnv,
@@ -93,21 +92,6 @@ impl NodeModulesResolver {
         }
     }
 
-    /// What a specifier means, asked from a base: the order of search for Node's modules.
-    pub fn resolve<R: Asker>(
-        &mut self,
-        alloc: Global,
-        tree: &mut R,
-        base: &FileName,
-        specifier: &str,
-    ) -> Result<Resolution, ResolveError<NodeRefusal>>
-        ensures asks { Resolves (R.asking tree.old) (R.asking tree.new) result
-            (node self.old base.now specifier.now) }
-        ensures same { self.new ≡ self.old }
-    {
-        self.node_order(alloc, tree, base, specifier)
-    }
-
     /// What is found at the location of a package: without a subpath in its folder, else at the place behind it.
     pub fn resolve_at<R: Asker>(
         &self,
@@ -123,7 +107,7 @@ impl NodeModulesResolver {
         self.resolve_at_with(alloc, tree, &mut readings, location, subpath)
     }
 
-    /// The same, with readings that the rows of a request share.
+    /// What is found at the location of a package, with readings that the rows of a request share.
     pub fn resolve_at_with<R: Asker>(
         &self,
         alloc: Global,
@@ -136,6 +120,33 @@ impl NodeModulesResolver {
             (resolve_at self.now location.now (option_copied subpath.entry)) }
     {
         search_at(alloc, tree, readings, self, location, subpath)
+    }
+
+    /// What is told of a file that was found: the file, the one that a rule for browsers puts in its place, or its path as a name
+    /// where a rule ignores it.
+    pub fn rewrite_at<R: Asker>(
+        &self,
+        alloc: Global,
+        tree: &mut R,
+        file: CleanPath,
+    ) -> Result<Placed, ReadError>
+        ensures { Asks (R.asking tree.old) (R.asking tree.new) result (ruled_file self.now file) }
+    {
+        let mut readings = Readings::new(alloc);
+        self.rewrite_at_with(alloc, tree, &mut readings, file)
+    }
+
+    /// What is told of a file that was found, with readings that the rows of a request share.
+    pub fn rewrite_at_with<R: Asker>(
+        &self,
+        alloc: Global,
+        tree: &mut R,
+        readings: &mut Readings,
+        file: CleanPath,
+    ) -> Result<Placed, ReadError>
+        ensures { Asks (R.asking tree.old) (R.asking tree.new) result (ruled_file self.now file) }
+    {
+        ruled_file(alloc, tree, readings, self, file)
     }
 
     /// What the `browser` rules for an importer say of a specifier. For the target Node there are none.
@@ -153,7 +164,7 @@ impl NodeModulesResolver {
         self.module_rule_with(alloc, tree, &mut readings, importer, specifier)
     }
 
-    // The same, with readings that the rows of a request share.
+    // What the `browser` rules for an importer say of a specifier, with readings that the rows of a request share.
     pub(crate) fn module_rule_with<R: Asker>(
         &self,
         alloc: Global,
@@ -236,6 +247,17 @@ impl NodeModulesResolver {
         ensures { result.now ≡ self.now.conventions }
     {
         &self.conventions
+    }
+
+    // What its searches go by.
+    pub(crate) fn context(&self) -> SearchContext<'_>
+        ensures conventions { result.conventions.now ≡ self.now.conventions }
+        ensures target { result.target ≡ self.now.target }
+    {
+        SearchContext {
+            conventions: &self.conventions,
+            target: self.target,
+        }
     }
 
     pub(crate) fn target(&self) -> TargetEnv

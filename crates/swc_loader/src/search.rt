@@ -15,6 +15,15 @@ use std::alloc::{AllocError, Global};
 use sugar_path::CleanPath;
 use tree_core::{Asker, ReadError};
 
+/// What a search goes by.
+#[derive(Clone, Copy)]
+pub struct SearchContext<'s> {
+    /// The order's conventions.
+    pub conventions: &'s Conventions,
+    /// For what modules are resolved.
+    pub target: TargetEnv,
+}
+
 /// What a search comes to.
 #[derive(Drop)]
 pub enum Searched {
@@ -29,21 +38,20 @@ pub fn place<R: Asker>(
     alloc: Global,
     tree: &mut R,
     readings: &mut Readings,
-    conventions: &Conventions,
-    target: TargetEnv,
+    context: &SearchContext<'_>,
     text: &str,
     at: &CleanPath,
 ) -> Result<Searched, ReadError>
     ensures { Asks (R.asking tree.old) (R.asking tree.new) result
-        (place_at conventions.now target at.now text.now) }
+        (place_at context.now.conventions.now context.now.target at.now text.now) }
 {
-    match file_of(alloc, tree, conventions, text, at)? {
+    match file_of(alloc, tree, context.conventions, text, at)? {
         Some(file) => Ok(Searched::File(file)),
-        None => folder(alloc, tree, readings, conventions, target, at),
+        None => folder(alloc, tree, readings, context, at),
     }
 }
 
-// The same without entry: the index files follow at once.
+// The place of a text without entry: its file candidates, and then the index files of its folder.
 pub(crate) fn place_without_entry<R: Asker>(
     alloc: Global,
     tree: &mut R,
@@ -90,26 +98,17 @@ pub fn folder<R: Asker>(
     alloc: Global,
     tree: &mut R,
     readings: &mut Readings,
-    conventions: &Conventions,
-    target: TargetEnv,
+    context: &SearchContext<'_>,
     folder: &CleanPath,
 ) -> Result<Searched, ReadError>
     ensures { Asks (R.asking tree.old) (R.asking tree.new) result
-        (folder_plan conventions.now target folder.now) }
+        (folder_plan context.now.conventions.now context.now.target folder.now) }
 {
     let package_json = folder.child(alloc, "package.json")?;
     if tree.is_file(&package_json)? {
-        return packaged_folder(
-            alloc,
-            tree,
-            readings,
-            conventions,
-            target,
-            folder,
-            package_json,
-        );
+        return packaged_folder(alloc, tree, readings, context, folder, package_json);
     }
-    first_index(alloc, tree, conventions, folder)
+    first_index(alloc, tree, context.conventions, folder)
 }
 
 // The search of a folder that has a package.json.
@@ -117,17 +116,17 @@ fn packaged_folder<R: Asker>(
     alloc: Global,
     tree: &mut R,
     readings: &mut Readings,
-    conventions: &Conventions,
-    target: TargetEnv,
+    context: &SearchContext<'_>,
     folder: &CleanPath,
     package_json: CleanPath,
 ) -> Result<Searched, ReadError>
     requires { package_json ≡ package_file folder.now }
     ensures { Asks (R.asking tree.old) (R.asking tree.new) result
-        (packaged conventions.now target folder.now) }
+        (packaged context.now.conventions.now context.now.target folder.now) }
 {
+    let conventions = context.conventions;
     let content = tree.read(&package_json)?;
-    match entry_of(alloc, readings, conventions, target, content)? {
+    match entry_of(alloc, readings, conventions, context.target, content)? {
         PackageEntry::Malformed => Ok(Searched::Malformed(package_json)),
         PackageEntry::Missing => first_index(alloc, tree, conventions, folder),
         PackageEntry::At(text) => at_entry(alloc, tree, conventions, folder, text.as_str()),

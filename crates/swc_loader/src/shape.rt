@@ -1,6 +1,6 @@
 // Whether a text ends in a name, and whether anything stands behind that name.
-ghost use Rattle.std.specs.Prelude.{◌≡◌, Some};
-ghost use Rattle.swc_loader.specs.Candidates.{is_step, is_closed_by, is_named, is_closed};
+ghost use Rattle.std.specs.Prelude.{◌≡◌};
+ghost use Rattle.swc_loader.specs.Candidates.{is_step, is_name, is_named, is_closed};
 
 // How a text ends.
 #[derive(Clone, Copy, Debug, PartialEq, Eq)]
@@ -36,7 +36,7 @@ fn is_step(part: &str) -> bool
 
 // A step that is no `..`.
 fn is_name(part: &str) -> bool
-    ensures { result ≡ is_closed_by (Some part.now) }
+    ensures { result ≡ is_name part.now }
 {
     is_step(part) && part != ".."
 }

@@ -5,7 +5,7 @@ ghost use Rattle.tree_core.specs.Asks.{Asks};
 ghost use Rattle.swc_loader.specs.Walk.{in_modules as in_modules_plan, walk as walk_plan};
 
 use crate::search::{joined, place};
-use crate::{Conventions, Readings, Searched, TargetEnv};
+use crate::{Readings, SearchContext, Searched};
 use std::alloc::Global;
 use sugar_path::CleanPath;
 use tree_core::{Asker, ReadError};
@@ -15,17 +15,17 @@ pub(crate) fn walk<R: Asker>(
     alloc: Global,
     tree: &mut R,
     readings: &mut Readings,
-    conventions: &Conventions,
-    env: TargetEnv,
+    context: &SearchContext<'_>,
     target: &str,
     from: &CleanPath,
 ) -> Result<Option<CleanPath>, ReadError>
     ensures { Asks (R.asking tree.old) (R.asking tree.new) result
-        (walk_plan conventions.now env target.now (from.now ∷ up from.now)) }
+        (walk_plan context.now.conventions.now context.now.target target.now
+        (from.now ∷ up from.now)) }
 {
     let mut folder = from.try_clone(alloc)?;
     'up: loop {
-        let found = in_modules(alloc, tree, readings, conventions, env, target, &folder)?;
+        let found = in_modules(alloc, tree, readings, context, target, &folder)?;
         if let Searched::File(file) = found {
             return Ok(Some(file));
         }
@@ -40,13 +40,12 @@ fn in_modules<R: Asker>(
     alloc: Global,
     tree: &mut R,
     readings: &mut Readings,
-    conventions: &Conventions,
-    env: TargetEnv,
+    context: &SearchContext<'_>,
     target: &str,
     folder: &CleanPath,
 ) -> Result<Searched, ReadError>
     ensures { Asks (R.asking tree.old) (R.asking tree.new) result
-        (in_modules_plan conventions.now env target.now folder.now) }
+        (in_modules_plan context.now.conventions.now context.now.target target.now folder.now) }
 {
     let modules = folder.child(alloc, "node_modules")?;
     if !tree.is_dir(&modules)? {
@@ -54,5 +53,5 @@ fn in_modules<R: Asker>(
     }
     let text = joined(alloc, &modules, target)?;
     let at = CleanPath::read(alloc, &CleanPath::root(alloc), text.as_str())?;
-    place(alloc, tree, readings, conventions, env, text.as_str(), &at)
+    place(alloc, tree, readings, context, text.as_str(), &at)
 }

@@ -8,7 +8,7 @@ use swc_loader::TargetEnv;
 fn keys_and_texts() -> &'static str {
     r#"# a file that another stands for
 browser |  | /w/a.js; /w/b.js; /w/c.js; /w/package.json {"browser": {"./b.js": "./c.js"}} | /w/a.js ./b.js = /w/c.js | /w/c.js | /w/package.json read:/w/package.json /w/b.js /w/c.js /w/a.js canon:/w/c.js
-# a hidden file: its path is answered as a name, and no canonical name is asked for
+# an ignored file: its path is answered as a name, and no canonical name is asked for
 browser |  | /w/a.js; /w/b.js; /w/package.json {"browser": {"./b.js": false}} | /w/a.js ./b.js = custom /w/b.js |  | /w/package.json read:/w/package.json /w/b.js /w/a.js
 # for the target Node no rules are read
 node |  | /w/a.js; /w/b.js; /w/package.json {"browser": {"./b.js": false}} | /w/a.js ./b.js = /w/b.js | /w/b.js | /w/a.js /w/b.js canon:/w/b.js
@@ -30,7 +30,7 @@ browser |  | /w/a.js; /w/p/m.js; /w/p/n.js; /w/p/c.js; /w/p/package.json {"modul
 browser |  | /w/a.js; /w/p/m.js; /w/p/n.js; /w/p/index.js; /w/p/package.json {"module": "n.js", "main": "m.js", "browser": "c.js"} | /w/a.js ./p = /w/p/index.js | /w/p/index.js | /w/package.json /package.json /w/a.js /w/p.js /w/p /w/p.ts /w/p.tsx /w/p.jsx /w/p.node /w/p/package.json read:/w/p/package.json /w/p/c.js /w/p/c.js.ts /w/p/c.js.tsx /w/p/c.js.js /w/p/c.js.jsx /w/p/c.js.node /w/p/c.ts /w/p/c.tsx /w/p/c.js/index.ts /w/p/c.js/index.tsx /w/p/c.js/index.js /w/p/c.js/index.jsx /w/p/c.js/index.node /w/p/index.ts /w/p/index.tsx /w/p/index.js canon:/w/p/index.js
 # a key whose place is nothing is a specifier, and decides at once
 browser |  | /w/a.js; /w/c.js; /w/package.json {"browser": {"./gone": "./c.js"}} | /w/a.js ./gone = /w/c.js | /w/c.js | /w/package.json read:/w/package.json /w/gone.js /w/gone /w/gone.ts /w/gone.tsx /w/gone.jsx /w/gone.node /w/gone/index.ts /w/gone/index.tsx /w/gone/index.js /w/gone/index.jsx /w/gone/index.node /w/c.js canon:/w/c.js
-# such a specifier is hidden by its own bytes
+# such a specifier is ignored by its own bytes
 browser |  | /w/a.js; /w/package.json {"browser": {"./gone": false}} | /w/a.js ./gone = custom ./gone |  | /w/package.json read:/w/package.json /w/gone.js /w/gone /w/gone.ts /w/gone.tsx /w/gone.jsx /w/gone.node /w/gone/index.ts /w/gone/index.tsx /w/gone/index.js /w/gone/index.jsx /w/gone/index.node
 # a key whose place is a file is no specifier
 browser |  | /w/b.js; /w/c.js; /w/s/a.js; /w/s/b.js; /w/package.json {"browser": {"./b.js": "./c.js"}} | /w/s/a.js ./b.js = /w/s/b.js | /w/s/b.js | /w/s/package.json /w/package.json read:/w/package.json /w/b.js /w/c.js /w/s/a.js /w/s/b.js canon:/w/s/b.js
@@ -67,7 +67,7 @@ browser |  | /w/a.js; /w/b.js; /w/package.json {"browser": {"./b.js": "./gone"}}
 browser |  | /w/a.js; /w/b.js; /w/c.js; /w/package.json {"browser": {"./b": "./c.js", "./b.js": "./gone"}} | /w/a.js ./b.js = /w/c.js | /w/c.js | /w/package.json read:/w/package.json /w/b.js /w/c.js /w/gone.js /w/gone /w/gone.ts /w/gone.tsx /w/gone.jsx /w/gone.node /w/gone/index.ts /w/gone/index.tsx /w/gone/index.js /w/gone/index.jsx /w/gone/index.node /w/a.js canon:/w/c.js
 # true says nothing, and nothing is asked for it
 browser |  | /w/a.js; /w/b.js; /w/package.json {"browser": {"./b.js": true, "./gone": true}} | /w/a.js ./b.js = /w/b.js | /w/b.js | /w/package.json read:/w/package.json /w/a.js /w/b.js canon:/w/b.js
-# a hidden file stays hidden behind an earlier rule
+# an ignored file stays ignored behind an earlier rule
 browser |  | /w/a.js; /w/b.js; /w/c.js; /w/package.json {"browser": {"./b": "./c.js", "./b.js": false}} | /w/a.js ./b.js = custom /w/b.js |  | /w/package.json read:/w/package.json /w/b.js /w/c.js /w/a.js
 # and before a later one, which is read all the same
 browser |  | /w/a.js; /w/b.js; /w/c.js; /w/package.json {"browser": {"./b": false, "./b.js": "./c.js"}} | /w/a.js ./b.js = custom /w/b.js |  | /w/package.json read:/w/package.json /w/b.js /w/c.js /w/a.js
@@ -91,7 +91,7 @@ browser |  | /w/a.js; /w/b.js; /w/c.js; /w/package.json {"browser": {"./b.js": "
 browser | x:./b.js | /w/a.js; /w/b.js; /w/package.json {"browser": {"x": false}} | /w/a.js x = custom x |  | /w/x.js /w/x /w/x.ts /w/x.tsx /w/x.jsx /w/x.node /w/x/index.ts /w/x/index.tsx /w/x/index.js /w/x/index.jsx /w/x/index.node /w/package.json read:/w/package.json
 # and not about its alias
 browser | x:y | /w/a.js; /w/node_modules/y.js; /w/package.json {"browser": {"y": false}} | /w/a.js x = /w/node_modules/y.js | /w/node_modules/y.js | /w/x.js /w/x /w/x.ts /w/x.tsx /w/x.jsx /w/x.node /w/x/index.ts /w/x/index.tsx /w/x/index.js /w/x/index.jsx /w/x/index.node /w/package.json read:/w/package.json /w/a.js dir:/w/node_modules /w/node_modules/y.js /w/node_modules/package.json canon:/w/node_modules/y.js
-# one of Node's own modules, hidden
+# a builtin module, ignored
 browser |  | /w/a.js; /w/package.json {"browser": {"fs": false}} | /w/a.js fs = custom fs |  | /w/fs.js /w/fs /w/fs.ts /w/fs.tsx /w/fs.jsx /w/fs.node /w/fs/index.ts /w/fs/index.tsx /w/fs/index.js /w/fs/index.jsx /w/fs/index.node /w/package.json read:/w/package.json
 # without a rule its name is like any other
 browser |  | /w/a.js; /w/node_modules/fs/index.js | /w/a.js fs = /w/node_modules/fs/index.js | /w/node_modules/fs/index.js | /w/fs.js /w/fs /w/fs.ts /w/fs.tsx /w/fs.jsx /w/fs.node /w/fs/index.ts /w/fs/index.tsx /w/fs/index.js /w/fs/index.jsx /w/fs/index.node /w/package.json /package.json /w/a.js dir:/w/node_modules /w/node_modules/fs.js /w/node_modules/fs /w/node_modules/fs.ts /w/node_modules/fs.tsx /w/node_modules/fs.jsx /w/node_modules/fs.node /w/node_modules/fs/package.json /w/node_modules/fs/index.ts /w/node_modules/fs/index.tsx /w/node_modules/fs/index.js /w/node_modules/package.json canon:/w/node_modules/fs/index.js
@@ -119,15 +119,17 @@ fn rules_count_as_the_order_has_them(rt: HostRuntime) -> Result<(), Fail> {
 // Rules, what they say of a specifier, and what they leave of a location.
 fn calls() -> &'static str {
     r#"# the rules of a folder, in the byte order of their keys
-browser |  | /w/b.js; /w/c.js; /w/package.json {"browser": {"x": "c", "./b.js": false}} | rules_at: /w = (file /w/b.js is hidden)(specifier x is /w/c.js) | read:/w/package.json /w/b.js /w/c.js
+browser |  | /w/b.js; /w/c.js; /w/package.json {"browser": {"x": "c", "./b.js": false}} | rules_at: /w = (file /w/b.js is ignored)(specifier x is /w/c.js) | read:/w/package.json /w/b.js /w/c.js
 # what they say of a specifier
 browser |  | /w/b.js; /w/c.js; /w/package.json {"browser": {"x": "c", "./b.js": false}} | module_rule: a.js x = file /w/c.js | /w/package.json read:/w/package.json /w/b.js /w/c.js
 browser |  | /w/b.js; /w/c.js; /w/package.json {"browser": {"x": "c", "./b.js": false}} | module_rule: a.js y = no rule | /w/package.json read:/w/package.json /w/b.js /w/c.js
-# one of Node's own modules, hidden
-browser |  | /w/package.json {"browser": {"fs": false}} | rules_at: /w = (specifier fs is hidden) | read:/w/package.json
+# a builtin module, ignored
+browser |  | /w/package.json {"browser": {"fs": false}} | rules_at: /w = (specifier fs is ignored) | read:/w/package.json
 browser |  | /w/package.json {"browser": {"fs": false}} | module_rule: a.js fs = ignored | /w/package.json read:/w/package.json
-# the file at a package's location, hidden by the package's own map
-browser |  | /p/lib.js; /p/package.json {"main": "lib.js", "browser": {"./lib.js": false}} | resolve_at: /p = ignored /p/lib.js | /p/package.json read:/p/package.json /p/lib.js"#
+# the file at a package's location, ignored by the package's own map
+browser |  | /p/lib.js; /p/package.json {"main": "lib.js", "browser": {"./lib.js": false}} | resolve_at: /p = ignored /p/lib.js | /p/package.json read:/p/package.json /p/lib.js
+# the rules for a file that was found
+browser |  | /p/lib.js; /p/package.json {"browser": {"./lib.js": false}} | rewrite_at: /p/lib.js = ignored /p/lib.js | /p/package.json read:/p/package.json /p/lib.js"#
 }
 
 #[test]

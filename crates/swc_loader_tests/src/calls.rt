@@ -7,8 +7,8 @@ use std::alloc::{AllocError, Global};
 use std::test::Fail;
 use sugar_path::{Bytes, CleanPath, Text};
 use swc_loader::{
-    Conventions, FileName, NodeModulesResolver, Readings, TargetEnv, entry_of, folder, is_bare,
-    place, to_absolute_path,
+    Conventions, FileName, Importer, NodeModulesResolver, Readings, SearchContext, TargetEnv,
+    entry_of, folder, is_bare, place, to_absolute_path,
 };
 use tree_core::{MemoryTree, Recorder};
 
@@ -61,7 +61,7 @@ pub(crate) fn tell_entry_of(
 pub(crate) fn tell_call(
     alloc: Global,
     out: &mut String,
-    resolver: &mut NodeModulesResolver,
+    resolver: &NodeModulesResolver,
     recorder: &mut Recorder<'_, MemoryTree>,
     call: &str,
 ) -> Result<(), Fail> {
@@ -76,13 +76,13 @@ pub(crate) fn tell_call(
 fn tell_request(
     alloc: Global,
     out: &mut String,
-    resolver: &mut NodeModulesResolver,
+    resolver: &NodeModulesResolver,
     recorder: &mut Recorder<'_, MemoryTree>,
     base: &str,
     specifier: &str,
 ) -> Result<(), Fail> {
     let base = base_of(alloc, base)?;
-    let came = resolver.resolve(alloc, recorder, &base, specifier);
+    let came = resolver.node_order(alloc, recorder, &base, specifier);
     Ok(tell_came(out, &came)?)
 }
 
@@ -117,10 +117,19 @@ fn tell_named(
         "before_search:" => tell_before_search(alloc, out, resolver, recorder, first, second),
         "search:" => tell_search(alloc, out, resolver, recorder, first, second),
         "resolve_at:" => tell_located(alloc, out, resolver, recorder, first, second),
+        "rewrite_at:" => tell_rewritten(alloc, out, resolver, recorder, first),
+        "node_order_from:" => tell_order_from(alloc, out, resolver, recorder, first, second),
         "answer_file:" => tell_file_name(alloc, out, resolver, recorder, first),
         "answer:" => tell_answer(alloc, out, resolver, recorder, first),
         "with_readings:" => tell_sharing(alloc, out, resolver, recorder, first, second),
         _ => Err(Fail::from("no call")),
+    }
+}
+
+fn for_node(conventions: &Conventions) -> SearchContext<'_> {
+    SearchContext {
+        conventions,
+        target: TargetEnv::Node,
     }
 }
 
@@ -133,14 +142,8 @@ fn tell_folder(
     let path = CleanPath::read(alloc, &CleanPath::root(alloc), path)?;
     let mut readings = Readings::new(alloc);
     let conventions = Conventions::of_order();
-    let found = folder(
-        alloc,
-        recorder,
-        &mut readings,
-        &conventions,
-        TargetEnv::Node,
-        &path,
-    )?;
+    let context = for_node(&conventions);
+    let found = folder(alloc, recorder, &mut readings, &context, &path)?;
     Ok(tell_searched(out, &found)?)
 }
 
@@ -153,15 +156,8 @@ fn tell_place(
     let at = CleanPath::read(alloc, &CleanPath::root(alloc), text)?;
     let mut readings = Readings::new(alloc);
     let conventions = Conventions::of_order();
-    let found = place(
-        alloc,
-        recorder,
-        &mut readings,
-        &conventions,
-        TargetEnv::Node,
-        text,
-        &at,
-    )?;
+    let context = for_node(&conventions);
+    let found = place(alloc, recorder, &mut readings, &context, text, &at)?;
     Ok(tell_searched(out, &found)?)
 }
 
@@ -233,6 +229,33 @@ fn tell_located(
     Ok(tell_placed(out, &placed)?)
 }
 
+fn tell_rewritten(
+    alloc: Global,
+    out: &mut String,
+    resolver: &NodeModulesResolver,
+    recorder: &mut Recorder<'_, MemoryTree>,
+    file: &str,
+) -> Result<(), Fail> {
+    let file = CleanPath::read(alloc, resolver.cwd(), file)?;
+    let placed = resolver.rewrite_at(alloc, recorder, file)?;
+    Ok(tell_placed(out, &placed)?)
+}
+
+fn tell_order_from(
+    alloc: Global,
+    out: &mut String,
+    resolver: &NodeModulesResolver,
+    recorder: &mut Recorder<'_, MemoryTree>,
+    text: &str,
+    specifier: &str,
+) -> Result<(), Fail> {
+    let mut readings = Readings::new(alloc);
+    let path = CleanPath::read(alloc, resolver.cwd(), text)?;
+    let importer = Importer { text, path: &path };
+    let came = resolver.node_order_from(alloc, recorder, &mut readings, &importer, specifier);
+    Ok(tell_came(out, &came)?)
+}
+
 fn tell_file_name(
     alloc: Global,
     out: &mut String,
@@ -270,7 +293,12 @@ fn tell_sharing(
     let mut readings = Readings::new(alloc);
     tell_before_with(alloc, out, resolver, recorder, &mut readings)?;
     tell_located_with(alloc, out, resolver, recorder, &mut readings, location)?;
-    let came = resolver.search_with(alloc, recorder, &mut readings, "/w/a.js", target);
+    let path = CleanPath::read(alloc, resolver.cwd(), "/w/a.js")?;
+    let importer = Importer {
+        text: "/w/a.js",
+        path: &path,
+    };
+    let came = resolver.search_with(alloc, recorder, &mut readings, &importer, target);
     Ok(tell_came(out, &came)?)
 }
 

@@ -24,10 +24,10 @@ fn resolver(rt: &impl Abort, alloc: Global) -> Result<NodeModulesResolver, Alloc
 #[test]
 fn a_specifier_is_resolved(rt: HostRuntime) -> Result<(), Fail> {
     let base = FileName::Real(Text::of(rt.alloc(), "main.js")?);
-    let mut resolver = resolver(&rt, rt.alloc())?;
+    let resolver = resolver(&rt, rt.alloc())?;
     let mut tree = files(rt.alloc())?;
     let mut recorder = Recorder::new(rt.alloc(), &mut tree);
-    let answer = resolver.resolve(rt.alloc(), &mut recorder, &base, "./lib/part")?;
+    let answer = resolver.node_order(rt.alloc(), &mut recorder, &base, "./lib/part")?;
     let file = match &answer.found {
         Some(found) => found.file.as_str(),
         None => "no file",

@@ -30,7 +30,7 @@ node |  | project | /w/main.js /w/odd = malformed /w/odd/package.json |  | /w/od
 # bases that are no path
 node |  | project | - ./main = no path |  |
 node |  | project | <stdin> x = no path |  | /w/x.js /w/x /w/x.ts /w/x.tsx /w/x.jsx /w/x.node /w/x/index.ts /w/x/index.tsx /w/x/index.js /w/x/index.jsx /w/x/index.node
-# Node's own modules, behind the first look
+# builtin modules, behind the first look
 node |  | project | /w/main.js fs = custom node:fs |  | /w/fs.js /w/fs /w/fs.ts /w/fs.tsx /w/fs.jsx /w/fs.node /w/fs/index.ts /w/fs/index.tsx /w/fs/index.js /w/fs/index.jsx /w/fs/index.node
 node |  | project | /w/main.js node:x = custom node:x |  | /w/node:x.js /w/node:x /w/node:x.ts /w/node:x.tsx /w/node:x.jsx /w/node:x.node /w/node:x/index.ts /w/node:x/index.tsx /w/node:x/index.js /w/node:x/index.jsx /w/node:x/index.node
 node | fs:./both | project | /w/main.js fs = custom node:fs |  | /w/fs.js /w/fs /w/fs.ts /w/fs.tsx /w/fs.jsx /w/fs.node /w/fs/index.ts /w/fs/index.tsx /w/fs/index.js /w/fs/index.jsx /w/fs/index.node
@@ -66,11 +66,13 @@ fn requests_come_to_their_row(rt: HostRuntime) -> Result<(), Fail> {
 
 // The parts of the order have their own calls.
 fn calls() -> &'static str {
-    r#"# one of Node's own modules is decided before the search, and an alias is no answer
+    r#"# a builtin module is decided before the search, and an alias is no answer
 node |  | project | before_search: main.js path = custom node:path |
 node | q:./both | project | before_search: main.js q = target ./both |
 # the search by a target
 node |  | project | search: /w/main.js ./both = /w/both.js | /w/both.js | /w/main.js /w/both.js canon:/w/both.js
+# the order from an importer whose path is read
+node |  | project | node_order_from: main.js ./both = /w/both.js | /w/both.js | /w/main.js /w/both.js canon:/w/both.js
 # the search at a location
 node |  | project | resolve_at: pkg m = found /w/pkg/m.ts | /w/pkg/m.js /w/pkg/m /w/pkg/m.ts
 # a file is answered by its canonical name

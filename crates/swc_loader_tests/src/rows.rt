@@ -55,15 +55,15 @@ fn told(alloc: Global, given: &str) -> Result<String, Fail> {
 
 fn tell_row(alloc: Global, out: &mut String, row: Row<'_>) -> Result<(), Fail> {
     let mut tree = tree_of(alloc, files_of(row.files))?;
-    let mut resolver = resolver_of(alloc, row.settings, row.alias)?;
-    tell_over(alloc, out, &mut resolver, &mut tree, row.call)
+    let resolver = resolver_of(alloc, row.settings, row.alias)?;
+    tell_over(alloc, out, &resolver, &mut tree, row.call)
 }
 
 // Tells what a call over a tree comes to, and its questions.
 fn tell_over(
     alloc: Global,
     out: &mut String,
-    resolver: &mut NodeModulesResolver,
+    resolver: &NodeModulesResolver,
     tree: &mut MemoryTree,
     call: &str,
 ) -> Result<(), Fail> {

@@ -91,7 +91,7 @@ pub(crate) fn tell_rules(out: &mut String, rules: &[Rule]) -> Result<(), AllocEr
         tell_source(out, &rule.source)?;
         match &rule.target {
             Some(file) => tell(out, " is ", file.as_str())?,
-            None => out.push_str(" is hidden")?,
+            None => out.push_str(" is ignored")?,
         }
         out.push_str(")")?;
     }

@@ -1,10 +1,13 @@
 // The rows of the order of search for Node's modules.
-ghost use Rattle.std.specs.Prelude.{◌≡◌, IfOk, option_map};
+ghost use Rattle.std.specs.Prelude.{◌≡◌, Err, IfOk, option_map};
 ghost use Rattle.sugar_path.specs.Path.{clean};
 ghost use Rattle.tree_core.specs.Asks.{Asks};
 ghost use Rattle.tree_core.specs.Resolving.{Resolves};
 ghost use Rattle.swc_loader.specs.Spelling.{custom};
+ghost use Rattle.swc_loader.specs.declared.resolution.FileName.TheVariants.{Real};
+ghost use Rattle.swc_loader.specs.declared.refusal.NodeRefusal.TheVariants.{BaseNotAFile};
 ghost use Rattle.swc_loader.specs.NodeOrder.{node};
+ghost use Rattle.swc_loader.specs.NodeRows.{path_text};
 ghost use Rattle.swc_loader.specs.NodeRows as rows;
 
 use crate::located::placed_file;
@@ -12,8 +15,8 @@ use crate::search::{joined, place, place_without_entry};
 use crate::specifier::is_relative;
 use crate::walk::walk;
 use crate::{
-    Before, FileName, ModuleRule, NodeModulesResolver, NodeRefusal, Placed, Readings, Resolution,
-    Searched, TargetEnv,
+    Before, FileName, Importer, ModuleRule, NodeModulesResolver, NodeRefusal, Placed, Readings,
+    Resolution, Searched, TargetEnv,
 };
 use std::alloc::{AllocError, Global};
 use sugar_path::{CleanPath, Text};
@@ -35,7 +38,7 @@ impl NodeModulesResolver {
         self.node_order_with(alloc, tree, &mut readings, base, specifier)
     }
 
-    /// The same, with readings that requests share.
+    /// The node rows, one after the other, with readings that requests share.
     pub fn node_order_with<R: Asker>(
         &self,
         alloc: Global,
@@ -47,20 +50,59 @@ impl NodeModulesResolver {
         ensures { Resolves (R.asking tree.old) (R.asking tree.new) result
             (node self.now base.now specifier.now) }
     {
+        let FileName::Real(text) = base else {
+            return self.order_without_importer(alloc, tree, base, specifier);
+        };
+        let path = CleanPath::read(alloc, self.cwd(), text.as_str())?;
+        let importer = Importer {
+            text: text.as_str(),
+            path: &path,
+        };
+        self.node_order_from(alloc, tree, readings, &importer, specifier)
+    }
+
+    /// The node rows from an importer whose path is read.
+    pub fn node_order_from<R: Asker>(
+        &self,
+        alloc: Global,
+        tree: &mut R,
+        readings: &mut Readings,
+        importer: &Importer<'_>,
+        specifier: &str,
+    ) -> Result<Resolution, ResolveError<NodeRefusal>>
+        requires { importer.now.path.now ≡ clean self.now.cwd importer.now.text.now }
+        ensures { Resolves (R.asking tree.old) (R.asking tree.new) result
+            (node self.now (Real importer.now.text.now) specifier.now) }
+    {
         if let Some(file) = self.probe(alloc, tree, specifier)? {
             let relative = !specifier.starts_with('/');
             return Ok(self.answer(alloc, tree, None, file, relative)?);
         }
-        let FileName::Real(importer) = base else {
-            return Err(ResolveError::Refused(NodeRefusal::BaseNotAFile));
-        };
-        let at = CleanPath::read(alloc, self.cwd(), importer.as_str())?;
-        match self.before_search_with(alloc, tree, readings, &at, specifier)? {
+        match self.before_search_with(alloc, tree, readings, importer.path, specifier)? {
             Before::Decided(resolution) => Ok(resolution),
             Before::Target(target) => {
-                self.search_with(alloc, tree, readings, importer.as_str(), target.as_str())
+                self.search_with(alloc, tree, readings, importer, target.as_str())
             }
         }
+    }
+
+    // The node rows from what is no path.
+    fn order_without_importer<R: Asker>(
+        &self,
+        alloc: Global,
+        tree: &mut R,
+        base: &FileName,
+        specifier: &str,
+    ) -> Result<Resolution, ResolveError<NodeRefusal>>
+        requires { path_text base.now ≡ Err BaseNotAFile }
+        ensures { Resolves (R.asking tree.old) (R.asking tree.new) result
+            (node self.now base.now specifier.now) }
+    {
+        if let Some(file) = self.probe(alloc, tree, specifier)? {
+            let relative = !specifier.starts_with('/');
+            return Ok(self.answer(alloc, tree, None, file, relative)?);
+        }
+        Err(ResolveError::Refused(NodeRefusal::BaseNotAFile))
     }
 
     // The file of a specifier that is first looked for from the working folder.
@@ -87,7 +129,7 @@ impl NodeModulesResolver {
         self.conventions.probes_working_folder() && !specifier.starts_with('.')
     }
 
-    /// What is known of a specifier before a search: the answer by the rules for the importer, or for one of Node's own modules,
+    /// What is known of a specifier before a search: the answer by the rules for the importer, or for a builtin module,
     /// else the target.
     pub fn before_search<R: Asker>(
         &self,
@@ -103,7 +145,7 @@ impl NodeModulesResolver {
         self.before_search_with(alloc, tree, &mut readings, importer, specifier)
     }
 
-    /// The same, with readings that the rows of a request share.
+    /// What is known of a specifier before a search, with readings that the rows of a request share.
     pub fn before_search_with<R: Asker>(
         &self,
         alloc: Global,
@@ -173,32 +215,38 @@ impl NodeModulesResolver {
             (rows.search self.now base.now target.now) }
     {
         let mut readings = Readings::new(alloc);
-        self.search_with(alloc, tree, &mut readings, base, target)
+        let path = CleanPath::read(alloc, self.cwd(), base)?;
+        let importer = Importer {
+            text: base,
+            path: &path,
+        };
+        self.search_with(alloc, tree, &mut readings, &importer, target)
     }
 
-    /// The same, with readings that the rows of a request share.
+    /// The search by a target from an importer whose path is read, with readings that the rows of a request share.
     pub fn search_with<R: Asker>(
         &self,
         alloc: Global,
         tree: &mut R,
         readings: &mut Readings,
-        base: &str,
+        importer: &Importer<'_>,
         target: &str,
     ) -> Result<Resolution, ResolveError<NodeRefusal>>
+        requires { importer.now.path.now ≡ clean self.now.cwd importer.now.text.now }
         ensures { Resolves (R.asking tree.old) (R.asking tree.new) result
-            (rows.search self.now base.now target.now) }
+            (rows.search self.now importer.now.text.now target.now) }
     {
         if target.starts_with('/') {
             return self.search_root(alloc, tree, readings, target);
         }
         if is_relative(target) {
-            return self.search_behind(alloc, tree, readings, base, target);
+            return self.search_behind(alloc, tree, readings, importer, target);
         }
         if !self.node_modules {
             let text = Text::of(alloc, target)?;
             return Err(ResolveError::Refused(NodeRefusal::NotFound { text }));
         }
-        self.search_modules(alloc, tree, readings, base, target)
+        self.search_modules(alloc, tree, readings, importer, target)
     }
 
     // An absolute target.
@@ -213,90 +261,54 @@ impl NodeModulesResolver {
             (rows.at_root self.now target.now) }
     {
         let at = CleanPath::read(alloc, &CleanPath::root(alloc), target)?;
-        let found = place(
-            alloc,
-            tree,
-            readings,
-            &self.conventions,
-            self.target,
-            target,
-            &at,
-        )?;
+        let context = self.context();
+        let found = place(alloc, tree, readings, &context, target, &at)?;
         self.told(alloc, tree, readings, target, false, found)
     }
 
-    // A target behind the folder of the base.
+    // A target behind the folder of the importer.
     fn search_behind<R: Asker>(
         &self,
         alloc: Global,
         tree: &mut R,
         readings: &mut Readings,
-        base: &str,
+        importer: &Importer<'_>,
         target: &str,
     ) -> Result<Resolution, ResolveError<NodeRefusal>>
+        requires { importer.now.path.now ≡ clean self.now.cwd importer.now.text.now }
         ensures { Resolves (R.asking tree.old) (R.asking tree.new) result
-            (rows.behind_base self.now base.now target.now) }
+            (rows.behind_base self.now importer.now.text.now target.now) }
     {
-        let folder = self.base_folder(alloc, tree, base)?;
+        let folder = base_folder(alloc, tree, importer.path)?;
         let text = joined(alloc, &folder, target)?;
         let at = CleanPath::read(alloc, &CleanPath::root(alloc), text.as_str())?;
-        let found = place(
-            alloc,
-            tree,
-            readings,
-            &self.conventions,
-            self.target,
-            text.as_str(),
-            &at,
-        )?;
-        let relative = !base.starts_with('/');
+        let context = self.context();
+        let found = place(alloc, tree, readings, &context, text.as_str(), &at)?;
+        let relative = !importer.text.starts_with('/');
         self.told(alloc, tree, readings, target, relative, found)
     }
 
-    // A target in the `node_modules` of the folder of the base, or of one above.
+    // A target in the `node_modules` of the folder of the importer, or of one above.
     fn search_modules<R: Asker>(
         &self,
         alloc: Global,
         tree: &mut R,
         readings: &mut Readings,
-        base: &str,
+        importer: &Importer<'_>,
         target: &str,
     ) -> Result<Resolution, ResolveError<NodeRefusal>>
+        requires { importer.now.path.now ≡ clean self.now.cwd importer.now.text.now }
         ensures { Resolves (R.asking tree.old) (R.asking tree.new) result
-            (rows.walked self.now base.now target.now) }
+            (rows.walked self.now importer.now.text.now target.now) }
     {
-        let folder = self.base_folder(alloc, tree, base)?;
-        let walked = walk(
-            alloc,
-            tree,
-            readings,
-            &self.conventions,
-            self.target,
-            target,
-            &folder,
-        )?;
+        let folder = base_folder(alloc, tree, importer.path)?;
+        let context = self.context();
+        let walked = walk(alloc, tree, readings, &context, target, &folder)?;
         let found = match walked {
             Some(file) => Searched::File(file),
             None => Searched::Nothing,
         };
         self.told(alloc, tree, readings, target, true, found)
-    }
-
-    // The folder that a base stands in, or its own path where that is no file.
-    fn base_folder<R: Asker>(
-        &self,
-        alloc: Global,
-        tree: &mut R,
-        base: &str,
-    ) -> Result<CleanPath, ReadError>
-        ensures { Asks (R.asking tree.old) (R.asking tree.new) result
-            (rows.base_folder (clean self.now.cwd base.now)) }
-    {
-        let mut folder = CleanPath::read(alloc, &self.cwd, base)?;
-        if tree.is_file(&folder)? {
-            let _above = folder.go_up();
-        }
-        Ok(folder)
     }
 
     // What a search by a target comes to: a file by the rules for it.
@@ -326,7 +338,7 @@ impl NodeModulesResolver {
     }
 }
 
-// The name that a specifier is answered by where it means one of Node's own modules.
+// The name that a specifier is answered by where it means a builtin module.
 fn core_module(alloc: Global, specifier: &str) -> Result<Option<Text>, AllocError>
     ensures { IfOk result (λ name. option_map custom name ≡ rows.core_module specifier.now) }
 {
@@ -339,4 +351,19 @@ fn core_module(alloc: Global, specifier: &str) -> Result<Option<Text>, AllocErro
     let mut name = String::from_str(alloc, "node:")?;
     name.push_str(specifier)?;
     Ok(Some(Text::from(name)))
+}
+
+// The folder that an importer stands in, or its own path where that is no file.
+fn base_folder<R: Asker>(
+    alloc: Global,
+    tree: &mut R,
+    importer: &CleanPath,
+) -> Result<CleanPath, ReadError>
+    ensures { Asks (R.asking tree.old) (R.asking tree.new) result (rows.base_folder importer.now) }
+{
+    let mut folder = importer.try_clone(alloc)?;
+    if tree.is_file(&folder)? {
+        let _above = folder.go_up();
+    }
+    Ok(folder)
 }

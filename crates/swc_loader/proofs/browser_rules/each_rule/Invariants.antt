@@ -1,4 +1,3 @@
-use Rattle.std.proofs.Common.{◌≡◌}
 use Rattle.serde_json.specs.View.{members_view}
 use Rattle.tree_core.specs.Asks.{Leads}
 use Rattle.swc_loader.specs.BrowserRules.{rules_of}

@@ -12,7 +12,7 @@ use Rattle.swc_loader.proofs.candidates.first_with_ending.Goals as goal
 pushed : (base held name e : List ℕ) → name ≡ held ++ e → held ≡ base → name ≡ base ++ e
 pushed base held name e is old = is ∙ ap (λ s. s ++ e) old
 
--- the same of a text that is the buffer's
+-- of a text that is the buffer's
 with_ending : (base now held name e : List ℕ) → now ≡ name → name ≡ held ++ e → held ≡ base → now ≡ base ++ e
 with_ending base now held name e same is old = same ∙ pushed base held name e is old
 

@@ -16,11 +16,11 @@ unfolding inside
 returns-in_err-found g c =
     let other = ap (λ p. path_eq p c.args.location.now) (sym (rw c.root.ensures at c.in_ok-at.ensures)) ∙ sym c.eq.ensures ∙ c.if-eq.false in
     rw other
-    (asks_fails_in resolving _ _ c.from_residual-in_err-found.ensures.1 (asks_place c.conventions.ensures c.target.ensures refl refl c.root.ensures c.in_ok-at.ensures c.in_err-found.ensures))
+    (asks_fails_in resolving _ _ c.from_residual-in_err-found.ensures.1 (asks_place c.context-context.ensures.conventions c.context-context.ensures.target refl refl c.root.ensures c.in_ok-at.ensures c.in_err-found.ensures))
 
 pub returns : goal.returns
 unfolding inside
 returns g c =
     let other = ap (λ p. path_eq p c.args.location.now) (sym (rw c.root.ensures at c.in_ok-at.ensures)) ∙ sym c.eq.ensures ∙ c.if-eq.false in
     rw other
-    (asks_then _ (asks_place c.conventions.ensures c.target.ensures refl refl c.root.ensures c.in_ok-at.ensures c.in_ok-found.ensures) c.placed_file.ensures)
+    (asks_then _ (asks_place c.context-context.ensures.conventions c.context-context.ensures.target refl refl c.root.ensures c.in_ok-at.ensures c.in_ok-found.ensures) c.placed_file.ensures)

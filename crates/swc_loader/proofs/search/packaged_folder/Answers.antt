@@ -26,16 +26,16 @@ pub returns-in-Malformed : goal.returns-in-Malformed
 unfolding packaged
 returns-in-Malformed g c =
     asks_then _ (rw c.requires at c.in_ok-content.ensures)
-    (by_this c.args.conventions.now c.args.folder.now (sym c.in_ok-entry_of.ensures ∙ c.in-Malformed.is) (asks_done (ap Malformed c.requires)))
+    (by_this c.args.context.now.conventions.now c.args.folder.now (sym c.in_ok-entry_of.ensures ∙ c.in-Malformed.is) (asks_done (ap Malformed c.requires)))
 
 pub returns-in-Missing : goal.returns-in-Missing
 unfolding packaged
 returns-in-Missing g c =
     asks_then _ (rw c.requires at c.in_ok-content.ensures)
-    (by_this c.args.conventions.now c.args.folder.now (sym c.in_ok-entry_of.ensures ∙ c.in-Missing.is) c.first_index.ensures)
+    (by_this c.args.context.now.conventions.now c.args.folder.now (sym c.in_ok-entry_of.ensures ∙ c.in-Missing.is) c.first_index.ensures)
 
 pub returns-in-At : goal.returns-in-At
 unfolding packaged
 returns-in-At g c =
     asks_then _ (rw c.requires at c.in_ok-content.ensures)
-    (by_this c.args.conventions.now c.args.folder.now (sym c.in_ok-entry_of.ensures ∙ c.in-At.is) (rw c.as_str.ensures at c.at_entry.ensures))
+    (by_this c.args.context.now.conventions.now c.args.folder.now (sym c.in_ok-entry_of.ensures ∙ c.in-At.is) (rw c.as_str.ensures at c.at_entry.ensures))

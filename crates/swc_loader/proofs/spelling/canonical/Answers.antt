@@ -1,5 +1,4 @@
 use Rattle.std.proofs.Common.{refl, ap}
-use Rattle.std.specs.Prelude.{Some}
 use Rattle.tree_core.proofs.Asking.{asks_as, asks_done, asks_fails, asks_starved}
 use Rattle.swc_loader.specs.declared.resolution.FileName.TheVariants.{Real}
 use Rattle.swc_loader.specs.Spelling.{canonical_name}

@@ -8,8 +8,8 @@ use Rattle.swc_loader.proofs.walk.walk.Given as goal
 abbrev pub invariant-up : goal.invariant-up
 invariant-up g l =
     Leads (g.R.Asker.asking l.fn.tree) (g.R.Asker.asking l.tree)
-    (walk l.conventions l.env l.target (l.from ∷ up l.from))
-    (walk l.conventions l.env l.target (l.folder ∷ up l.folder))
+    (walk l.context.conventions.now l.context.target l.target (l.from ∷ up l.from))
+    (walk l.context.conventions.now l.context.target l.target (l.folder ∷ up l.folder))
 
 abbrev pub decreases-up : goal.decreases-up
 decreases-up g l = length l.folder

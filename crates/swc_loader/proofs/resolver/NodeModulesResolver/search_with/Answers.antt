@@ -22,4 +22,4 @@ returns g c =
     let absolute : is_absolute c.args.target.now ≡ false = sym (c.starts_with.ensures.byte (lit< tt) (lit< tt) (λ w o h. h)) ∙ c.if-starts_with.false in
     let relative = sym c.is_relative.ensures ∙ c.if-is_relative.false in
     let walks : c.args.self.now.node_modules ≡ true = ap (λ (s : NodeSettings). s.node_modules) (sym c.self.view_is) ∙ c.if-not-self.false in
-    rw (absolute, relative) (asks_walked c.args.self.now c.args.base.now c.args.target.now walks c.search_modules.ensures)
+    rw (absolute, relative) (asks_walked c.args.self.now c.args.importer.now.text.now c.args.target.now walks c.search_modules.ensures)

@@ -1,0 +1,26 @@
+use Rattle.std.proofs.Common.{◌≡◌, refl, lit<}
+use Rattle.sugar_path.specs.Path.{is_absolute}
+use Rattle.tree_core.specs.Resolving.{resolving}
+use Rattle.tree_core.specs.Rows.{never_refuses}
+use Rattle.tree_core.proofs.Asking.{asks_then, asks_as, asks_done, asks_fails_in}
+use Rattle.swc_loader.proofs.NodeOrders.{asks_node, refused_base}
+use Rattle.swc_loader.proofs.resolver.NodeModulesResolver.order_without_importer.Goals as goal
+
+pub returns-in_err-file : goal.returns-in_err-file
+returns-in_err-file g c = asks_node _ _ _ (asks_fails_in resolving _ _ c.from_residual.ensures.1 c.in_err-file.ensures)
+
+pub returns-in_err-answer : goal.returns-in_err-answer
+unfolding never_refuses
+returns-in_err-answer g c =
+    let absolute : c.starts_with-relative.result ≡ is_absolute c.args.specifier.now = c.starts_with-relative.ensures.byte (lit< tt) (lit< tt) (λ w o h. h) in
+    asks_node _ _ _ (asks_as _ c.in_ok-file.ensures c.in-Some.is (asks_fails_in resolving _ _ c.from_residual-in_err-answer.ensures.1 (rw absolute at c.in_err-answer.ensures)))
+
+pub returns-in-Some : goal.returns-in-Some
+unfolding never_refuses
+returns-in-Some g c =
+    let absolute : c.starts_with-relative.result ≡ is_absolute c.args.specifier.now = c.starts_with-relative.ensures.byte (lit< tt) (lit< tt) (λ w o h. h) in
+    asks_node _ _ _ (asks_as _ c.in_ok-file.ensures c.in-Some.is (asks_then _ (rw absolute at c.in_ok-answer.ensures) (asks_done refl)))
+
+pub returns : goal.returns
+returns g c =
+    asks_node _ _ _ (asks_as _ c.in_ok-file.ensures c.in_default.is (rw (refused_base c.args.self.now c.args.base.now c.args.specifier.now c.requires) (asks_done refl)))
