@@ -8,7 +8,8 @@ ghost use Rattle.report_core.specs.Lines.{outcome_line};
 ghost use Rattle.cli_core.specs.Report.{lines_by, lines_of, report};
 
 use document_core::{
-    Document, DocumentError, GivenSettings, Request, outcome_of, project_in, read_document, tree_of,
+    Document, DocumentError, GivenRequest, GivenSettings, outcome_of, project_in, read_document,
+    tree_of,
 };
 use report_core::line_of_outcome;
 use resolve_stack::{KnownTree, Project};
@@ -37,7 +38,7 @@ fn lines_by(
     tree: MemoryTree,
     settings: GivenSettings,
     lock: &Option<Text>,
-    requests: &[Request],
+    requests: &[GivenRequest],
     trails: bool,
 ) -> Result<String, DocumentError>
     ensures { Meets (result_map_both string_bytes (λ e. e) result)
@@ -53,7 +54,7 @@ fn lines_on(
     alloc: Global,
     tree: &mut KnownTree,
     project: &Project<'_>,
-    requests: &[Request],
+    requests: &[GivenRequest],
     trails: bool,
 ) -> Result<String, AllocError>
     ensures { IfOk result (λ lines.
@@ -72,7 +73,7 @@ fn line_of(
     alloc: Global,
     tree: &mut KnownTree,
     project: &Project<'_>,
-    request: &Request,
+    request: &GivenRequest,
     trails: bool,
 ) -> Result<String, AllocError>
     ensures line { IfOk result (λ line. string_bytes line

@@ -1,4 +1,5 @@
 -- What a document gives, or the first cause against it.
+-- A `do` here is over results: it goes on with what a step gives, and ends by the first error.
 use Rattle.std.specs.Prelude.{ℕ, List, [], ◌∷◌, Option, Some, None, option_map, Result, Ok, Err}
 use Rattle.std.specs.FinMap as finite
 use Rattle.tree_core.specs.Asks.{widened}
@@ -17,7 +18,7 @@ use Rattle.document_core.specs.declared.fields.Document.{Document}
 use Rattle.document_core.specs.declared.fields.GivenSettings.{GivenSettings as Fields}
 use Rattle.document_core.specs.declared.given.GivenFile.{GivenFile}
 use Rattle.document_core.specs.declared.given.GivenMapping.{GivenMapping}
-use Rattle.document_core.specs.declared.given.Request.{Request}
+use Rattle.document_core.specs.declared.given.GivenRequest.{GivenRequest}
 
 -- the other path of a conflict
 abbrev pub other_path : PutError → Option (List ℕ)
@@ -65,7 +66,7 @@ project_in settings = widened BadProject (project_of settings)
 pub record Given : Type 0 where
   pub files : Files
   pub project : ProjectSettings
-  pub requests : List Request
+  pub requests : List GivenRequest
 
 -- the fields of a document, or the first cause against them
 unfoldable pub fields_in : List ℕ → Result Document Cause

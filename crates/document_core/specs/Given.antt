@@ -1,4 +1,5 @@
 -- The files and requests of a document, read from their JSON values (RFC 8259).
+-- A `do` here is over readings: it goes on with what a reading gives, and gives nothing where one of them doesn't read.
 use Rattle.std.specs.Prelude.{ℕ, Bool, nat_le, ◌&&◌, ◌||◌, List, codes, Option, Some, None, option_map, if◌then◌else◌}
 use Rattle.std.specs.List.{list_all}
 use Rattle.std.specs.Result.{result_ok}
@@ -10,7 +11,7 @@ use Rattle.swc_loader.specs.declared.resolution.FileName.{FileName}
 use Rattle.swc_loader.specs.declared.resolution.FileName.TheVariants.{Real, Custom, Anon}
 use Rattle.document_core.specs.declared.given.GivenFile.{GivenFile}
 use Rattle.document_core.specs.declared.given.GivenMapping.{GivenMapping}
-use Rattle.document_core.specs.declared.given.Request.{Request}
+use Rattle.document_core.specs.declared.given.GivenRequest.{GivenRequest}
 
 -- a digit of hex in lower case
 abbrev pub is_lower_hex_digit : ℕ → Bool
@@ -44,12 +45,12 @@ importer_of (boolean b) = None
 importer_of (number n) = None
 importer_of (array ds) = None
 
--- a request: from where, and which specifier
-unfoldable pub request_of : Data → Option Request
+-- a request: who asks, and for which specifier
+unfoldable pub request_of : Data → Option GivenRequest
 request_of d = do
-  from ← field_by (codes "from") importer_of d
+  importer ← field_by (codes "from") importer_of d
   specifier ← field_by (codes "specifier") as_str d
-  Some (record { from = from; specifier = specifier })
+  Some (record { importer = importer; specifier = specifier })
 
 -- a mapping: its base folder, and its patterns, each with its targets
 unfoldable pub mapping_of : Data → Option GivenMapping

@@ -10,7 +10,7 @@ ghost use Rattle.document_core.specs.declared.cause.Field.TheVariants.{Target};
 ghost use Rattle.swc_loader.specs.declared.target.TargetEnv.TheVariants.{Browser};
 
 use crate::cause::{Cause, DocumentError, Field};
-use crate::given::{GivenFile, GivenMapping, Request};
+use crate::given::{GivenFile, GivenMapping, GivenRequest};
 use json_reading::{FromJson, FromJsonError, JsonValue, Object};
 use resolve_stack::{Settings, TargetEnv, TsSettings};
 use std::alloc::Global;
@@ -30,7 +30,7 @@ pub struct Document {
     pub settings: GivenSettings,
     pub lock: Option<Text>,
     pub files: List<GivenFile>,
-    pub requests: List<Request>,
+    pub requests: List<GivenRequest>,
 }
 
 /// The settings of a document but for its lock, which a project borrows.
@@ -91,7 +91,7 @@ pub(crate) fn read_fields<J: JsonValue>(alloc: Global, value: &J) -> Result<Docu
         lock,
         files,
     } = read_project(alloc, value)?;
-    let requests: List<Request> = required_field(alloc, value, Field::Requests)?;
+    let requests: List<GivenRequest> = required_field(alloc, value, Field::Requests)?;
     Ok(Document {
         settings,
         lock,

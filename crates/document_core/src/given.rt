@@ -18,10 +18,10 @@ pub struct GivenFile {
     pub canonical: Text,
 }
 
-/// One request of a document: from where, and which specifier.
+/// One request of a document: who asks, and for which specifier.
 #[derive(Drop)]
-pub struct Request {
-    pub from: FileName,
+pub struct GivenRequest {
+    pub importer: FileName,
     pub specifier: Text,
 }
 
@@ -122,15 +122,18 @@ fn is_lower_hex_digit(c: u8) -> bool
     matches!(c, b'0'..=b'9' | b'a'..=b'f')
 }
 
-impl FromJson for Request {
+impl FromJson for GivenRequest {
     ghost use Rattle.document_core.specs.Given.{request_of};
 
     ghost reads = { request_of };
 
     fn from_json<J: JsonValue>(alloc: Global, value: &J) -> Result<Self, FromJsonError> {
-        let from = importer_in(alloc, value)?;
+        let importer = importer_in(alloc, value)?;
         let specifier: Text = field(alloc, value, "specifier")?;
-        Ok(Request { from, specifier })
+        Ok(GivenRequest {
+            importer,
+            specifier,
+        })
     }
 }
 

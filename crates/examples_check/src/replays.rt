@@ -3,7 +3,7 @@ ghost use Rattle.std.specs.Prelude.{IfOk, IsTrue};
 ghost use Rattle.tree_core.specs.Question.{fits};
 
 use document_core::{
-    Document, DocumentError, GivenFile, Request, project_in, read_document, tree_of,
+    Document, DocumentError, GivenFile, GivenRequest, project_in, read_document, tree_of,
 };
 use resolve_stack::{Outcome, Project, ReplayError, Verdict, replay, resolve_import};
 use std::alloc::{AllocError, Global};
@@ -70,7 +70,7 @@ fn replay_request(
     alloc: Global,
     project: &Project<'_>,
     files: &[GivenFile],
-    request: &Request,
+    request: &GivenRequest,
     replays: &mut Replays,
 ) -> Result<(), DocumentError> {
     let mut tree = tree_of(alloc, files)?;
@@ -85,10 +85,10 @@ fn outcome_on(
     alloc: Global,
     tree: &mut MemoryTree,
     project: &Project<'_>,
-    request: &Request,
+    request: &GivenRequest,
 ) -> Result<Outcome, AllocError> {
     let specifier = request.specifier.as_str();
-    match resolve_import(alloc, tree, project, &request.from, specifier) {
+    match resolve_import(alloc, tree, project, &request.importer, specifier) {
         Ok(outcome) => Ok(outcome),
         Err(_) => Err(AllocError),
     }
@@ -98,12 +98,12 @@ fn outcome_on(
 fn decides(
     alloc: Global,
     project: &Project<'_>,
-    request: &Request,
+    request: &GivenRequest,
     trail: &Trail,
     outcome: &Outcome,
 ) -> Result<bool, AllocError> {
     let specifier = request.specifier.as_str();
-    match replay(alloc, project, &request.from, specifier, trail) {
+    match replay(alloc, project, &request.importer, specifier, trail) {
         Ok(verdict) => Ok(is_whole(trail, outcome) && verdict == outcome.verdict),
         Err(ReplayError::NotRecorded { question }) => Ok(is_first_lacking(
             trail, outcome, &question,
@@ -137,7 +137,7 @@ fn first_lacking<'o>(trail: &Trail, outcome: &'o Outcome) -> Option<&'o Question
 fn replay_without_each(
     alloc: Global,
     project: &Project<'_>,
-    request: &Request,
+    request: &GivenRequest,
     outcome: &Outcome,
     replays: &mut Replays,
 ) -> Result<(), AllocError> {
@@ -189,7 +189,7 @@ fn replay_on_others(
     alloc: Global,
     project: &Project<'_>,
     files: &[GivenFile],
-    request: &Request,
+    request: &GivenRequest,
     trail: &Trail,
     replays: &mut Replays,
 ) -> Result<(), DocumentError> {
@@ -206,7 +206,7 @@ fn decides_on(
     alloc: Global,
     project: &Project<'_>,
     tree: &mut MemoryTree,
-    request: &Request,
+    request: &GivenRequest,
     trail: &Trail,
 ) -> Result<bool, AllocError> {
     let outcome = outcome_on(alloc, tree, project, request)?;

@@ -10,7 +10,7 @@ use Rattle.resolve_stack.specs.Settings.{GivenSettings, ProjectSettings, project
 use Rattle.resolve_stack.specs.declared.project.ProjectError.{ProjectError}
 use Rattle.resolve_stack.specs.declared.project.ProjectError.TheVariants.{SettingsFault}
 use Rattle.document_core.specs.Outcomes.{outcome_on}
-use Rattle.document_core.specs.declared.given.Request.{Request}
+use Rattle.document_core.specs.declared.given.GivenRequest.{GivenRequest}
 use Rattle.generated_project.specs.Counts.{counts_of, generated_outcomes}
 use Rattle.generated_project.specs.declared.counts.Counts.{Counts}
 use Rattle.generated_project.specs.Generated.{generated_requests, generated_settings, generated_tree}
@@ -29,9 +29,9 @@ unfolding project_of project_on
 project_made project given is made = by_test (is_clean_path (codes "/g")) project (rw is at made)
 
 -- counts on a tree, a project and requests that are the generated ones
-pub counted_whole : (counts : Counts) (t : Files) (project : ProjectSettings) (requests : List Request) (size : ℕ) → counts ≡ counts_of (map (outcome_on t project) requests) → t ≡ generated_tree size → project ≡ generated_settings → requests ≡ generated_requests size → counts ≡ counts_of (generated_outcomes size)
+pub counted_whole : (counts : Counts) (t : Files) (project : ProjectSettings) (requests : List GivenRequest) (size : ℕ) → counts ≡ counts_of (map (outcome_on t project) requests) → t ≡ generated_tree size → project ≡ generated_settings → requests ≡ generated_requests size → counts ≡ counts_of (generated_outcomes size)
 counted_whole counts t project requests size is t_is project_is requests_is =
     is
     ∙ ap (λ (x : Files). counts_of (map (outcome_on x project) requests)) t_is
     ∙ ap (λ (x : ProjectSettings). counts_of (map (outcome_on (generated_tree size) x) requests)) project_is
-    ∙ ap (λ (x : List Request). counts_of (map (outcome_on (generated_tree size) generated_settings) x)) requests_is
+    ∙ ap (λ (x : List GivenRequest). counts_of (map (outcome_on (generated_tree size) generated_settings) x)) requests_is

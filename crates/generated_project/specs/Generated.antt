@@ -9,7 +9,7 @@ use Rattle.swc_loader.specs.Settings.{settings_of}
 use Rattle.swc_loader.specs.declared.resolution.FileName.TheVariants.{Real}
 use Rattle.swc_loader.specs.declared.target.TargetEnv.TheVariants.{Node}
 use Rattle.resolve_stack.specs.Settings.{ProjectSettings}
-use Rattle.document_core.specs.declared.given.Request.{Request}
+use Rattle.document_core.specs.declared.given.GivenRequest.{GivenRequest}
 
 -- the numbers of a project's packages: 1 to its size
 abbrev pub numbers : ℕ → List ℕ
@@ -76,11 +76,11 @@ generated_tree size = with_packages (top_files size) (numbers size)
 abbrev pub asking_file : ℕ → List ℕ
 asking_file k = if k == 0 then codes "/g/a.js" else package_file k
 
-abbrev pub package_request : ℕ → ℕ → Request
-package_request from k = record { from = Real (asking_file from); specifier = package_name k }
+abbrev pub package_request : ℕ → ℕ → GivenRequest
+package_request from k = record { importer = Real (asking_file from); specifier = package_name k }
 
 -- the requests: for each package from the file before it, and for p1 from the last one
-abbrev pub generated_requests : ℕ → List Request
+abbrev pub generated_requests : ℕ → List GivenRequest
 generated_requests size =
     map (λ k. package_request k (k + 1)) (range_with_len 0 size) ++ package_request size 1 ∷ []
 

@@ -6,7 +6,7 @@ ghost use Rattle.generated_project.specs.Generated.{generated_settings};
 
 use crate::requests::generated_requests;
 use crate::tree::generated_tree;
-use document_core::{Request, outcome_of};
+use document_core::{GivenRequest, outcome_of};
 use indexmap::IndexMap;
 use resolve_stack::{KnownTree, Outcome, Project, Settings, TargetEnv, Verdict};
 use std::alloc::{AllocError, Global};
@@ -58,7 +58,7 @@ fn counts_over(
     alloc: Global,
     tree: MemoryTree,
     project: &Project<'_>,
-    requests: &[Request],
+    requests: &[GivenRequest],
 ) -> Result<Counts, AllocError>
     ensures { IfOk result (λ counts.
         counts ≡ counts_of (map (outcome_on tree.files project.now) requests.now)) }
@@ -72,7 +72,7 @@ fn counts_on(
     alloc: Global,
     tree: &mut KnownTree,
     project: &Project<'_>,
-    requests: &[Request],
+    requests: &[GivenRequest],
 ) -> Result<Counts, AllocError>
     ensures { IfOk result (λ counts.
         counts ≡ counts_of (map (outcome_on tree.old.files project.now) requests.now)) }
@@ -94,7 +94,7 @@ fn with_request(
     alloc: Global,
     tree: &mut KnownTree,
     project: &Project<'_>,
-    request: &Request,
+    request: &GivenRequest,
     counts: Counts,
 ) -> Result<Counts, AllocError>
     ensures more { IfOk result (λ more.

@@ -3,13 +3,13 @@ ghost use Rattle.std.specs.Prelude.{◌≡◌, IfOk, string_bytes};
 ghost use Rattle.generated_project.specs.Generated.{asking_file, generated_requests, package_name, package_request};
 
 use crate::tree::package_file;
-use document_core::Request;
+use document_core::GivenRequest;
 use resolve_stack::FileName;
 use std::alloc::{AllocError, Global};
 use sugar_path::Text;
 
 /// The requests of a project of so many packages.
-pub fn generated_requests(alloc: Global, size: usize) -> Result<Vec<Request>, AllocError>
+pub fn generated_requests(alloc: Global, size: usize) -> Result<Vec<GivenRequest>, AllocError>
     ensures { IfOk result (λ requests. requests.items ≡ generated_requests size) }
 {
     let mut requests = Vec::new(alloc);
@@ -21,13 +21,13 @@ pub fn generated_requests(alloc: Global, size: usize) -> Result<Vec<Request>, Al
 }
 
 // A request for one package from the file of another.
-fn package_request(alloc: Global, from: usize, k: usize) -> Result<Request, AllocError>
+fn package_request(alloc: Global, from: usize, k: usize) -> Result<GivenRequest, AllocError>
     ensures { IfOk result (λ request. request ≡ package_request from k) }
 {
-    let from = asking_file(alloc, from)?;
+    let importer = asking_file(alloc, from)?;
     let name = format!(in alloc; "p{k}")?;
-    Ok(Request {
-        from: FileName::Real(Text::of(alloc, from.as_str())?),
+    Ok(GivenRequest {
+        importer: FileName::Real(Text::of(alloc, importer.as_str())?),
         specifier: Text::of(alloc, name.as_str())?,
     })
 }

@@ -1,9 +1,12 @@
 -- The orders below as parts of the order.
-use Rattle.std.proofs.Common.{◌≡◌, ℕ, Bool, true, false, List, Option, Some, None, Result, Ok, Err, refl}
+use Rattle.std.proofs.Common.{◌≡◌, ℕ, Bool, true, false, List, Option, Some, None, Result, Ok, Err, refl, ap}
 use Rattle.std.specs.Prelude.{if◌then◌else◌}
 use Rattle.tree_core.specs.declared.tree.ReadError.{ReadError}
 use Rattle.tree_core.specs.Plan.{Plan, Done, ◌>>=?◌}
-use Rattle.tree_core.specs.Asks.{Asking, Asks, raised, widened}
+use Rattle.tree_core.specs.declared.resolve_error.ResolveError.{ResolveError}
+use Rattle.tree_core.specs.declared.resolve_error.ResolveError.TheVariants as error
+use Rattle.tree_core.specs.Asks.{Asking, Asks, raised, widened, seen}
+use Rattle.tree_core.specs.Resolving.{resolving, IsMapped}
 use Rattle.tree_core.specs.Rows.{Row, order, ends_by}
 use Rattle.tree_core.proofs.Asking.{asks_then, asks_done, asks_fails}
 use Rattle.swc_loader.specs.declared.resolution.FileName.{FileName}
@@ -47,3 +50,16 @@ bare_row project base target k b is h = rw is (goes_on_row target k h)
 -- Any other is searched as the node rows do, and ends the order.
 pub searched_row : {old new : Asking} {r : Result (Result Resolution JoinRefusal) ReadError} (project : ProjectSettings) (base target : List ℕ) (k : List ℕ → Row Resolution Resolution JoinRefusal) (b : Bool) → b ≡ false → Asks old new r (raised of_node (search project.node base target)) → Asks old new r (order ((if b then Done (Ok target) else ends_by (raised of_node (search project.node base target))) >>=? k))
 searched_row project base target k b is h = rw is (ends_row k h)
+
+-- A search's result with its refusal mapped comes to what it came to, with that refusal.
+pub mapped_seen : {A X Y : Type 0} (wide : X → Y) (R : X → Y → Type 0) (e : ResolveError X) (f : ResolveError Y) → ((x : X) (y : Y) → R x y → y ≡ wide x) → IsMapped R e f
+    → seen {A = A} resolving (Err f) ≡ raised_result wide (seen resolving (Err e))
+mapped_seen wide R (error.Refused x) (error.Refused y) same h = ap (λ z. Ok (Err z)) (same x y h)
+mapped_seen wide R error.TreeFault error.TreeFault same h = refl
+mapped_seen wide R error.NoMemory error.NoMemory same h = refl
+mapped_seen wide R (error.Refused x) error.TreeFault same h = absurd h
+mapped_seen wide R (error.Refused x) error.NoMemory same h = absurd h
+mapped_seen wide R error.TreeFault (error.Refused y) same h = absurd h
+mapped_seen wide R error.TreeFault error.NoMemory same h = absurd h
+mapped_seen wide R error.NoMemory (error.Refused y) same h = absurd h
+mapped_seen wide R error.NoMemory error.TreeFault same h = absurd h

@@ -1,4 +1,5 @@
 -- The order where manifests are known beforehand. No public clause of a free call names it: it comes to what the order comes to.
+-- A `do` here is over plans: a plan puts its questions, and the next one goes on by what it came to. By `>>=?` a refusal ends them all.
 use Rattle.std.specs.Prelude.{◌≡◌, ℕ, Bool, false, IsTrue, if◌then◌else◌, bytes_eq, List, [], ◌∷◌, Option, Some, None, Result, Ok}
 use Rattle.std.specs.FinMap.{get}
 use Rattle.std.specs.List.{AllByRecursion}

@@ -1,4 +1,5 @@
 -- What the order comes to on a tree, and which questions it puts, as plain functions of the tree: the laws by which a reader checks the plans.
+-- A `do` here is over results: it goes on with what a step gives, and ends by the first error.
 use Rattle.std.specs.Prelude.{◌≡◌, if◌then◌else◌, ℕ, Bool, List, [], ◌++◌, Option, Some, None, Result, Ok, Err}
 use Rattle.sugar_path.specs.Path.{Path}
 use Rattle.tree_core.specs.declared.question.Question.{Question}

@@ -1,4 +1,5 @@
 -- The order of search: how a request ends on a tree, as a plan of questions. `join_rows` is one text over the join rows of docs/ORDER.md, in their order; the rows stand in Rows.antt.
+-- A `do` here is over rows, which are plans of results: the next row goes on with what a row gives, and a row's error ends them all.
 use Rattle.std.specs.Prelude.{Result}
 use Rattle.tree_core.specs.Plan.{Plan}
 use Rattle.tree_core.specs.Rows.{Row, order, decided, refuses_by}

@@ -1,4 +1,5 @@
 -- The rows of the order behind one of them, for the parts of the code that begin there. No public clause names them; each is the rest of `join` by its unfolding.
+-- A `do` here is over rows, which are plans of results: the next row goes on with what a row gives, and a row's error ends them all.
 use Rattle.std.specs.Prelude.{ℕ, List, Option, Result, Ok, Err}
 use Rattle.sugar_path.specs.Path.{Path}
 use Rattle.tree_core.specs.declared.tree.ReadError.{ReadError}

@@ -1,4 +1,5 @@
 -- The rows of the order of search, as docs/ORDER.md lists the join rows. A row gives what the next one goes on with, or ends the order.
+-- A `do` here is over plans: a plan puts its questions, and the next one goes on by what it came to.
 use Rattle.std.specs.Prelude.{ℕ, Bool, ◌&&◌, if◌then◌else◌, List, Option, Some, None, ok_or, Result, Ok, Err}
 use Rattle.sugar_path.specs.Path.{Path, text_of, below}
 use Rattle.tree_core.specs.Asks.{raised}

@@ -1,4 +1,5 @@
 -- What settings make a project, what the project is known by, and why settings make none.
+-- A `do` here is over results: it goes on with what a step gives, and ends by the first error.
 use Rattle.std.specs.Prelude.{◌≡◌, ℕ, Bool, if◌then◌else◌, List, codes, Option, Some, None, option_map, Result, Ok, Err}
 use Rattle.sugar_path.specs.Path.{Path, clean, path_in}
 use Rattle.sugar_path.specs.Results.{◌>>=◌}

@@ -1,4 +1,5 @@
 -- How a request ends: the answer of the project's order or its refusal.
+-- A `do` here is over plans: a plan puts its questions, and the next one goes on by what it came to.
 use Rattle.std.specs.Prelude.{Option, Some, None, Result, Ok, Err}
 use Rattle.tree_core.specs.Asks.{raised}
 use Rattle.tree_core.specs.Plan.{Plan, Done, ◌>>=◌}

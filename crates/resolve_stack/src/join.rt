@@ -3,6 +3,7 @@
 ghost use Rattle.std.specs.Prelude.{◌≡◌};
 ghost use Rattle.tree_core.specs.Resolving.{Resolves};
 ghost use Rattle.tree_core.specs.Rows.{order};
+ghost use Rattle.swc_loader.specs.declared.resolution.FileName.TheVariants.{Real};
 ghost use Rattle.resolve_stack.specs.Settings.{path_of};
 ghost use Rattle.resolve_stack.specs.Request.{request_of};
 ghost use Rattle.resolve_stack.specs.Known.{join_by};
@@ -16,10 +17,10 @@ use crate::join_rows::{
 use crate::kept::KeptManifest;
 use crate::request::Request;
 use crate::{JoinRefusal, KeptReadings, Project};
-use pnp_core::{PackageLocator, closest_manifest, find_locator};
+use pnp_core::{PackageLocator, closest_manifest, owner_of};
 use std::alloc::Global;
 use sugar_path::{CleanPath, Text};
-use swc_loader::{Before, Placed, Readings, Resolution, Via, is_bare};
+use swc_loader::{Before, Importer, Placed, Readings, Resolution, Via, is_bare};
 use tree_core::{Asker, ResolveError};
 
 // What a request comes to: the join rows, one after the other.
@@ -38,20 +39,22 @@ pub(crate) fn join<R: Asker>(
         manifests,
         packages,
     } = kept;
-    let Some(base) = bare_base(request) else {
+    let Some(text) = bare_base(request) else {
         return by_node_rows(alloc, tree, packages, project, request);
     };
-    let importer = CleanPath::read(alloc, project.cwd(), base)?;
-    let Some(file) = closest_manifest(alloc, tree, &importer)? else {
-        return by_node_rows(alloc, tree, packages, project, request);
+    let path = CleanPath::read(alloc, project.cwd(), text)?;
+    let Some(file) = closest_manifest(alloc, tree, &path)? else {
+        let importer = Importer { text, path: &path };
+        return by_node_rows_from(alloc, tree, packages, project, &importer, request);
     };
     let manifest = read_manifest(alloc, tree, known, manifests, file)?;
-    let Some(owner) = find_locator(alloc, manifest, importer.as_str())? else {
-        return by_node_rows(alloc, tree, packages, project, request);
+    let Some(owner) = owner_of(alloc, manifest, &path)? else {
+        let importer = Importer { text, path: &path };
+        return by_node_rows_from(alloc, tree, packages, project, &importer, request);
     };
     let asking = Asking {
-        base,
-        importer: &importer,
+        text,
+        path: &path,
         manifest,
         owner,
     };
@@ -74,6 +77,25 @@ fn by_node_rows<R: Asker>(
     raised(found)
 }
 
+// The node rows of the whole request, from an importer whose path is read.
+fn by_node_rows_from<R: Asker>(
+    alloc: Global,
+    tree: &mut R,
+    readings: &mut Readings,
+    project: &Project<'_>,
+    importer: &Importer<'_>,
+    request: &Request<'_>,
+) -> Result<Resolution, ResolveError<JoinRefusal>>
+    requires path { importer.now.path.now ≡ path_of project.now importer.now.text.now }
+    requires text { request.now.importer.now ≡ Real importer.now.text.now }
+    ensures { Resolves (R.asking tree.old) (R.asking tree.new) result
+        (node_rows_of project.now (request_of request.now)) }
+{
+    let node = project.node();
+    let found = node.node_order_from(alloc, tree, readings, importer, request.specifier);
+    raised(found)
+}
+
 // The rows behind the owner of the importer.
 fn join_owned<R: Asker>(
     alloc: Global,
@@ -83,20 +105,21 @@ fn join_owned<R: Asker>(
     request: &Request<'_>,
     asking: &Asking<'_>,
 ) -> Result<Resolution, ResolveError<JoinRefusal>>
-    requires { asking.now.importer.now ≡ path_of project.now asking.now.base.now }
+    requires { asking.now.path.now ≡ path_of project.now asking.now.text.now }
     ensures { Resolves (R.asking tree.old) (R.asking tree.new) result
-        (order (owned_rows project.now (request_of request.now) asking.now.base.now
+        (order (owned_rows project.now (request_of request.now) asking.now.text.now
         asking.now.manifest.now asking.now.owner.now)) }
 {
     let node = project.node();
-    let importer = asking.importer;
-    let before = node.before_search_with(alloc, tree, readings, importer, request.specifier)?;
+    let Asking { text, path, .. } = *asking;
+    let before = node.before_search_with(alloc, tree, readings, path, request.specifier)?;
     let target = match before {
         Before::Decided(resolution) => return Ok(resolution),
         Before::Target(target) => target,
     };
     if !is_bare(target.as_str()) {
-        let found = node.search_with(alloc, tree, readings, asking.base, target.as_str());
+        let importer = Importer { text, path };
+        let found = node.search_with(alloc, tree, readings, &importer, target.as_str());
         return raised(found);
     }
     join_bare(alloc, tree, readings, project, asking, target.as_str())
@@ -113,7 +136,7 @@ fn join_bare<R: Asker>(
 ) -> Result<Resolution, ResolveError<JoinRefusal>>
     ensures { Resolves (R.asking tree.old) (R.asking tree.new) result
         (order (bare_rows project.now asking.now.manifest.now asking.now.owner.now
-        asking.now.importer.now target.now)) }
+        asking.now.path.now target.now)) }
 {
     let (name, subpath) = identifier_of(alloc, target)?;
     let locator = bound_of(alloc, asking, target, &name)?;

@@ -23,12 +23,12 @@ use sugar_path::{CleanPath, Text};
 use swc_loader::{FileName, NodeRefusal, Placed, Readings, is_bare};
 use tree_core::{Asker, ResolveError};
 
-// A file that asks for a bare specifier: its path as it was written, its clean path, the manifest nearest to it, and the package
-// that owns it there.
+// An importer that asks for a bare specifier, as text and as path, the manifest nearest to it, and the package that owns it
+// there.
 #[derive(Clone, Copy)]
 pub(crate) struct Asking<'a> {
-    pub base: &'a str,
-    pub importer: &'a CleanPath,
+    pub text: &'a str,
+    pub path: &'a CleanPath,
     pub manifest: &'a Manifest,
     pub owner: &'a PackageLocator,
 }
@@ -58,9 +58,7 @@ pub(crate) fn raised<A>(
 {
     match found {
         Ok(answer) => Ok(answer),
-        Err(ResolveError::Refused(refusal)) => Err(ResolveError::Refused(of_node(refusal))),
-        Err(ResolveError::TreeFault) => Err(ResolveError::TreeFault),
-        Err(ResolveError::NoMemory) => Err(ResolveError::NoMemory),
+        Err(error) => Err(error.map_refused(of_node)),
     }
 }
 
@@ -117,15 +115,15 @@ pub(crate) fn bound_of(
     name: &Text,
 ) -> Result<PackageLocator, ResolveError<JoinRefusal>>
     ensures { IsDecided result (rows.bound_of asking.now.manifest.now asking.now.owner.now
-        asking.now.importer.now target.now name.now) }
+        asking.now.path.now target.now name.now) }
 {
     let Asking {
-        importer,
+        path,
         manifest,
         owner,
         ..
     } = *asking;
-    let issuer = importer.as_str();
+    let issuer = path.as_str();
     match binding_of_name(alloc, manifest, owner, name)? {
         Binding::Bound(locator) => Ok(locator),
         Binding::MissingPeer => {

@@ -15,7 +15,7 @@ use Rattle.session_report.specs.declared.step.Step.TheVariants.{Ask, Put, Remove
 
 -- the step that is taken in a session
 abbrev pub taken : Step → session.Step
-taken (Ask request) = session.Ask request.from request.specifier
+taken (Ask request) = session.Ask request.importer request.specifier
 taken (Put file) =
     session.Put file.path (record { content = file.content; canonical = file.canonical })
 taken (Remove path) = session.Remove path
@@ -55,7 +55,7 @@ put_value s path (Some NoMemory) = null
 -- the line of a step, by the session before it: of an ask that of the verdict on the tree as it is then
 abbrev pub step_line : Session → Step → List ℕ
 step_line s (Ask request) =
-    verdict_line (outcome_on s.tree.files s.project request.from request.specifier).verdict
+    verdict_line (outcome_on s.tree.files s.project request.importer request.specifier).verdict
 step_line s (Put file) =
     line_of (put_value s file.path (refusal s.tree.files file.path file.canonical))
 step_line s (Remove path) =

@@ -1,4 +1,5 @@
 -- What is written for a session document: a line for each of its steps.
+-- A `do` here is over results: it goes on with what a step gives, and ends by the first error.
 use Rattle.std.specs.Prelude.{ℕ, List, [], Result, Ok, Err}
 use Rattle.tree_core.specs.Tree.{Files}
 use Rattle.resolve_stack.specs.Settings.{ProjectSettings}

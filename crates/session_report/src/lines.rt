@@ -8,7 +8,7 @@ ghost use Rattle.session_report.specs.Lines.{conflict_value, dropped_value, line
 ghost use Rattle.session_report.specs.declared.step.Step.TheVariants as step;
 
 use crate::step::Step;
-use document_core::{GivenFile, Request};
+use document_core::{GivenFile, GivenRequest};
 use report_core::line_of_verdict;
 use serde_json::{Value, json};
 use session_core::Session;
@@ -47,13 +47,17 @@ fn line_of(alloc: Global, session: &mut Session<'_>, step: &Step) -> Result<Stri
 }
 
 // Asks a request: the line is that of its verdict.
-fn ask(alloc: Global, session: &mut Session<'_>, request: &Request) -> Result<String, AllocError>
+fn ask(
+    alloc: Global,
+    session: &mut Session<'_>,
+    request: &GivenRequest,
+) -> Result<String, AllocError>
     ensures line { IfOk result (λ line. string_bytes line
         ≡ step_line (state_of session.old) (step.Ask request.now)) }
     ensures taken { OnOk result (state_of session.new
         ≡ after_step (state_of session.old) (taken (step.Ask request.now))) }
 {
-    let outcome = session.ask(&request.from, request.specifier.as_str())?;
+    let outcome = session.ask(&request.importer, request.specifier.as_str())?;
     line_of_verdict(alloc, &outcome.verdict)
 }
 

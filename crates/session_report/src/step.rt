@@ -6,7 +6,7 @@ ghost use Rattle.json_reading.specs.Reading.{ReadsAs};
 ghost use Rattle.session_report.specs.Given.{step_in};
 ghost use Rattle.session_report.specs.declared.step.Step.TheVariants as step;
 
-use document_core::{GivenFile, Request};
+use document_core::{GivenFile, GivenRequest};
 use json_reading::{FromJson, FromJsonError, JsonValue};
 use std::alloc::Global;
 use sugar_path::Text;
@@ -15,7 +15,7 @@ use sugar_path::Text;
 #[derive(Drop)]
 pub enum Step {
     /// A request is asked.
-    Ask(Request),
+    Ask(GivenRequest),
     /// A file is put.
     Put(GivenFile),
     /// The file at a path is taken out.
@@ -59,7 +59,7 @@ fn step_in<J: JsonValue>(
 fn ask_in<J: JsonValue>(alloc: Global, request: &J) -> Result<Step, FromJsonError>
     ensures { ReadsAs result (option_map step.Ask (request_of (J.stands_for request.now))) }
 {
-    Ok(Step::Ask(Request::from_json(alloc, request)?))
+    Ok(Step::Ask(GivenRequest::from_json(alloc, request)?))
 }
 
 fn put_in<J: JsonValue>(alloc: Global, file: &J) -> Result<Step, FromJsonError>
