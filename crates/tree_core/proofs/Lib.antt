@@ -15,3 +15,4 @@ pub mod MemoryReplies
 pub mod RowOrders
 pub mod RowLaws
 pub mod RowCalls
+pub mod Tellings

@@ -1,10 +1,9 @@
 -- The first of a list of paths that a tree has, and the questions up to it, as plain functions of the tree.
-use Rattle.std.specs.Prelude.{Bool, ◌||◌, if◌then◌else◌, ℕ, List, [], ◌∷◌, Option, Some, None, option_map}
-use Rattle.std.specs.FinMap.{get}
+use Rattle.std.specs.Prelude.{Bool, ◌||◌, if◌then◌else◌, ℕ, List, [], ◌∷◌, Option, Some, None}
 use Rattle.tree_core.specs.declared.question.Question.{Question}
 use Rattle.tree_core.specs.declared.question.Question.TheVariants.{File, Exists}
 use Rattle.sugar_path.specs.Path.{Path, text_of}
-use Rattle.tree_core.specs.Tree.{Files, is_file, is_folder}
+use Rattle.tree_core.specs.Tree.{Files, bytes_at, is_file, is_folder}
 
 abbrev pub is_key : Files → Path → Bool
 is_key t p = is_file t (text_of p)
@@ -34,4 +33,4 @@ up_to_first_there t (p ∷ ps) = Exists (text_of p) ∷ (if is_there t p then []
 
 -- the bytes of a file
 abbrev pub content_of : Files → Path → Option (List ℕ)
-content_of t p = option_map (λ f. f.content) (get t (text_of p))
+content_of t p = bytes_at t (text_of p)

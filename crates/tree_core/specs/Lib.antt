@@ -6,6 +6,8 @@ pub mod Plan
 pub mod Asks
 pub mod Resolving
 pub mod First
+pub mod Told
+pub mod ToldRows
 pub mod Rows
 pub mod Results
 pub mod RecorderView

@@ -1,7 +1,10 @@
 // A tree in memory, which stands for exactly its files.
-ghost use Rattle.std.specs.Prelude.{◌≡◌, ◌≢◌, ◌++◌, ◌∷◌, ◌+◌, ◌<◌, ◌≤◌, [], false, None, Some, IsOk, OnOk, OnErr, IfOk, IfErr, IfNone, IsTrue, IfSome, if◌then◌else◌, ◌||◌, is_some, nat_eq, length, option_map, string_bytes, string_capacity};
+ghost use Rattle.std.specs.Prelude.{◌≡◌, ◌≢◌, ◌++◌, ◌∷◌, ◌+◌, ◌<◌, ◌≤◌, ◌||◌, if◌then◌else◌, [], false, None, Some};
+ghost use Rattle.std.specs.Prelude.{IsOk, OnOk, OnErr, IfOk, IfErr, IfNone, IsTrue, IfSome};
+ghost use Rattle.std.specs.Prelude.{is_some, nat_eq, length, option_map, string_bytes, string_capacity};
 ghost use Rattle.std.specs.FinMap as map;
 ghost use Rattle.std.specs.List.{find, starts_with};
+ghost use Rattle.std.specs.Option.{option_copied};
 ghost use Rattle.std.specs.Ordering.{nat_cmp};
 ghost use Rattle.std.specs.Cmp.Lexicographic.{slice_cmp};
 ghost use Rattle.sugar_path.specs.Path.{IsCleanPath};
@@ -9,7 +12,8 @@ ghost use Rattle.std.specs.declared.cmp.Ordering.TheVariants.{Less};
 ghost use Rattle.tree_core.specs.Before.{HasNoLater, SharesNoFile};
 ghost use Rattle.tree_core.specs.Memory.{files_of, conflict, refusal, with_file, NoneAbove, HasBelow, IsReplied};
 ghost use Rattle.tree_core.specs.declared.memory.PutError.TheVariants.{Conflict, NoMemory};
-ghost use Rattle.tree_core.specs.Tree.{IsValidTree, one_more, is_root_text, is_file, is_folder, is_file_path, stands_above};
+ghost use Rattle.tree_core.specs.Tree.{IsValidTree, bytes_at, one_more, is_root_text, is_file, is_folder, is_file_path};
+ghost use Rattle.tree_core.specs.Tree.{stands_above};
 ghost use Rattle.tree_core.specs.declared.question.Question.TheVariants.{File, Dir, Exists, Read, Canon};
 ghost use Rattle.tree_core.specs.declared.question.Reply.TheVariants.{Flag, Bytes as BytesReply, Name};
 
@@ -179,6 +183,16 @@ impl MemoryTree {
         ensures valid { IsValidTree self.new.files }
     {
         self.files.remove(path).is_some()
+    }
+
+    /// The bytes of the file at a path, where there is one. That is no question: none is counted.
+    pub fn file(&self, path: &str) -> Option<&[u8]>
+        ensures { option_copied result ≡ bytes_at self.now.files path.now }
+    {
+        match self.files.get(path) {
+            Some(file) => Some(file.content.as_slice()),
+            None => None,
+        }
     }
 
     /// This tree, but it refuses the questions with these numbers. The first question has the number 1.
