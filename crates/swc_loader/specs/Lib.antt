@@ -7,12 +7,14 @@ pub mod Entry
 pub mod Search
 pub mod SearchOnTree
 pub mod Walk
+pub mod WalkOnTree
 pub mod Specifier
 pub mod Settings
 pub mod Spelling
 pub mod BrowserRules
 pub mod BrowserRulesOnTree
 pub mod Located
+pub mod LocatedOnTree
 pub mod NodeRows
 pub mod NodeOrder
 pub mod NodeOnTree

@@ -18,3 +18,8 @@ AreReadings kept =
 abbrev pub IsReadAt : List (List ℕ × Option Value) → ℕ → List ℕ → Type 0
 IsReadAt kept place bytes =
     (value : Option Value) × (slice_get (map (λ e. e.1) kept) place ≡ Some value) × IsReadingOf bytes value
+
+-- what is kept now for bytes was kept for them before
+abbrev pub AreKeptOf : {A : Type 0} → List (List ℕ × A) → List (List ℕ × A) → Type 0
+AreKeptOf {A = A} before now =
+    (bytes : List ℕ) (value : A) → lookup (bytes_eq bytes) now ≡ Some value → lookup (bytes_eq bytes) before ≡ Some value

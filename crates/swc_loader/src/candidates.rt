@@ -3,7 +3,8 @@ ghost use Rattle.std.specs.Prelude.{◌≡◌, ◌++◌, ◌∷◌, true, false,
 ghost use Rattle.sugar_path.specs.Path.{IsName, has_no_slash};
 ghost use Rattle.tree_core.specs.Asks.{Asks};
 ghost use Rattle.tree_core.specs.Plan.{first_file};
-ghost use Rattle.swc_loader.specs.Candidates.{has_extension, extension, stem, with_endings, itself, in_folder, candidates_at};
+ghost use Rattle.swc_loader.specs.Candidates.{has_extension, extension, stem};
+ghost use Rattle.swc_loader.specs.Candidates.{with_endings, itself, in_folder, candidates_at};
 ghost use Rattle.swc_loader.specs.Endings.{is_ending, AreEndings};
 
 use crate::Conventions;
@@ -82,7 +83,8 @@ fn itself_if_closed<R: Asker>(
     Ok(None)
 }
 
-// The first of a base with each ending that is a file. One path is built, and each ending is pushed onto it and cut off again.
+// The first of a base with each ending that is a file. One path is built, and each ending is pushed onto it and cut off
+// again.
 pub(crate) fn first_with_ending<R: Asker>(
     alloc: Global,
     tree: &mut R,

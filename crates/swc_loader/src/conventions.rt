@@ -1,8 +1,8 @@
 // What other resolvers let their users set and this order fixes.
 use std::marker::Model;
 
-/// What other resolvers let their users set and this order fixes: endings, main fields, index files, and the first look from the
-/// working folder. Lists stand in the order in which they are tried.
+/// What other resolvers let their users set and this order fixes: endings, main fields, index files, and the first look
+/// from the working folder. Lists stand in the order in which they are tried.
 #[derive(Drop)]
 pub struct Conventions {
     endings: &'static [&'static str],

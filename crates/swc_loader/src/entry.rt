@@ -4,7 +4,8 @@ ghost use Rattle.std.specs.List.{list_all};
 ghost use Rattle.std.specs.Option.{option_copied};
 ghost use Rattle.serde_json.specs.View.{view, members_view};
 ghost use Rattle.serde_json.specs.Find.{get};
-ghost use Rattle.swc_loader.specs.Entry.{entry, package_in, if_readable, is_readable, is_text_or_nothing, is_browser_field, text_at, first_text, entry_text};
+ghost use Rattle.swc_loader.specs.Entry.{entry, package_in, if_readable, is_readable, is_text_or_nothing};
+ghost use Rattle.swc_loader.specs.Entry.{is_browser_field, text_at, first_text, entry_text};
 ghost use Rattle.swc_loader.specs.Entry as of;
 
 use crate::{Conventions, Readings, TargetEnv};
@@ -24,7 +25,8 @@ pub enum PackageEntry {
     At(Text),
 }
 
-/// The entry that the content of a package.json names; a content that is missing, as of a file that can't be read, is malformed.
+/// The entry that the content of a package.json names; a content that is missing, as of a file that can't be read, is
+/// malformed.
 pub fn entry_of(
     alloc: Global,
     readings: &mut Readings,

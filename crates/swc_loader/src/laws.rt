@@ -1,9 +1,10 @@
 // What the searches come to on each tree, and which questions they put. The calls have it by their contracts.
 ghost use Rattle.swc_loader.specs.SearchOnTree.{FolderOnTree, PlaceOnTree, PlainPlaceOnTree};
-ghost use Rattle.swc_loader.specs.Walk.{WalkOnTree};
-ghost use Rattle.swc_loader.specs.Located.{LocatedOnTree};
+ghost use Rattle.swc_loader.specs.WalkOnTree.{WalkOnTree};
+ghost use Rattle.swc_loader.specs.LocatedOnTree.{LocatedOnTree};
 ghost use Rattle.swc_loader.specs.BrowserRulesOnTree.{RulesOnTree, RuleOnTree};
-ghost use Rattle.swc_loader.specs.NodeOnTree.{NameOnTree, AnswerOnTree, BeforeSearchOnTree, NodeSearchOnTree, NodeOnTree};
+ghost use Rattle.swc_loader.specs.NodeOnTree.{NameOnTree, AnswerOnTree, BeforeSearchOnTree};
+ghost use Rattle.swc_loader.specs.NodeOnTree.{NodeSearchOnTree, NodeOnTree};
 
 /// The search of a folder, said as a function of the tree, with its questions.
 pub fn folder_on_tree()

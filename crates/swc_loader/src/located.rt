@@ -1,8 +1,8 @@
 // The search at the location of a package.
-ghost use Rattle.std.specs.Prelude.{◌≡◌, IfOk, string_bytes};
+ghost use Rattle.std.specs.Prelude.{◌≡◌, IfOk, Some, string_bytes};
 ghost use Rattle.std.specs.Option.{option_copied};
 ghost use Rattle.tree_core.specs.Resolving.{Resolves};
-ghost use Rattle.swc_loader.specs.Located.{behind, searched, whole, inside, resolve_at, if_same};
+ghost use Rattle.swc_loader.specs.Located.{behind, searched, whole, inside, resolve_at};
 
 use crate::browser_rules::ruled_file;
 use crate::search::{folder, place};
@@ -34,10 +34,7 @@ pub(crate) fn search_at<R: Asker>(
 {
     match subpath {
         None => search_whole(alloc, tree, readings, resolver, location),
-        Some(subpath) => {
-            let text = text_behind(alloc, location, subpath)?;
-            search_behind(alloc, tree, readings, resolver, location, text.as_str())
-        }
+        Some(subpath) => search_behind(alloc, tree, readings, resolver, location, subpath),
     }
 }
 
@@ -57,18 +54,20 @@ fn search_whole<R: Asker>(
     placed_file(alloc, tree, readings, resolver, location.as_str(), found)
 }
 
-// The search by the text behind a location, which may mean the location itself.
+// The search behind a location, which may be that of the location itself.
 fn search_behind<R: Asker>(
     alloc: Global,
     tree: &mut R,
     readings: &mut Readings,
     resolver: &NodeModulesResolver,
     location: &CleanPath,
-    text: &str,
+    subpath: &str,
 ) -> Result<Placed, ResolveError<NodeRefusal>>
     ensures { Resolves (R.asking tree.old) (R.asking tree.new) result
-        (if_same resolver.now location.now text.now) }
+        (resolve_at resolver.now location.now (Some subpath.now)) }
 {
+    let behind = text_behind(alloc, location, subpath)?;
+    let text = behind.as_str();
     let at = CleanPath::read(alloc, &CleanPath::root(alloc), text)?;
     if at == *location {
         return search_whole(alloc, tree, readings, resolver, location);
@@ -103,8 +102,8 @@ pub(crate) fn placed_file<R: Asker>(
     }
 }
 
-// The text behind a location, taken by the letter.
-fn text_behind(alloc: Global, location: &CleanPath, subpath: &str) -> Result<String, AllocError>
+/// The text of a subpath behind a location, taken by the letter.
+pub fn text_behind(alloc: Global, location: &CleanPath, subpath: &str) -> Result<String, AllocError>
     ensures { IfOk result (λ s. string_bytes s ≡ behind location.now subpath.now) }
 {
     let mut text = String::from_str(alloc, location.as_str())?;

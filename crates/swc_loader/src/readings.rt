@@ -2,7 +2,7 @@
 ghost use Rattle.std.specs.Prelude.{◌≡◌, IfOk, option_map};
 ghost use Rattle.serde_json.specs.View.{view};
 ghost use Rattle.json_reading.specs.Bytes.{json_of};
-ghost use Rattle.swc_loader.specs.Readings.{AreReadings, IsReadAt};
+ghost use Rattle.swc_loader.specs.Readings.{AreKeptOf, AreReadings, IsReadAt};
 
 use indexmap::IndexMap;
 use json_reading::{FromJsonError, read_json};
@@ -14,8 +14,9 @@ use sugar_path::Bytes;
 // How many contents are kept.
 const MOST: usize = 128;
 
-/// What the contents of package.jsons were parsed to, so that a content that several rows or requests read is parsed once. They
-/// change no answer: contracts see nothing of what is kept. A content that is one too many takes the place of all of them.
+/// What the contents of package.jsons were parsed to, so that a content that several rows or requests read is parsed
+/// once. They change no answer: contracts see nothing of what is kept. A content that is one too many takes the place of
+/// all of them.
 #[derive(Drop)]
 pub struct Readings {
     kept: IndexMap<Bytes, Option<Value>>,
@@ -39,12 +40,9 @@ impl Readings {
         }
     }
 
-    // The value that a content is, where it is JSON. Only a new content is parsed. Where memory is wanting, it isn't kept.
-    pub(crate) fn value_of(
-        &mut self,
-        alloc: Global,
-        content: Bytes,
-    ) -> Result<Option<&Value>, AllocError>
+    /// The value that a content is, where it is JSON. Only a new content is parsed. Where memory is wanting, it isn't
+    /// kept.
+    pub fn value_of(&mut self, alloc: Global, content: Bytes) -> Result<Option<&Value>, AllocError>
         ensures { IfOk result (λ found. option_map (λ v. view v.now) found ≡ json_of content) }
     {
         let place = place_of(alloc, &mut self.kept, content)?;
@@ -74,10 +72,9 @@ fn place_of(
     Ok(place)
 }
 
-// Where no more contents are to be kept, all go.
-fn make_room(kept: &mut IndexMap<Bytes, Option<Value>>)
-    requires { AreReadings kept.old.entries }
-    ensures { AreReadings kept.new.entries }
+/// Makes room for one more content: where no more are to be kept, all go. What stays is what was kept.
+pub fn make_room<V: Drop>(kept: &mut IndexMap<Bytes, V>)
+    ensures { AreKeptOf kept.old.entries kept.new.entries }
 {
     if kept.len() >= MOST {
         kept.clear();

@@ -14,8 +14,8 @@ use std::marker::Model;
 use sugar_path::{CleanPath, List, Text};
 use tree_core::{Asker, ReadError, ResolveError};
 
-/// A resolver of Node's modules: relative and absolute paths, builtin modules, aliases, packages in `node_modules`, and for
-/// browsers the rules of their `browser` maps.
+/// A resolver of Node's modules: relative and absolute paths, builtin modules, aliases, packages in `node_modules`, and
+/// for browsers the rules of their `browser` maps.
 #[derive(Drop)]
 pub struct NodeModulesResolver {
     cwd: CleanPath,
@@ -122,8 +122,8 @@ impl NodeModulesResolver {
         search_at(alloc, tree, readings, self, location, subpath)
     }
 
-    /// What is told of a file that was found: the file, the one that a rule for browsers puts in its place, or its path as a name
-    /// where a rule ignores it.
+    /// What is told of a file that was found: the file, the one that a rule for browsers puts in its place, or its path
+    /// as a name where a rule ignores it.
     pub fn rewrite_at<R: Asker>(
         &self,
         alloc: Global,
@@ -180,8 +180,8 @@ impl NodeModulesResolver {
         rule_for(alloc, tree, readings, self, importer, &about)
     }
 
-    /// The rules of the `browser` map in a folder's package.json, in the byte order of their keys. For the target Node there
-    /// are none, and nothing is asked.
+    /// The rules of the `browser` map in a folder's package.json, in the byte order of their keys. For the target Node
+    /// there are none, and nothing is asked.
     pub fn rules_at<R: Asker>(
         &self,
         alloc: Global,
@@ -200,8 +200,8 @@ impl NodeModulesResolver {
         }
     }
 
-    /// The name that a file is answered by: its canonical name, or, where links are preserved, its path, from the working
-    /// folder where it is asked for so.
+    /// The name that a file is answered by: its canonical name, or, where links are preserved, its path, from the
+    /// working folder where it is asked for so.
     pub fn answer_file<R: Asker>(
         &self,
         alloc: Global,

@@ -4,7 +4,8 @@ ghost use Rattle.sugar_path.specs.Path.{join, text_of};
 ghost use Rattle.tree_core.specs.Asks.{Asks};
 ghost use Rattle.tree_core.specs.Plan.{first_file};
 ghost use Rattle.swc_loader.specs.Candidates.{files_at};
-ghost use Rattle.swc_loader.specs.Search.{package_file, index_files, places_at, entry_places, packaged, place_at, first_found};
+ghost use Rattle.swc_loader.specs.Search.{package_file, index_files, places_at, entry_places};
+ghost use Rattle.swc_loader.specs.Search.{packaged, place_at, first_found};
 ghost use Rattle.swc_loader.specs.Search.{folder as folder_plan};
 
 use crate::candidates::{candidate_file, first_with_ending};

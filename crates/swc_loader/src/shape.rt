@@ -27,6 +27,13 @@ pub(crate) fn shape_of(text: &str) -> Shape
     Shape { named, closed }
 }
 
+/// Whether a text may name a file itself: what follows its last `/` is neither empty nor `.` or `..`.
+pub fn is_closed(text: &str) -> bool
+    ensures { result ≡ is_closed text.now }
+{
+    shape_of(text).closed
+}
+
 // A part that is neither empty nor `.`.
 fn is_step(part: &str) -> bool
     ensures { result ≡ is_step part.now }

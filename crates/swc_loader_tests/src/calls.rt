@@ -8,7 +8,7 @@ use std::test::Fail;
 use sugar_path::{Bytes, CleanPath, Text};
 use swc_loader::{
     Conventions, FileName, Importer, NodeModulesResolver, Readings, SearchContext, TargetEnv,
-    entry_of, folder, is_bare, place, to_absolute_path,
+    entry_of, folder, is_bare, is_closed, place, to_absolute_path,
 };
 use tree_core::{MemoryTree, Recorder};
 
@@ -18,6 +18,7 @@ pub(crate) fn tell_text_call(alloc: Global, out: &mut String, call: &str) -> Res
     match name {
         "entry_of:" => tell_entries(alloc, out, text.as_bytes())?,
         "is_bare:" => out.push_str(if is_bare(text) { "yes" } else { "no" })?,
+        "is_closed:" => out.push_str(if is_closed(text) { "yes" } else { "no" })?,
         "to_absolute_path:" => tell_absolute_path(alloc, out, text)?,
         _ => return Err(Fail::from("no call")),
     }

@@ -88,6 +88,13 @@ is_bare: . = no
 is_bare: ./q = no
 is_bare: ../q = no
 is_bare: /q = no
+# what may name a file itself
+is_closed: q = yes
+is_closed: ../q.js = yes
+is_closed: q/ = no
+is_closed: q/. = no
+is_closed: q/.. = no
+is_closed:  = no
 # paths, read from `/w`
 to_absolute_path: ./a//b = /w/a/b
 to_absolute_path: a/../b/ = /w/b

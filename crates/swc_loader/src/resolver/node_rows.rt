@@ -22,6 +22,13 @@ use std::alloc::{AllocError, Global};
 use sugar_path::{CleanPath, Text};
 use tree_core::{Asker, ReadError, ResolveError, is_node_builtin};
 
+// What a row searches: its target, and whether a file that is found is told from the working folder.
+#[derive(Clone, Copy)]
+struct Sought<'t> {
+    target: &'t str,
+    relative: bool,
+}
+
 impl NodeModulesResolver {
     /// The node rows, one after the other.
     pub fn node_order<R: Asker>(
@@ -263,7 +270,11 @@ impl NodeModulesResolver {
         let at = CleanPath::read(alloc, &CleanPath::root(alloc), target)?;
         let context = self.context();
         let found = place(alloc, tree, readings, &context, target, &at)?;
-        self.told(alloc, tree, readings, target, false, found)
+        let sought = Sought {
+            target,
+            relative: false,
+        };
+        self.told(alloc, tree, readings, &sought, found)
     }
 
     // A target behind the folder of the importer.
@@ -285,7 +296,8 @@ impl NodeModulesResolver {
         let context = self.context();
         let found = place(alloc, tree, readings, &context, text.as_str(), &at)?;
         let relative = !importer.text.starts_with('/');
-        self.told(alloc, tree, readings, target, relative, found)
+        let sought = Sought { target, relative };
+        self.told(alloc, tree, readings, &sought, found)
     }
 
     // A target in the `node_modules` of the folder of the importer, or of one above.
@@ -308,7 +320,11 @@ impl NodeModulesResolver {
             Some(file) => Searched::File(file),
             None => Searched::Nothing,
         };
-        self.told(alloc, tree, readings, target, true, found)
+        let sought = Sought {
+            target,
+            relative: true,
+        };
+        self.told(alloc, tree, readings, &sought, found)
     }
 
     // What a search by a target comes to: a file by the rules for it.
@@ -317,19 +333,18 @@ impl NodeModulesResolver {
         alloc: Global,
         tree: &mut R,
         readings: &mut Readings,
-        target: &str,
-        relative: bool,
+        sought: &Sought<'_>,
         found: Searched,
     ) -> Result<Resolution, ResolveError<NodeRefusal>>
         ensures { Resolves (R.asking tree.old) (R.asking tree.new) result
-            (rows.told self.now target.now relative found) }
+            (rows.told self.now sought.now.target.now sought.now.relative found) }
     {
-        match placed_file(alloc, tree, readings, self, target, found)? {
+        match placed_file(alloc, tree, readings, self, sought.target, found)? {
             Placed::File { path, rewritten } => {
                 let relative = if rewritten {
                     path.is_below(self.cwd())
                 } else {
-                    relative
+                    sought.relative
                 };
                 Ok(self.answer(alloc, tree, None, path, relative)?)
             }

@@ -2,7 +2,7 @@ use Rattle.std.proofs.Common.{◌≡◌, refl, lit<}
 use Rattle.sugar_path.specs.Path.{is_absolute}
 use Rattle.tree_core.specs.Resolving.{resolving}
 use Rattle.tree_core.specs.Rows.{never_refuses}
-use Rattle.tree_core.proofs.Asking.{asks_then, asks_as, asks_done, asks_fails_in, asks_starved_in}
+use Rattle.tree_core.proofs.Asking.{asks_then, asks_as, asks_done, asks_fails_in}
 use Rattle.swc_loader.specs.declared.resolution.FileName.TheVariants.{Real}
 use Rattle.swc_loader.proofs.NodeOrders.{by_target, asks_node}
 use Rattle.swc_loader.proofs.resolver.NodeModulesResolver.node_order_from.Goals as goal

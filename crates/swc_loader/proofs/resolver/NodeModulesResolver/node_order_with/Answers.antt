@@ -1,5 +1,3 @@
-use Rattle.std.proofs.Common.{◌≡◌}
-use Rattle.sugar_path.specs.Path.{clean}
 use Rattle.tree_core.specs.Resolving.{resolving}
 use Rattle.tree_core.proofs.Asking.{asks_starved_in}
 use Rattle.swc_loader.proofs.NodeOrders.{no_path}
