@@ -13,7 +13,7 @@ use crate::{Manifest, PackageDependency, PackageInformation, PackageLocator, Reg
 use indexmap::{IndexMap, IndexSet};
 use std::alloc::{AllocError, Global};
 use std::hash::Hash;
-use sugar_path::Text;
+use sugar_path::{CleanPath, Text};
 
 impl Manifest {
     /// An equal manifest. Its own trie is made of its rows.
@@ -41,6 +41,15 @@ fn copied_pattern(alloc: Global, pattern: &Option<RegexDef>) -> Result<Option<Re
     match pattern {
         None => Ok(None),
         Some(RegexDef(pattern)) => Ok(Some(RegexDef(pattern.try_clone(alloc)?))),
+    }
+}
+
+fn copied_place(alloc: Global, place: &Option<CleanPath>) -> Result<Option<CleanPath>, AllocError>
+    ensures { IfOk result (λ copy. copy ≡ place.now) }
+{
+    match place {
+        None => Ok(None),
+        Some(place) => Ok(Some(place.try_clone(alloc)?)),
     }
 }
 
@@ -95,6 +104,7 @@ impl Bound for PackageInformation {
     fn copied(&self, alloc: Global) -> Result<PackageInformation, AllocError> {
         Ok(PackageInformation {
             package_location: self.package_location.try_clone(alloc)?,
+            package_place: copied_place(alloc, &self.package_place)?,
             discard_from_lookup: self.discard_from_lookup,
             package_dependencies: copied_map(alloc, &self.package_dependencies)?,
         })

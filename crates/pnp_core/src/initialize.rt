@@ -12,10 +12,13 @@ ghost use Rattle.pnp_core.specs.Trie.{value_at};
 
 use crate::normalize::{location, text_with_end, with_room};
 use crate::registry::package_of;
-use crate::{Manifest, PackageDependency, PackageInformation, PackageLocator, Trie};
+use crate::{
+    Manifest, PackageDependency, PackageInformation, PackageLocator, Trie, physical_place,
+};
 use indexmap::IndexMap;
 use memchr::memchr;
 use std::alloc::{AllocError, Global};
+use std::marker::Model;
 use sugar_path::{CleanPath, Text, is_clean};
 
 /// Gives a manifest that was read the path of its file: sets its folder and its path, reads its locations from the folder,
@@ -49,12 +52,40 @@ pub fn init_pnp_manifest(alloc: Global, manifest: &mut Manifest, p: &str) -> Res
     Ok(())
 }
 
+// The location of a row, and its physical place. It is seen as its text.
+#[derive(Drop)]
+struct RowLocation {
+    text: Text,
+    place: Option<CleanPath>,
+}
+
+impl Model for RowLocation {
+    ghost use Rattle.std.specs.Prelude.{◌≡◌};
+    ghost use Rattle.std.specs.Prelude as prelude;
+    ghost use Rattle.pnp_core.specs.PhysicalPlace.{physical_place};
+
+    ghost Value = { prelude.List prelude.ℕ };
+
+    ghost view = { λ l. l.text };
+
+    ghost invariant = { λ l. l.place ≡ physical_place l.text };
+}
+
+impl RowLocation {
+    fn of(alloc: Global, text: Text) -> Result<RowLocation, AllocError>
+        ensures { IfOk result (λ location. location ≡ text) }
+    {
+        let place = physical_place(alloc, text.as_str())?;
+        Ok(RowLocation { text, place })
+    }
+}
+
 // Where each row's package stands, by name, and the locator of the last row at each location, of those that aren't discarded.
 fn located(
     alloc: Global,
     folder: &str,
     registry: &IndexMap<Text, IndexMap<Text, PackageInformation>>,
-) -> Result<(Vec<Vec<Text>>, Trie<PackageLocator>), AllocError>
+) -> Result<(Vec<Vec<RowLocation>>, Trie<PackageLocator>), AllocError>
     requires { IsTrue (is_absolute folder.now) }
     ensures locations { IfOk result (λ made.
         map (λ locations. locations.items) made.0.items
@@ -79,7 +110,7 @@ fn locate_rows(
     folder: &str,
     name: &Text,
     references: &IndexMap<Text, PackageInformation>,
-) -> Result<Vec<Text>, AllocError>
+) -> Result<Vec<RowLocation>, AllocError>
     requires { IsTrue (is_absolute folder.now) }
     ensures locations { IfOk result (λ found.
         found.items ≡ locations_of folder.now references.now.entries) }
@@ -103,7 +134,7 @@ fn locate_row(
     name: &Text,
     reference: &Text,
     row: &PackageInformation,
-) -> Result<Text, AllocError>
+) -> Result<RowLocation, AllocError>
     requires { IsTrue (is_absolute folder.now) }
     ensures location { IfOk result (λ text.
         text ≡ normalize_path (join folder.now row.now.package_location)) }
@@ -112,16 +143,17 @@ fn locate_row(
         → value_at trie.new l
         ≡ overlaid ((locator name.now reference.now, located folder.now row.now) ∷ []) trie.old l) }
 {
-    let (location, text) = located_at(alloc, folder, row.package_location.as_str())?;
+    let (path, text) = located_at(alloc, folder, row.package_location.as_str())?;
+    let location = RowLocation::of(alloc, text)?;
     if row.discard_from_lookup {
-        return Ok(text);
+        return Ok(location);
     }
     let locator = PackageLocator {
         name: name.try_clone(alloc)?,
         reference: reference.try_clone(alloc)?,
     };
-    match trie.insert_at(location, locator) {
-        Ok(()) => Ok(text),
+    match trie.insert_at(path, locator) {
+        Ok(()) => Ok(location),
         Err((_, e)) => Err(e),
     }
 }
@@ -292,7 +324,7 @@ fn fill(
 // Sets the locations of all rows.
 fn place_all(
     registry: &mut IndexMap<Text, IndexMap<Text, PackageInformation>>,
-    mut locations: Vec<Vec<Text>>,
+    mut locations: Vec<Vec<RowLocation>>,
 )
     ensures { map (λ named. (named.0, named.1.entries)) registry.new.entries
         ≡ changed (changed placed)
@@ -307,12 +339,21 @@ fn place_all(
 }
 
 // Sets the locations of the rows of one name.
-fn place(references: &mut IndexMap<Text, PackageInformation>, mut locations: Vec<Text>)
+fn place(references: &mut IndexMap<Text, PackageInformation>, mut locations: Vec<RowLocation>)
     ensures { references.new.entries ≡ changed placed references.old.entries locations.items }
 {
     while let Some(location) = locations.pop() {
         if let Some(package) = references.get_index_mut(locations.len()) {
-            package.package_location = location;
+            relocate(package, location);
         }
     }
+}
+
+// Sets the location of a row, with its place.
+fn relocate(row: &mut PackageInformation, location: RowLocation)
+    ensures { row.new ≡ placed row.old location }
+{
+    let RowLocation { text, place } = location;
+    row.package_location = text;
+    row.package_place = place;
 }

@@ -44,7 +44,9 @@ pub use normalize::normalize_path;
 pub use owner::{find_locator, owner_of};
 pub use payload::payload_of;
 pub use readers::read_manifest;
-pub use registry::{get_package, has_package, is_dependency_tree_root, is_excluded_from_fallback};
+pub use registry::{
+    get_package, has_package, is_dependency_tree_root, is_excluded_from_fallback, package_place,
+};
 pub use trie::Trie;
 pub use undeclared::undeclared_of;
 pub use unqualified::{Resolution, resolve_to_unqualified_via_manifest};

@@ -38,11 +38,11 @@ pub fn load_pnp_manifest<'t, T: Tree>(
     let path = CleanPath::of(alloc, p)?;
     match loaded_manifest(alloc, tree, &path) {
         Ok(manifest) => Ok(manifest),
-        Err(ResolveError::Refused(cause)) => Err(Error::FailedManifestHydration(failed_hydration(
-            alloc, cause, &path,
-        )?)),
-        Err(ResolveError::TreeFault) => Err(Error::TreeFault),
-        Err(ResolveError::NoMemory) => Err(Error::NoMemory),
+        Err(error) => {
+            let cause = error.refusal()?;
+            let failed = failed_hydration(alloc, cause, &path)?;
+            Err(Error::FailedManifestHydration(failed))
+        }
     }
 }
 

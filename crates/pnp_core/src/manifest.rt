@@ -4,7 +4,7 @@ use es_pattern::Pattern;
 use indexmap::{IndexMap, IndexSet};
 use std::alloc::{AllocError, Global};
 use std::marker::Model;
-use sugar_path::Text;
+use sugar_path::{CleanPath, Text};
 
 /// A package by its name and its reference. The top-level package has both texts empty.
 #[derive(Debug, PartialEq, Eq, Hash, Drop)]
@@ -49,6 +49,8 @@ pub enum PackageDependency {
 #[derive(Drop)]
 pub struct PackageInformation {
     pub package_location: Text,
+    /// The physical place of the location, as `physical_place` answers it. It is read once for all requests.
+    pub package_place: Option<CleanPath>,
     pub discard_from_lookup: bool,
     pub package_dependencies: IndexMap<Text, Option<PackageDependency>>,
 }
@@ -63,6 +65,11 @@ impl Model for PackageInformation {
       discard_from_lookup = p.discard_from_lookup;
       package_dependencies = p.package_dependencies.entries;
     } };
+
+    ghost use Rattle.std.specs.Prelude.{◌≡◌};
+    ghost use Rattle.pnp_core.specs.PhysicalPlace.{physical_place};
+
+    ghost invariant = { λ p. p.package_place ≡ physical_place p.package_location };
 }
 
 /// An ignore pattern.

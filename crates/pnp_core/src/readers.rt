@@ -11,7 +11,7 @@ ghost use Rattle.pnp_core.specs.ManifestReading.{IsReadAs, entries_of, fields_bu
 use crate::entries::{Entries, Members, NullableEntries, name_or_empty};
 use crate::{
     Manifest, PackageDependency, PackageInformation, PackageLocator, ReadManifestError, RegexDef,
-    Trie,
+    Trie, physical_place,
 };
 use es_pattern::Pattern;
 use indexmap::{IndexMap, IndexSet};
@@ -178,8 +178,10 @@ impl FromJson for PackageInformation {
             value,
             "packageDependencies",
         )?;
+        let package_place = physical_place(alloc, package_location.as_str())?;
         Ok(PackageInformation {
             package_location,
+            package_place,
             discard_from_lookup,
             package_dependencies: dependencies.map,
         })

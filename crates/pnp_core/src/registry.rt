@@ -3,8 +3,10 @@ ghost use Rattle.std.specs.Prelude.{◌≡◌, Some, IsTrue};
 ghost use Rattle.std.specs.Option.{option_copied};
 ghost use Rattle.pnp_core.specs.Manifest.{package_at, has_row};
 ghost use Rattle.pnp_core.specs.Binding.{is_root, is_excluded};
+ghost use Rattle.pnp_core.specs.PhysicalPlace.{place_of};
 
 use crate::{Manifest, PackageInformation, PackageLocator};
+use sugar_path::CleanPath;
 
 /// Whether the registry has a row for a locator.
 pub fn has_package(manifest: &Manifest, locator: &PackageLocator) -> bool
@@ -22,6 +24,14 @@ pub fn get_package<'a>(manifest: &'a Manifest, locator: &PackageLocator) -> &'a 
         Some(package) => package,
         None => unreachable!(),
     }
+}
+
+/// The folder of a package's row, where the manifest has one for it and its location lies in no archive.
+pub fn package_place<'m>(manifest: &'m Manifest, locator: &PackageLocator) -> Option<&'m CleanPath>
+    ensures { option_copied result ≡ place_of manifest.now locator.now }
+{
+    let package = package_of(manifest, locator)?;
+    package.package_place.as_ref()
 }
 
 // What the row of a locator says, where there is one.

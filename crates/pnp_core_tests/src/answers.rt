@@ -3,7 +3,7 @@ ghost use Rattle.pnp_core.specs.Owner.{IsReady};
 
 use crate::bindings::bound_told;
 use crate::manifests::ready_from;
-use crate::packages::{is_excluded, is_root, location_told, owner_told};
+use crate::packages::{folder_told, is_excluded, is_root, location_told, owner_told};
 use crate::unqualified::resolved_told;
 use crate::wordings::message_told;
 use pnp_core::Manifest;
@@ -54,6 +54,7 @@ fn answer(alloc: Global, manifest: &Manifest, question: &str, given: &str) -> Re
         "root" => flag_told(alloc, is_root(alloc, manifest, given)?),
         "excluded" => flag_told(alloc, is_excluded(alloc, manifest, given)?),
         "location" => location_told(alloc, manifest, given),
+        "place" => folder_told(alloc, manifest, given),
         "bound" => bound_told(alloc, manifest, given),
         "resolved" => resolved_told(alloc, manifest, given),
         "undeclared" => message_told(alloc, manifest, given, false),

@@ -6,7 +6,7 @@ use crate::answers::{answers, each_answer_comes};
 use crate::manifests::{manifest_text, path, ready_from};
 use pnp_core::{
     Manifest, PackageLocator, find_broken_peer_dependencies, find_locator, get_package,
-    has_package, is_dependency_tree_root, is_excluded_from_fallback, owner_of,
+    has_package, is_dependency_tree_root, is_excluded_from_fallback, owner_of, package_place,
 };
 use std::alloc::Global;
 use std::test::Fail;
@@ -30,6 +30,11 @@ excluded foo@npm:1.0.0 = no
 # rows, and where their packages lie
 location hidden@npm:1.0.0 = /w/.yarn/foo/hidden/
 location hidden@npm:2.0.0 = no row
+# the folders of packages: at a plain location, at a virtual one, inside an archive, and of no row
+place foo@npm:1.0.0 = /w/.yarn/foo
+place peered@virtual:ab#npm:1.0.0 = /w/packages/peered
+place zipped@npm:1.0.0 = no folder
+place hidden@npm:2.0.0 = no folder
 # names by the fallback and the pool
 bound foo@npm:1.0.0 top = top@npm:4.0.0
 bound foo@npm:1.0.0 pooled = pooled@npm:3.0.0
@@ -112,6 +117,15 @@ pub(crate) fn location_told(
     }
     let package = get_package(manifest, &locator);
     Ok(package.package_location.try_clone(alloc)?)
+}
+
+/// The folder of a package.
+pub(crate) fn folder_told(alloc: Global, manifest: &Manifest, package: &str) -> Result<Text, Fail> {
+    let locator = locator(alloc, package)?;
+    match package_place(manifest, &locator) {
+        Some(folder) => Ok(folder.to_text(alloc)?),
+        None => Ok(Text::of(alloc, "no folder")?),
+    }
 }
 
 #[test]
