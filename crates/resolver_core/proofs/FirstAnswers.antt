@@ -11,7 +11,7 @@ use Rattle.resolver_core.specs.declared.pattern.Pattern.TheVariants.{Exact, Wild
 use Rattle.resolver_core.specs.declared.refusal.TsRefusal.{TsRefusal}
 use Rattle.resolver_core.specs.Pattern.{deciding}
 use Rattle.resolver_core.specs.Mapping.{Mapping, Try, Tries, Last, First, Mapped, Passed, Unchecked, OrUnchecked, OrFault, is_in_modules, masked, plain, with_slug, unchecked, here, is_passed, slug_of, with_rest, tries_of, by_targets, by_pattern, mapped, passed, or_unchecked, or_fault}
-use Rattle.resolver_core.specs.MappingOnTree.{Answers, made, tried_on, or_else, first_on, or_more, targets_on, mapped_on, Fails, IsFirstAnswer, listed, all_listed, tries_in, FirstAnswerDecides}
+use Rattle.resolver_core.specs.MappingOnTree.{Tells, answered_by, tried_on, or_next_on, first_on, with_refusal, or_more_on, targets_on, mapped_on, Fails, IsFirstAnswer, listed, all_listed, tries_in, FirstAnswerDecides}
 
 -- a try whose answer tells the same file
 abbrev SameFile : Try → Type 0
@@ -26,7 +26,7 @@ masked-file base s r = by_tests (is_in_modules r.filename) (is_in_modules base)
     by_tests false b = refl
 
 -- the first answer among tries and more behind them
-with_later : {X : Type 0} (inner : Answers X) (xs more : List Try) (r : Resolution) → IsFirstAnswer inner xs r → IsFirstAnswer inner (xs ++ more) r
+with_later : {X : Type 0} (inner : Tells X) (xs more : List Try) (r : Resolution) → IsFirstAnswer inner xs r → IsFirstAnswer inner (xs ++ more) r
 with_later inner xs more r a = record {
   before = a.before;
   by = a.by;
@@ -44,7 +44,7 @@ all-append P [] ys a b = b
 all-append P (x ∷ xs) ys a b = (a.0, all-append P xs ys a.1 b)
 
 -- behind tries that fail
-with_earlier : {X : Type 0} (inner : Answers X) (xs more : List Try) (r : Resolution) → AllByRecursion (Fails inner) xs → IsFirstAnswer inner more r → IsFirstAnswer inner (xs ++ more) r
+with_earlier : {X : Type 0} (inner : Tells X) (xs more : List Try) (r : Resolution) → AllByRecursion (Fails inner) xs → IsFirstAnswer inner more r → IsFirstAnswer inner (xs ++ more) r
 with_earlier inner xs more r fail a = record {
   before = xs ++ a.before;
   by = a.by;
@@ -58,7 +58,7 @@ with_earlier inner xs more r fail a = record {
 }
 
 -- a try that is answered at once
-at_once : {X : Type 0} (inner : Answers X) (x : Try) (later : List Try) (r : Resolution) (o : Result Resolution X) → SameFile x → inner x.base x.specifier ≡ o → made x o ≡ Ok r → IsFirstAnswer inner (x ∷ later) r
+at_once : {X : Type 0} (inner : Tells X) (x : Try) (later : List Try) (r : Resolution) (o : Result Resolution X) → SameFile x → (inner x.base x.specifier).result ≡ o → answered_by x o ≡ Ok r → IsFirstAnswer inner (x ∷ later) r
 at_once inner x later r (Ok a) same is h =
     let e : x.answer (masked x.base x.specifier a) ≡ r = cc in
     record {
@@ -74,29 +74,29 @@ at_once inner x later r (Ok a) same is h =
     }
 at_once inner x later r (Err e) same is h = cc
 
-fails : {X : Type 0} (inner : Answers X) (x : Try) (e : X) (o : Result Resolution X) → inner x.base x.specifier ≡ o → made x o ≡ Err e → Fails inner x
+fails : {X : Type 0} (inner : Tells X) (x : Try) (e : X) (o : Result Resolution X) → (inner x.base x.specifier).result ≡ o → answered_by x o ≡ Err e → Fails inner x
 fails inner x e (Ok a) is h = cc
 fails inner x e (Err d) is h = (d, is)
 
-first-answer : {X : Type 0} (inner : Answers X) (ts : Tries) (r : Resolution) → AllByRecursion SameFile (listed ts) → first_on inner ts ≡ Ok r → IsFirstAnswer inner (listed ts) r
-first-answer inner (Last x) r same h = at_once inner x [] r (inner x.base x.specifier) same.0 refl h
-first-answer {X = X} inner (First x ts) r same h = by_result (tried_on inner x) refl h (λ g. first-answer inner ts r same.1 g)
+first-answer : {X : Type 0} (inner : Tells X) (ts : Tries) (r : Resolution) → AllByRecursion SameFile (listed ts) → (first_on inner ts).result ≡ Ok r → IsFirstAnswer inner (listed ts) r
+first-answer inner (Last x) r same h = at_once inner x [] r (inner x.base x.specifier).result same.0 refl h
+first-answer {X = X} inner (First x ts) r same h = by_result (tried_on inner x).result refl h (λ g. first-answer inner ts r same.1 g)
   where
-    by_result : (o : Result Resolution X) → tried_on inner x ≡ o → or_else o (first_on inner ts) ≡ Ok r → (first_on inner ts ≡ Ok r → IsFirstAnswer inner (listed ts) r) → IsFirstAnswer inner (x ∷ listed ts) r
-    by_result (Ok a) is h rest = let e : tried_on inner x ≡ Ok r = is ∙ h in at_once inner x (listed ts) r (inner x.base x.specifier) same.0 refl e
-    by_result (Err d) is h rest = with_earlier inner (x ∷ []) (listed ts) r (fails inner x d (inner x.base x.specifier) refl is, tt) (rest h)
+    by_result : (o : Result Resolution X) → (tried_on inner x).result ≡ o → (or_next_on (first_on inner ts) o).result ≡ Ok r → ((first_on inner ts).result ≡ Ok r → IsFirstAnswer inner (listed ts) r) → IsFirstAnswer inner (x ∷ listed ts) r
+    by_result (Ok a) is h rest = let e : (tried_on inner x).result ≡ Ok r = is ∙ h in at_once inner x (listed ts) r (inner x.base x.specifier).result same.0 refl e
+    by_result (Err d) is h rest = with_earlier inner (x ∷ []) (listed ts) r (fails inner x d (inner x.base x.specifier).result refl is, tt) (rest h)
 
-first-fails : {X : Type 0} (inner : Answers X) (ts : Tries) (e : X) → first_on inner ts ≡ Err e → AllByRecursion (Fails inner) (listed ts)
-first-fails inner (Last x) e h = (fails inner x e (inner x.base x.specifier) refl h, tt)
-first-fails {X = X} inner (First x ts) e h = by_result (tried_on inner x) refl h (λ g. first-fails inner ts e g)
+first-fails : {X : Type 0} (inner : Tells X) (ts : Tries) (e : X) → (first_on inner ts).result ≡ Err e → AllByRecursion (Fails inner) (listed ts)
+first-fails inner (Last x) e h = (fails inner x e (inner x.base x.specifier).result refl h, tt)
+first-fails {X = X} inner (First x ts) e h = by_result (tried_on inner x).result refl h (λ g. first-fails inner ts e g)
   where
-    by_result : (o : Result Resolution X) → tried_on inner x ≡ o → or_else o (first_on inner ts) ≡ Err e → (first_on inner ts ≡ Err e → AllByRecursion (Fails inner) (listed ts)) → AllByRecursion (Fails inner) (x ∷ listed ts)
+    by_result : (o : Result Resolution X) → (tried_on inner x).result ≡ o → (or_next_on (first_on inner ts) o).result ≡ Err e → ((first_on inner ts).result ≡ Err e → AllByRecursion (Fails inner) (listed ts)) → AllByRecursion (Fails inner) (x ∷ listed ts)
     by_result (Ok a) is h rest = cc
-    by_result (Err d) is h rest = (fails inner x d (inner x.base x.specifier) refl is, rest h)
+    by_result (Err d) is h rest = (fails inner x d (inner x.base x.specifier).result refl is, rest h)
 
-targets-answer : {X : Type 0} (inner : Answers X) (targets : List Tries) (r : Resolution) → AllByRecursion SameFile (all_listed targets) → targets_on inner targets ≡ Ok r → IsFirstAnswer inner (all_listed targets) r
+targets-answer : {X : Type 0} (inner : Tells X) (targets : List Tries) (r : Resolution) → AllByRecursion SameFile (all_listed targets) → (targets_on inner targets).result ≡ Ok r → IsFirstAnswer inner (all_listed targets) r
 targets-answer inner [] r same h = cc
-targets-answer {X = X} inner (ts ∷ rest) r same h = by_result (first_on inner ts) refl h (λ g. targets-answer inner rest r (behind-all (listed ts) (all_listed rest) same) g)
+targets-answer {X = X} inner (ts ∷ rest) r same h = by_result (first_on inner ts).result refl h (λ g. targets-answer inner rest r (behind-all (listed ts) (all_listed rest) same) g)
   where
     behind-all : (xs ys : List Try) → AllByRecursion SameFile (xs ++ ys) → AllByRecursion SameFile ys
     behind-all [] ys a = a
@@ -106,13 +106,13 @@ targets-answer {X = X} inner (ts ∷ rest) r same h = by_result (first_on inner 
     front-all [] ys a = tt
     front-all (x ∷ xs) ys a = (a.0, front-all xs ys a.1)
 
-    next_ok : (x : X) (o : Result Resolution (List X)) → or_more (Err x) o ≡ Ok r → o ≡ Ok r
+    next_ok : (x : X) (o : Result Resolution (List X)) → with_refusal x o ≡ Ok r → o ≡ Ok r
     next_ok x (Ok a) h = h
     next_ok x (Err xs) h = cc
 
-    by_result : (o : Result Resolution X) → first_on inner ts ≡ o → or_more o (targets_on inner rest) ≡ Ok r → (targets_on inner rest ≡ Ok r → IsFirstAnswer inner (all_listed rest) r) → IsFirstAnswer inner (listed ts ++ all_listed rest) r
-    by_result (Ok a) is h again = let e : first_on inner ts ≡ Ok r = let same_answer : a ≡ r = cc in is ∙ ap Ok same_answer in with_later inner (listed ts) (all_listed rest) r (first-answer inner ts r (front-all (listed ts) (all_listed rest) same) e)
-    by_result (Err d) is h again = with_earlier inner (listed ts) (all_listed rest) r (first-fails inner ts d is) (again (next_ok d (targets_on inner rest) h))
+    by_result : (o : Result Resolution X) → (first_on inner ts).result ≡ o → (or_more_on (targets_on inner rest) o).result ≡ Ok r → ((targets_on inner rest).result ≡ Ok r → IsFirstAnswer inner (all_listed rest) r) → IsFirstAnswer inner (listed ts ++ all_listed rest) r
+    by_result (Ok a) is h again = let e : (first_on inner ts).result ≡ Ok r = let same_answer : a ≡ r = cc in is ∙ ap Ok same_answer in with_later inner (listed ts) (all_listed rest) r (first-answer inner ts r (front-all (listed ts) (all_listed rest) same) e)
+    by_result (Err d) is h again = with_earlier inner (listed ts) (all_listed rest) r (first-fails inner ts d is) (again (next_ok d (targets_on inner rest).result h))
 
 -- each try of a mapped request tells the file of its inner answer
 same-targets : (folder base : FileName) (s : List ℕ) (targets : List (List ℕ)) → AllByRecursion SameFile (all_listed (map (tries_of folder base s) targets))
@@ -178,19 +178,19 @@ no-file-mapped m base s = by_test (is_passed base s)
     by_test true = tt
     by_test false = no-file-pattern m base s (deciding m.patterns s)
 
-decides : {X : Type 0} (inner : Answers X) (mp : Mapped) (r : Resolution) → AllByRecursion SameFile (tries_in mp) → NoFile mp → mapped_on inner mp ≡ Ok r → (r.found ≡ None) ⊎ IsFirstAnswer inner (tries_in mp) r
-decides {X = X} inner (Passed ts) r same none h = inr (first-answer inner ts r same (by_result (first_on inner ts) h))
+decides : {X : Type 0} (inner : Tells X) (mp : Mapped) (r : Resolution) → AllByRecursion SameFile (tries_in mp) → NoFile mp → (mapped_on inner mp).result ≡ Ok r → (r.found ≡ None) ⊎ IsFirstAnswer inner (tries_in mp) r
+decides {X = X} inner (Passed ts) r same none h = inr (first-answer inner ts r same (by_result (first_on inner ts).result h))
   where
     by_result : (o : Result Resolution X) → passed o ≡ Ok r → o ≡ Ok r
     by_result (Ok a) h = let e : a ≡ r = cc in ap Ok e
     by_result (Err x) h = cc
 decides inner (Unchecked u) r same none h = let e : u ≡ r = cc in inl (ap (λ (p : Resolution). p.found) (sym e) ∙ none)
-decides {X = X} inner (OrUnchecked ts u) r same none h = by_result (first_on inner ts) refl h
+decides {X = X} inner (OrUnchecked ts u) r same none h = by_result (first_on inner ts).result refl h
   where
-    by_result : (o : Result Resolution X) → first_on inner ts ≡ o → or_unchecked {Y = TsRefusal X} u o ≡ Ok r → (r.found ≡ None) ⊎ IsFirstAnswer inner (listed ts) r
+    by_result : (o : Result Resolution X) → (first_on inner ts).result ≡ o → or_unchecked {Y = TsRefusal X} u o ≡ Ok r → (r.found ≡ None) ⊎ IsFirstAnswer inner (listed ts) r
     by_result (Ok a) is h = let e : a ≡ r = cc in inr (first-answer inner ts r same (is ∙ ap Ok e))
     by_result (Err x) is h = let e : u ≡ r = cc in inl (ap (λ (p : Resolution). p.found) (sym e) ∙ none)
-decides {X = X} inner (OrFault text targets) r same none h = inr (targets-answer inner targets r same (by_result (targets_on inner targets) h))
+decides {X = X} inner (OrFault text targets) r same none h = inr (targets-answer inner targets r same (by_result (targets_on inner targets).result h))
   where
     by_result : (o : Result Resolution (List X)) → or_fault text o ≡ Ok r → o ≡ Ok r
     by_result (Ok a) h = let e : a ≡ r = cc in ap Ok e

@@ -1,91 +1,65 @@
--- What a mapping comes to on a tree, and which questions it puts there, as plain functions of what the order behind it comes to there: the laws by which a reader checks the plan.
+-- What a mapping tells of a tree, as a function of what the order behind it tells there: the laws by which a reader checks the plan.
 use Rattle.std.specs.Prelude.{◌≡◌, ◌⊎◌, ℕ, List, [], ◌∷◌, ◌++◌, None, Result, Ok, Err}
 use Rattle.std.specs.List.{AllByRecursion}
-use Rattle.tree_core.specs.declared.question.Question.{Question}
 use Rattle.tree_core.specs.Tree.{Files}
-use Rattle.tree_core.specs.Plan.{answer, asked}
+use Rattle.tree_core.specs.Told.{Told, told, unasked, made, ◌>>=◌}
 use Rattle.swc_loader.specs.declared.resolution.FileName.{FileName}
 use Rattle.swc_loader.specs.declared.resolution.Resolution.{Resolution}
 use Rattle.resolver_core.specs.declared.refusal.TsRefusal.{TsRefusal}
 use Rattle.resolver_core.specs.Mapping.{Order, Mapping, Try, Tries, Last, First, Mapped, Passed, Unchecked, OrUnchecked, OrFault, masked, mapped, mapping_order, passed, or_unchecked, or_fault}
 
--- what requests come to on a tree, by base and specifier
-abbrev pub Answers : Type 0 → Type 0
-Answers X = FileName → List ℕ → Result Resolution X
+-- what requests tell of a tree, by base and specifier
+abbrev pub Tells : Type 0 → Type 0
+Tells X = FileName → List ℕ → Told (Result Resolution X)
 
--- which questions they put there
-abbrev pub Asked : Type 0
-Asked = FileName → List ℕ → List Question
+abbrev pub tells_on : {X : Type 0} → Files → Order X → Tells X
+tells_on t inner base specifier = told t (inner base specifier)
 
-abbrev pub answers_on : {X : Type 0} → Files → Order X → Answers X
-answers_on t inner base specifier = answer t (inner base specifier)
+-- what a try answers of an inner answer; a refusal stays
+abbrev pub answered_by : {X : Type 0} → Try → Result Resolution X → Result Resolution X
+answered_by t (Ok r) = Ok (t.answer (masked t.base t.specifier r))
+answered_by t (Err x) = Err x
 
-abbrev pub asked_on : {X : Type 0} → Files → Order X → Asked
-asked_on t inner base specifier = asked t (inner base specifier)
+-- a try asks what its inner request asks
+abbrev pub tried_on : {X : Type 0} → Tells X → Try → Told (Result Resolution X)
+tried_on inner t = made (answered_by t) (inner t.base t.specifier)
 
--- what a try answers of an inner answer
-abbrev pub made : {X : Type 0} → Try → Result Resolution X → Result Resolution X
-made t (Ok r) = Ok (t.answer (masked t.base t.specifier r))
-made t (Err x) = Err x
-
-abbrev pub tried_on : {X : Type 0} → Answers X → Try → Result Resolution X
-tried_on inner t = made t (inner t.base t.specifier)
-
--- an answer, or else what comes next
-abbrev pub or_else : {X : Type 0} → Result Resolution X → Result Resolution X → Result Resolution X
-or_else (Ok r) next = Ok r
-or_else (Err x) next = next
+-- an answer ends the search; behind a refusal comes what is next
+abbrev pub or_next_on : {A X : Type 0} → Told (Result A X) → Result A X → Told (Result A X)
+or_next_on next (Ok a) = unasked (Ok a)
+or_next_on next (Err x) = next
 
 -- the first answer of tries, or the refusal of the last
-abbrev pub first_on : {X : Type 0} → Answers X → Tries → Result Resolution X
+abbrev pub first_on : {X : Type 0} → Tells X → Tries → Told (Result Resolution X)
 first_on inner (Last t) = tried_on inner t
-first_on inner (First t ts) = or_else (tried_on inner t) (first_on inner ts)
+first_on inner (First t ts) = tried_on inner t >>= or_next_on (first_on inner ts)
 
--- an answer, or what comes next, whose refusals stand behind this one
-abbrev pub or_more : {X : Type 0} → Result Resolution X → Result Resolution (List X) → Result Resolution (List X)
-or_more (Ok r) next = Ok r
-or_more (Err x) (Ok r) = Ok r
-or_more (Err x) (Err xs) = Err (x ∷ xs)
+-- an answer, or this refusal in front of the others
+abbrev pub with_refusal : {X : Type 0} → X → Result Resolution (List X) → Result Resolution (List X)
+with_refusal x (Ok r) = Ok r
+with_refusal x (Err xs) = Err (x ∷ xs)
+
+-- an answer ends the search; behind a refusal come the next targets, whose refusals follow it
+abbrev pub or_more_on : {X : Type 0} → Told (Result Resolution (List X)) → Result Resolution X → Told (Result Resolution (List X))
+or_more_on next (Ok r) = unasked (Ok r)
+or_more_on next (Err x) = made (with_refusal x) next
 
 -- the first answer of targets, or the refusal of each one's last try
-abbrev pub targets_on : {X : Type 0} → Answers X → List Tries → Result Resolution (List X)
-targets_on inner [] = Err []
-targets_on inner (ts ∷ rest) = or_more (first_on inner ts) (targets_on inner rest)
+abbrev pub targets_on : {X : Type 0} → Tells X → List Tries → Told (Result Resolution (List X))
+targets_on inner [] = unasked (Err [])
+targets_on inner (ts ∷ rest) = first_on inner ts >>= or_more_on (targets_on inner rest)
 
--- what a mapped request comes to
-abbrev pub mapped_on : {X : Type 0} → Answers X → Mapped → Result Resolution (TsRefusal X)
-mapped_on inner (Passed ts) = passed (first_on inner ts)
-mapped_on inner (Unchecked r) = Ok r
-mapped_on inner (OrUnchecked ts r) = or_unchecked r (first_on inner ts)
-mapped_on inner (OrFault pattern targets) = or_fault pattern (targets_on inner targets)
-
--- what is asked behind a refusal alone
-abbrev pub unless_answered : {X : Type 0} → Result Resolution X → List Question → List Question
-unless_answered (Ok r) qs = []
-unless_answered (Err x) qs = qs
-
-abbrev pub tries_ask : {X : Type 0} → Answers X → Asked → Tries → List Question
-tries_ask inner asks (Last t) = asks t.base t.specifier
-tries_ask inner asks (First t ts) =
-    asks t.base t.specifier ++ unless_answered (tried_on inner t) (tries_ask inner asks ts)
-
-abbrev pub targets_ask : {X : Type 0} → Answers X → Asked → List Tries → List Question
-targets_ask inner asks [] = []
-targets_ask inner asks (ts ∷ rest) =
-    tries_ask inner asks ts ++ unless_answered (first_on inner ts) (targets_ask inner asks rest)
-
-abbrev pub mapped_asks : {X : Type 0} → Answers X → Asked → Mapped → List Question
-mapped_asks inner asks (Passed ts) = tries_ask inner asks ts
-mapped_asks inner asks (Unchecked r) = []
-mapped_asks inner asks (OrUnchecked ts r) = tries_ask inner asks ts
-mapped_asks inner asks (OrFault pattern targets) = targets_ask inner asks targets
+-- what a mapped request tells: how each mapping ends is said without a further question
+abbrev pub mapped_on : {X : Type 0} → Tells X → Mapped → Told (Result Resolution (TsRefusal X))
+mapped_on inner (Passed ts) = made passed (first_on inner ts)
+mapped_on inner (Unchecked r) = unasked (Ok r)
+mapped_on inner (OrUnchecked ts r) = made (or_unchecked r) (first_on inner ts)
+mapped_on inner (OrFault pattern targets) = made (or_fault pattern) (targets_on inner targets)
 
 -- a mapping in front of an order, on each tree
 pub record MappingOnTree (X : Type 0) : Type 0 where
-  pub answers : (t : Files) (inner : Order X) (m : Mapping) (base : FileName) (s : List ℕ) →
-      answer t (mapping_order inner m base s) ≡ mapped_on (answers_on t inner) (mapped m base s)
-  pub asks : (t : Files) (inner : Order X) (m : Mapping) (base : FileName) (s : List ℕ) →
-      asked t (mapping_order inner m base s) ≡ mapped_asks (answers_on t inner) (asked_on t inner) (mapped m base s)
+  pub tells : (t : Files) (inner : Order X) (m : Mapping) (base : FileName) (s : List ℕ) →
+      told t (mapping_order inner m base s) ≡ mapped_on (tells_on t inner) (mapped m base s)
 
 -- the tries of a mapped request, in order
 abbrev pub listed : Tries → List Try
@@ -103,23 +77,23 @@ tries_in (OrUnchecked ts r) = listed ts
 tries_in (OrFault pattern targets) = all_listed targets
 
 -- an inner request that is refused
-abbrev pub Fails : {X : Type 0} → Answers X → Try → Type 0
-Fails {X = X} inner t = (x : X) × (inner t.base t.specifier ≡ Err x)
+abbrev pub Fails : {X : Type 0} → Tells X → Try → Type 0
+Fails {X = X} inner t = (x : X) × ((inner t.base t.specifier).result ≡ Err x)
 
 -- An answer is made of the first try that the order behind the mapping answers: each try before it was refused, and the file that was found is that of the inner answer.
-pub record IsFirstAnswer {X : Type 0} (inner : Answers X) (tries : List Try) (r : Resolution) : Type 0 where
+pub record IsFirstAnswer {X : Type 0} (inner : Tells X) (tries : List Try) (r : Resolution) : Type 0 where
   pub before : List Try
   pub by : Try
   pub later : List Try
   pub in_order : tries ≡ before ++ by ∷ later
   pub failed : AllByRecursion (Fails inner) before
   pub answer : Resolution
-  pub answered : inner by.base by.specifier ≡ Ok answer
+  pub answered : (inner by.base by.specifier).result ≡ Ok answer
   pub made_of : r ≡ by.answer (masked by.base by.specifier answer)
   pub same_file : r.found ≡ answer.found
 
 -- What a mapping answers tells no file, or is made of its first inner answer.
 pub record FirstAnswerDecides (X : Type 0) : Type 0 where
-  pub decides : (inner : Answers X) (m : Mapping) (base : FileName) (s : List ℕ) (r : Resolution) →
-      mapped_on inner (mapped m base s) ≡ Ok r →
+  pub decides : (inner : Tells X) (m : Mapping) (base : FileName) (s : List ℕ) (r : Resolution) →
+      (mapped_on inner (mapped m base s)).result ≡ Ok r →
       (r.found ≡ None) ⊎ IsFirstAnswer inner (tries_in (mapped m base s)) r

@@ -34,7 +34,8 @@ pub struct CachingResolver<R> {
 impl<R> CachingResolver<R> {
     ghost use Rattle.resolver_core.specs.CacheParts.{kept_of, capacity_of, inner_of};
 
-    /// A resolver that keeps at most this many answers of an inner one. Where no memory is found, the inner resolver comes back.
+    /// A resolver that keeps at most this many answers of an inner one. Where no memory is found, the inner resolver
+    /// comes back.
     pub fn new(alloc: Global, cap: usize, inner: R) -> Result<CachingResolver<R>, (R, AllocError)>
         requires some { 0 < cap }
         ensures kept { IfOk result (λ r. kept_of r ≡ []) }

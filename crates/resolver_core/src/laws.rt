@@ -5,12 +5,13 @@ ghost use Rattle.resolver_core.specs.Resolving.{TrailsSuffice};
 
 use crate::Resolve;
 
-/// Trees that give the same replies to what one of them is asked by a resolver's order have one answer, and are asked the same.
+/// Trees that give the same replies to what one of them is asked by a resolver's order have one answer, and are asked
+/// the same.
 pub fn trails_suffice<R: Resolve>()
     ensures { TrailsSuffice R.order }
 {}
 
-/// A mapping in front of an order, said as a function of what that order comes to on the tree, with its questions.
+/// What a mapping in front of an order tells of each tree, as one function of what that order tells there.
 pub fn mapping_on_tree<X>()
     ensures { MappingOnTree X }
 {}

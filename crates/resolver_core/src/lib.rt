@@ -1,4 +1,5 @@
-//! Resolvers as values that can be put together: the trait of what resolves a specifier over a tree, and resolvers over resolvers.
+//! Resolvers as values that can be put together: the trait of what resolves a specifier over a tree, and resolvers
+//! over resolvers.
 #![tactic(auto)]
 
 mod cache;

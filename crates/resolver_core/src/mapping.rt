@@ -17,7 +17,8 @@ use sugar_path::{List, Text};
 use swc_loader::{FileName, Resolution};
 use tree_core::{Recorder, ResolveError, Tree};
 
-/// A mapping: the `paths` of a tsconfig in the order in which they are tested, and its `baseUrl`. It can be put in front of any resolver.
+/// A mapping: the `paths` of a tsconfig in the order in which they are tested, and its `baseUrl`. It can be put in
+/// front of any resolver.
 #[derive(Drop)]
 pub struct Mapping {
     base_url: Text,
@@ -39,8 +40,8 @@ impl Model for Mapping {
 }
 
 impl Mapping {
-    /// A mapping by a base folder and patterns, each with its targets; or the first cause for which a pattern is refused, in the
-    /// order of the patterns.
+    /// A mapping by a base folder and patterns, each with its targets; or the first cause for which a pattern is
+    /// refused, in the order of the patterns.
     pub fn new(
         alloc: Global,
         base_url: Text,
@@ -89,8 +90,8 @@ impl Mapping {
     }
 }
 
-/// A resolver by the `paths` and the `baseUrl` of a tsconfig, over another one: a request for which a pattern stands is asked for
-/// by the pattern's targets, from the base folder.
+/// A resolver by the `paths` and the `baseUrl` of a tsconfig, over another one: a request for which a pattern stands
+/// is asked for by the pattern's targets, from the base folder.
 #[derive(Drop)]
 pub struct TsConfigResolver<R> {
     inner: R,
@@ -100,8 +101,8 @@ pub struct TsConfigResolver<R> {
 impl<R> TsConfigResolver<R> {
     ghost use Rattle.resolver_core.specs.MappingView.{mapping_of, inner_of};
 
-    /// A resolver over an inner one, with a base folder and patterns, each with its targets. Where the patterns are refused, the inner
-    /// resolver comes back.
+    /// A resolver over an inner one, with a base folder and patterns, each with its targets. Where the patterns are
+    /// refused, the inner resolver comes back.
     pub fn new(
         alloc: Global,
         inner: R,

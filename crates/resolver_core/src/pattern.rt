@@ -2,7 +2,8 @@
 ghost use Rattle.std.specs.Prelude.{◌≡◌, ◌≢◌, [], IfOk, option_map};
 ghost use Rattle.std.specs.Option.{option_copied};
 ghost use Rattle.std.specs.Ordering.{is_lt};
-ghost use Rattle.resolver_core.specs.Pattern.{IsReadAs, pattern_of, pattern_without_star, patterns_from, sorted_patterns, comes_before, in_order, matches, deciding};
+ghost use Rattle.resolver_core.specs.Pattern.{IsReadAs, pattern_of, pattern_without_star, patterns_from};
+ghost use Rattle.resolver_core.specs.Pattern.{sorted_patterns, comes_before, in_order, matches, deciding};
 
 use star_texts::around_star;
 use std::alloc::{AllocError, Global};

@@ -5,7 +5,9 @@ ghost use Rattle.std.specs.Option.{option_copied};
 ghost use Rattle.tree_core.specs.Asks.{Asks};
 ghost use Rattle.tree_core.specs.RecorderView.{asking_of};
 ghost use Rattle.swc_loader.specs.declared.resolution.FileName.TheVariants.{Real};
-ghost use Rattle.resolver_core.specs.Mapping.{Last, Passed, OrFault, plain, by_mapped, by_exact, by_wildcard, by_only_target, by_base_folder, tries_of, with_rest, mapping_order, passed, unchecked};
+ghost use Rattle.resolver_core.specs.Mapping.{Last, Passed, OrFault, plain, by_mapped, by_exact, by_wildcard};
+ghost use Rattle.resolver_core.specs.Mapping.{by_only_target, by_base_folder, tries_of, with_rest};
+ghost use Rattle.resolver_core.specs.Mapping.{mapping_order, passed, unchecked};
 
 use crate::pattern::deciding;
 use crate::texts::{here, is_passed, joined, last_part, slug_of, with_rest};
@@ -15,6 +17,14 @@ use std::alloc::{AllocError, Global};
 use sugar_path::{List, Text};
 use swc_loader::{FileName, Resolution};
 use tree_core::{ReadError, Recorder, Tree};
+
+// The wildcard that decides: its text, what stands before its `*`, and its targets.
+#[derive(Clone, Copy)]
+struct DecidingWildcard<'p> {
+    text: &'p Text,
+    prefix: &'p str,
+    targets: &'p [Text],
+}
 
 // What a request comes to by a mapping.
 pub(crate) fn map_request<R: Resolve, T: Tree>(
@@ -47,8 +57,12 @@ where
                 targets,
             },
         ) => {
-            let (prefix, targets) = (prefix.as_str(), targets.as_slice());
-            by_wildcard(alloc, tree, inner, request, text, prefix, targets)
+            let wildcard = DecidingWildcard {
+                text,
+                prefix: prefix.as_str(),
+                targets: targets.as_slice(),
+            };
+            by_wildcard(alloc, tree, inner, request, &wildcard)
         }
         None => by_base_folder(alloc, tree, inner, request),
     }
@@ -91,24 +105,22 @@ fn by_wildcard<R: Resolve, T: Tree>(
     tree: &mut Recorder<'_, T>,
     inner: &mut R,
     request: &MappedRequest<'_>,
-    text: &Text,
-    prefix: &str,
-    targets: &[Text],
+    wildcard: &DecidingWildcard<'_>,
 ) -> Result<Result<Resolution, TsRefusal<R::Refusal>>, ReadError>
 where
     R::Refusal: Drop,
-    requires { IsTrue (starts_with nat_eq request.now.specifier.now prefix.now) }
+    requires { IsTrue (starts_with nat_eq request.now.specifier.now wildcard.now.prefix.now) }
     ensures asks { Asks (asking_of tree.old) (asking_of tree.new) result
         (by_mapped (R.order (R.view inner.old)) (by_wildcard request.now.folder.now request.now.base.now
-        request.now.specifier.now text.now prefix.now targets.now)) }
+        request.now.specifier.now wildcard.now.text.now wildcard.now.prefix.now wildcard.now.targets.now)) }
     ensures refused { IfOk result (λ r. OnErr r (R.view inner.new ≡ R.view inner.old)) }
 {
-    let rest = behind(request.specifier, prefix);
-    match targets {
-        [target] if !prefix.is_empty() => {
+    let rest = behind(request.specifier, wildcard.prefix);
+    match wildcard.targets {
+        [target] if !wildcard.prefix.is_empty() => {
             by_only_target(alloc, tree, inner, request, rest, target.as_str())
         }
-        _ => by_each_target(alloc, tree, inner, request, text, rest, targets),
+        _ => by_each_target(alloc, tree, inner, request, rest, wildcard),
     }
 }
 
@@ -145,22 +157,22 @@ fn by_each_target<R: Resolve, T: Tree>(
     tree: &mut Recorder<'_, T>,
     inner: &mut R,
     request: &MappedRequest<'_>,
-    text: &Text,
     rest: &str,
-    targets: &[Text],
+    wildcard: &DecidingWildcard<'_>,
 ) -> Result<Result<Resolution, TsRefusal<R::Refusal>>, ReadError>
 where
     R::Refusal: Drop,
     ensures asks { Asks (asking_of tree.old) (asking_of tree.new) result
-        (by_mapped (R.order (R.view inner.old)) (OrFault text.now (map (tries_of request.now.folder.now
-        request.now.base.now request.now.specifier.now) (map (with_rest rest.now) targets.now)))) }
+        (by_mapped (R.order (R.view inner.old)) (OrFault wildcard.now.text.now (map (tries_of
+        request.now.folder.now request.now.base.now request.now.specifier.now)
+        (map (with_rest rest.now) wildcard.now.targets.now)))) }
     ensures refused { IfOk result (λ r. OnErr r (R.view inner.new ≡ R.view inner.old)) }
 {
-    let tried = each_target(alloc, tree, inner, request, rest, targets)?;
+    let tried = each_target(alloc, tree, inner, request, rest, wildcard.targets)?;
     match tried {
         Ok(found) => Ok(Ok(found)),
         Err(refusals) => {
-            let pattern = text.try_clone(alloc)?;
+            let pattern = wildcard.text.try_clone(alloc)?;
             Ok(Err(TsRefusal::TsFault {
                 pattern,
                 inner: refusals,
@@ -169,7 +181,8 @@ where
     }
 }
 
-// No pattern stands for the specifier: it is tried behind the base folder, unless it begins with a dot, and then as it is.
+// No pattern stands for the specifier: it is tried behind the base folder, unless it begins with a dot, and then as it
+// is.
 fn by_base_folder<R: Resolve, T: Tree>(
     alloc: Global,
     tree: &mut Recorder<'_, T>,

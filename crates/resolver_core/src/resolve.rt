@@ -11,7 +11,8 @@ use std::alloc::Global;
 use swc_loader::{FileName, Resolution};
 use tree_core::{Recorder, ResolveError, Tree};
 
-/// A resolver over any tree. It has an order of search, a plan of questions, which hangs on what contracts see of it alone.
+/// A resolver over any tree. It has an order of search, a plan of questions, which hangs on what contracts see of it
+/// alone.
 pub trait Resolve {
     /// Why its order of search ends without an answer.
     type Refusal;

@@ -3,7 +3,8 @@ ghost use Rattle.std.specs.Prelude.{◌≡◌, ◌||◌, [], IfOk, bytes_eq, str
 ghost use Rattle.std.specs.List.{after_last, before_first};
 ghost use Rattle.std.specs.Option.{option_copied};
 ghost use Rattle.sugar_path.specs.Path.{join, with_slash, ends_in_slash};
-ghost use Rattle.resolver_core.specs.Mapping.{is_slash, is_dot, is_modules, is_in_modules, is_passed, here, slug_of, with_rest};
+ghost use Rattle.resolver_core.specs.Mapping.{is_slash, is_dot, is_modules, is_in_modules, is_passed};
+ghost use Rattle.resolver_core.specs.Mapping.{here, slug_of, with_rest};
 
 use star_texts::replaced;
 use std::alloc::{AllocError, Global};
@@ -92,7 +93,8 @@ pub(crate) fn last_part(text: &str) -> &str
     }
 }
 
-// The slug of an exact pattern's answer: its target's last part up to the first dot. The name of an index file gives none.
+// The slug of an exact pattern's answer: its target's last part up to the first dot. The name of an index file gives
+// none.
 pub(crate) fn slug_of(target: &str) -> Option<&str>
     ensures { option_copied result ≡ slug_of target.now }
 {
