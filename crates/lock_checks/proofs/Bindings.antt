@@ -1,8 +1,8 @@
 -- Calls by the checks' plans.
-use Rattle.std.proofs.Common.{◌≡◌, ℕ, Bool, true, false, cond, List, Option, Some, Result, Ok, Err, Bor, IsErrAnd}
+use Rattle.std.proofs.Common.{◌≡◌, ℕ, Bool, true, false, cond, List, Option, Some, Result, Ok, Err, Bor, IsErrAnd, sym}
 use Rattle.tree_core.specs.declared.tree.ReadError.{ReadError}
 use Rattle.tree_core.specs.Plan.{Plan, Done}
-use Rattle.tree_core.specs.Asks.{Asking, Asks}
+use Rattle.tree_core.specs.Asks.{Asking, Asks, refused}
 use Rattle.yarn_lock_parser.specs.Entry.{Entry}
 use Rattle.yarn_lock_parser.specs.Lock.{Lock}
 use Rattle.pnp_core.specs.declared.manifest.PackageLocator.{PackageLocator}
@@ -11,7 +11,7 @@ use Rattle.sugar_path.specs.Path.{Path}
 use Rattle.npm_req.specs.Requirement.{Requirement}
 use Rattle.lock_checks.specs.declared.fault.EdgeFault.{EdgeFault}
 use Rattle.lock_checks.specs.Checks.{entry_check, lock_check, range_check}
-use Rattle.lock_checks.specs.Lent.{lent}
+use Rattle.lock_checks.specs.Borrowed.{borrowed, borrowed_if_any}
 use Rattle.lock_checks.specs.Naming.{first_naming}
 use Rattle.lock_checks.specs.Range.{range_in_place}
 use Rattle.lock_checks.specs.Reference.{is_npm, is_workspace}
@@ -45,7 +45,19 @@ asks_npm manifest owner name bound entry npm h = asks_where (is_npm bound.refere
 pub asks_place : {old new : Asking} {r : Result (Result (Option Requirement) EdgeFault) ReadError} (name : List ℕ) (known place : Option Path) → known ≡ place → Asks old new r (range_in_place known name) → Asks old new r (range_in_place place name)
 asks_place name known place is h = rw (← is) h
 
--- an error lends nothing
-pub lent_err : {A E : Type 0} (r : Result (Bor A) E) (e : E) → IsErrAnd r (λ x. x ≡ e) → IsErrAnd (lent r) (λ x. x ≡ e)
-lent_err (Ok a) e h = elim h [ ]
-lent_err (Err x) e h = h
+-- an error borrows nothing
+pub borrowed_err : {A E : Type 0} (r : Result (Bor A) E) (e : E) → IsErrAnd r (λ x. x ≡ e) → IsErrAnd (borrowed r) (λ x. x ≡ e)
+borrowed_err (Ok a) e h = elim h [ ]
+borrowed_err (Err x) e h = h
+
+pub borrowed_if_any_err : {A E : Type 0} (r : Result (Option (Bor A)) E) (e : E) → IsErrAnd r (λ x. x ≡ e) → IsErrAnd (borrowed_if_any r) (λ x. x ≡ e)
+borrowed_if_any_err (Ok found) e h = elim h [ ]
+borrowed_if_any_err (Err x) e h = h
+
+-- a plan whose refusal is told
+pub asks_refused : {A X : Type 0} {old new : Asking} {p : Plan (Result A X)} (known : Result X ReadError) (refusal : X) → Ok refusal ≡ known → Asks old new (refused known) p → Asks old new (Ok (Err refusal)) p
+asks_refused known refusal is h = rw (sym is) at h
+
+-- a plan that ended by the tree's error
+pub asks_refused_not : {A X : Type 0} {old new : Asking} {p : Plan (Result A X)} (known : Result X ReadError) (error : ReadError) → Err error ≡ known → Asks old new (refused known) p → Asks {A = Result A X} old new (Err error) p
+asks_refused_not known error is h = rw (sym is) at h

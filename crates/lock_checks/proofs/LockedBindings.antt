@@ -1,7 +1,7 @@
 -- A binding that passes the checks is locked.
 use Rattle.std.proofs.Common.{◌≡◌, ℕ, Bool, true, false, cond, List, Option, Some, None, Result, Ok, Err, refl}
 use Rattle.tree_core.specs.Tree.{Files}
-use Rattle.sugar_path.specs.Results.{◌>>=◌}
+use Rattle.tree_core.specs.Told.{Told, unasked, where_ok, ◌>>=?◌}
 use Rattle.npm_req.specs.Requirement.{Requirement}
 use Rattle.yarn_lock_parser.specs.Entry.{Entry}
 use Rattle.yarn_lock_parser.specs.Lock.{Lock}
@@ -15,10 +15,13 @@ use Rattle.lock_checks.specs.Naming.{first_naming}
 use Rattle.lock_checks.specs.OnTree.{check_on, entry_check_on, range_check_on}
 use Rattle.lock_checks.specs.Range.{is_within, within}
 
--- a result behind others is reached only where those pass
-second_passes : {A B X : Type 0} {b : B} (first : Result A X) (check : Result (Unit {0}) X) (f : A → B) → (first >>= λ a. check >>= λ passed. Ok (f a)) ≡ Ok b → check ≡ Ok tt
-second_passes (Ok a) (Ok tt) f h = refl
-second_passes (Ok a) (Err x) f h = cc
+-- what is checked behind another result passes where both do
+second_passes : {A B X : Type 0} {b : B} (first : Result A X) (check : Told (Result (Unit {0}) X)) (f : A → B) → (unasked first >>=? λ a. check >>=? λ passed. unasked (Ok (f a))).result ≡ Ok b → check.result ≡ Ok tt
+second_passes {B = B} {X = X} {b = b} (Ok a) check f h = by_result check.result h
+  where
+    by_result : (r : Result (Unit {0}) X) → (where_ok {B = B} (λ passed. unasked (Ok (f a))) r).result ≡ Ok b → r ≡ Ok tt
+    by_result (Ok tt) h = refl
+    by_result (Err x) h = cc
 second_passes (Err x) check f h = cc
 
 abbrev held_by : Bool → Requirement → List ℕ → Result (Unit {0}) EdgeFault
@@ -31,18 +34,18 @@ passes_within range version = by_test (is_within range version)
     by_test true h = refl
     by_test false h = cc
 
-by_entry : (t : Files) (lock : Lock) (manifest : Contents) (owner : PackageLocator) (name : List ℕ) (bound : PackageLocator) (entry : Option Entry) → first_naming lock bound ≡ entry → entry_check_on t manifest owner name bound entry ≡ Ok tt → IsLocked t lock manifest owner name bound
+by_entry : (t : Files) (lock : Lock) (manifest : Contents) (owner : PackageLocator) (name : List ℕ) (bound : PackageLocator) (entry : Option Entry) → first_naming lock bound ≡ entry → (entry_check_on t manifest owner name bound entry).result ≡ Ok tt → IsLocked t lock manifest owner name bound
 by_entry t lock manifest owner name bound None is h = cc
 by_entry t lock manifest owner name bound (Some entry) is h = record {
   entry = entry;
   first = is;
   within = λ range npm declared.
-      let checked : range_check_on t manifest owner name entry ≡ Ok tt = rw npm at h in
+      let checked : (range_check_on t manifest owner name entry).result ≡ Ok tt = rw npm at h in
       let held : within (Some range) entry.version ≡ Ok tt = rw declared at checked in
       passes_within range entry.version held;
 }
 
 pub passes_as_locked : PassesAsLocked
 passes_as_locked t lock manifest owner name bound location passes other =
-    let checked : check_on t (Some lock) manifest owner name bound ≡ Ok tt = second_passes (registered manifest bound) (check_on t (Some lock) manifest owner name bound) (λ (l : List ℕ). l) passes in
+    let checked : (check_on t (Some lock) manifest owner name bound).result ≡ Ok tt = second_passes (registered manifest bound) (check_on t (Some lock) manifest owner name bound) (λ (l : List ℕ). l) passes in
     by_entry t lock manifest owner name bound (first_naming lock bound) refl (rw other at checked)

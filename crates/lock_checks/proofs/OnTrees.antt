@@ -1,105 +1,59 @@
--- The plans of the checks come to what the tree has.
-use Rattle.std.proofs.Common.{◌≡◌, ℕ, Bool, true, false, cond, List, [], ◌++◌, Option, Some, None, Result, Ok, Err, refl, ap, ◌∙◌}
-use Rattle.std.proofs.lemmas.List.{append-nil}
+-- The plans of the checks tell what the tree has.
+use Rattle.std.proofs.Common.{◌≡◌, ℕ, List, Option, Some, None, Ok, Err, ap, ◌∙◌}
 use Rattle.sugar_path.specs.Path.{Path}
-use Rattle.tree_core.specs.declared.question.Question.{Question}
 use Rattle.tree_core.specs.Tree.{Files}
-use Rattle.tree_core.specs.Plan.{Plan, Done, answer, asked, read, ◌>>=◌, ◌>>=?◌, on_ok}
-use Rattle.tree_core.proofs.Asking.{asked-then, answer-done, asked-done}
-use Rattle.tree_core.proofs.RowLaws.{answer-made, asked-made, step, row, row_asks}
-use Rattle.npm_req.specs.Requirement.{Requirement}
+use Rattle.tree_core.specs.Plan.{Done, read, ◌>>=?◌}
+use Rattle.tree_core.specs.Told.{told, made}
+use Rattle.tree_core.proofs.Tellings.{told-done, told-goes_on, told-if, told-made, told-read, told-refusing}
 use Rattle.yarn_lock_parser.specs.Entry.{Entry}
 use Rattle.yarn_lock_parser.specs.Lock.{Lock}
 use Rattle.pnp_core.specs.declared.manifest.PackageLocator.{PackageLocator}
 use Rattle.pnp_core.specs.Manifest.{Contents}
-use Rattle.lock_checks.specs.declared.fault.EdgeFault.{EdgeFault}
+use Rattle.pnp_core.specs.PhysicalPlace.{place_of}
 use Rattle.lock_checks.specs.declared.fault.EdgeFault.TheVariants.{NotLocked}
 use Rattle.lock_checks.specs.Checks.{check_by, checked_location, entry_check, range_check, registered}
 use Rattle.lock_checks.specs.Fault.{binding_fault, fault_in}
 use Rattle.lock_checks.specs.Naming.{first_naming}
-use Rattle.lock_checks.specs.OnTree.{check_asks, check_on, entry_check_asks, entry_check_on, location_asks, location_on, range_check_on, range_in_place_asks, range_in_place_on, FaultOnTree, LocationOnTree}
-use Rattle.lock_checks.specs.Range.{declared_range, folder_of, range_in_folder, range_in_place, within}
+use Rattle.lock_checks.specs.OnTree.{check_on, entry_check_on, location_on, range_check_on, range_in_place_on, FaultOnTree, LocationOnTree}
+use Rattle.lock_checks.specs.Range.{declared_range, package_json, range_in_content, range_in_folder, range_in_place, within}
 use Rattle.lock_checks.specs.Reference.{is_npm, is_workspace}
 
--- what is made of an answer, where there is one, puts no further question
-asked-last : {A B X : Type 0} (t : Files) (p : Plan (Result A X)) (f : A → Result B X) → asked t (p >>=? λ a. Done (f a)) ≡ asked t p
-asked-last {A = A} {B = B} {X = X} t p f = asked-then t p (on_ok (λ a. Done (f a))) ∙ ap (λ qs. asked t p ++ qs) (by_result (answer t p)) ∙ append-nil (asked t p)
-  where
-    by_result : (r : Result A X) → asked t (on_ok (λ a. Done (f a)) r) ≡ []
-    by_result (Ok a) = asked-done t (f a)
-    by_result (Err x) = asked-done {A = Result B X} t (Err x)
+told-folder : (t : Files) (folder : Path) (name : List ℕ) → told t (range_in_folder folder name) ≡ range_in_place_on t (Some folder) name
+unfolding range_in_folder
+told-folder t folder name =
+    told-made t (read (package_json folder)) (range_in_content (package_json folder) name)
+    ∙ ap (made (range_in_content (package_json folder) name)) (told-read t (package_json folder))
 
-answer-folder : (t : Files) (folder : Path) (name : List ℕ) → answer t (range_in_folder folder name) ≡ range_in_place_on t (Some folder) name
-unfolding range_in_folder answer read ◌>>=◌
-answer-folder t folder name = refl
+told-place : (t : Files) (place : Option Path) (name : List ℕ) → told t (range_in_place place name) ≡ range_in_place_on t place name
+told-place t None name = told-done t (Ok None)
+told-place t (Some folder) name = told-folder t folder name
 
-asked-folder : (t : Files) (folder : Path) (name : List ℕ) → asked t (range_in_folder folder name) ≡ range_in_place_asks (Some folder)
-unfolding range_in_folder asked read ◌>>=◌
-asked-folder t folder name = refl
-
-answer-place : (t : Files) (place : Option Path) (name : List ℕ) → answer t (range_in_place place name) ≡ range_in_place_on t place name
-answer-place t None name = answer-done t (Ok None)
-answer-place t (Some folder) name = answer-folder t folder name
-
-asked-place : (t : Files) (place : Option Path) (name : List ℕ) → asked t (range_in_place place name) ≡ range_in_place_asks place
-asked-place t None name = asked-done {A = Result (Option Requirement) EdgeFault} t (Ok None)
-asked-place t (Some folder) name = asked-folder t folder name
-
-answer-range_check : (t : Files) (manifest : Contents) (owner : PackageLocator) (name : List ℕ) (entry : Entry) → answer t (range_check manifest owner name entry) ≡ range_check_on t manifest owner name entry
+told-range_check : (t : Files) (manifest : Contents) (owner : PackageLocator) (name : List ℕ) (entry : Entry) → told t (range_check manifest owner name entry) ≡ range_check_on t manifest owner name entry
 unfolding range_check
-answer-range_check t manifest owner name entry = step t (declared_range manifest owner name) (λ range. Done (within range entry.version)) (answer-place t (folder_of manifest owner) name) (λ range. answer-done t (within range entry.version))
+told-range_check t manifest owner name entry =
+    told-refusing t (declared_range manifest owner name) (λ range. Done (within range entry.version)) (told-place t (place_of manifest owner) name) (λ range. told-done t (within range entry.version))
 
-asked-range_check : (t : Files) (manifest : Contents) (owner : PackageLocator) (name : List ℕ) (entry : Entry) → asked t (range_check manifest owner name entry) ≡ range_in_place_asks (folder_of manifest owner)
-unfolding range_check
-asked-range_check t manifest owner name entry = asked-last t (declared_range manifest owner name) (λ range. within range entry.version) ∙ asked-place t (folder_of manifest owner) name
+told-entry_check : (t : Files) (manifest : Contents) (owner : PackageLocator) (name : List ℕ) (bound : PackageLocator) (entry : Option Entry) → told t (entry_check manifest owner name bound entry) ≡ entry_check_on t manifest owner name bound entry
+told-entry_check t manifest owner name bound None = told-done t (Err NotLocked)
+told-entry_check t manifest owner name bound (Some entry) = told-if t (is_npm bound.reference) _ _ (told-range_check t manifest owner name entry) (told-done t (Ok tt))
 
--- a choice of plans comes to the choice of what they come to
-answer-if : {A : Type 0} {a b : A} (t : Files) (test : Bool) (p q : Plan A) → answer t p ≡ a → answer t q ≡ b → answer t (cond test p q) ≡ cond test a b
-answer-if t true p q first second = first
-answer-if t false p q first second = second
+told-check : (t : Files) (lock : Option Lock) (manifest : Contents) (owner : PackageLocator) (name : List ℕ) (bound : PackageLocator) → told t (check_by lock manifest owner name bound) ≡ check_on t lock manifest owner name bound
+told-check t None manifest owner name bound = told-done t (Ok tt)
+told-check t (Some lock) manifest owner name bound = told-if t (is_workspace bound.reference) _ _ (told-done t (Ok tt)) (told-entry_check t manifest owner name bound (first_naming lock bound))
 
-asked-if : {A : Type 0} {ps qs : List Question} (t : Files) (test : Bool) (p q : Plan A) → asked t p ≡ ps → asked t q ≡ qs → asked t (cond test p q) ≡ cond test ps qs
-asked-if t true p q first second = first
-asked-if t false p q first second = second
-
-answer-entry_check : (t : Files) (manifest : Contents) (owner : PackageLocator) (name : List ℕ) (bound : PackageLocator) (entry : Option Entry) → answer t (entry_check manifest owner name bound entry) ≡ entry_check_on t manifest owner name bound entry
-answer-entry_check t manifest owner name bound None = answer-done t (Err NotLocked)
-answer-entry_check t manifest owner name bound (Some entry) = answer-if t (is_npm bound.reference) _ _ (answer-range_check t manifest owner name entry) (answer-done t (Ok tt))
-
-asked-entry_check : (t : Files) (manifest : Contents) (owner : PackageLocator) (name : List ℕ) (bound : PackageLocator) (entry : Option Entry) → asked t (entry_check manifest owner name bound entry) ≡ entry_check_asks manifest owner bound entry
-asked-entry_check t manifest owner name bound None = asked-done {A = Result (Unit {0}) EdgeFault} t (Err NotLocked)
-asked-entry_check t manifest owner name bound (Some entry) = asked-if t (is_npm bound.reference) _ _ (asked-range_check t manifest owner name entry) (asked-done {A = Result (Unit {0}) EdgeFault} t (Ok tt))
-
-answer-check : (t : Files) (lock : Option Lock) (manifest : Contents) (owner : PackageLocator) (name : List ℕ) (bound : PackageLocator) → answer t (check_by lock manifest owner name bound) ≡ check_on t lock manifest owner name bound
-answer-check t None manifest owner name bound = answer-done t (Ok tt)
-answer-check t (Some lock) manifest owner name bound = answer-if t (is_workspace bound.reference) _ _ (answer-done t (Ok tt)) (answer-entry_check t manifest owner name bound (first_naming lock bound))
-
-asked-check : (t : Files) (lock : Option Lock) (manifest : Contents) (owner : PackageLocator) (name : List ℕ) (bound : PackageLocator) → asked t (check_by lock manifest owner name bound) ≡ check_asks lock manifest owner bound
-asked-check t None manifest owner name bound = asked-done {A = Result (Unit {0}) EdgeFault} t (Ok tt)
-asked-check t (Some lock) manifest owner name bound = asked-if t (is_workspace bound.reference) _ _ (asked-done {A = Result (Unit {0}) EdgeFault} t (Ok tt)) (asked-entry_check t manifest owner name bound (first_naming lock bound))
-
-pub answer-location : (t : Files) (lock : Option Lock) (manifest : Contents) (owner : PackageLocator) (name : List ℕ) (bound : PackageLocator) → answer t (checked_location lock manifest owner name bound) ≡ location_on t lock manifest owner name bound
+pub told-location : (t : Files) (lock : Option Lock) (manifest : Contents) (owner : PackageLocator) (name : List ℕ) (bound : PackageLocator) → told t (checked_location lock manifest owner name bound) ≡ location_on t lock manifest owner name bound
 unfolding checked_location
-answer-location t lock manifest owner name bound =
-    row t (registered manifest bound) (λ location. check_by lock manifest owner name bound >>=? λ passed. Done (Ok location))
-    (λ location. step t (check_by lock manifest owner name bound) (λ passed. Done (Ok location)) (answer-check t lock manifest owner name bound) (λ passed. answer-done t (Ok location)))
-
-pub asked-location : (t : Files) (lock : Option Lock) (manifest : Contents) (owner : PackageLocator) (name : List ℕ) (bound : PackageLocator) → asked t (checked_location lock manifest owner name bound) ≡ location_asks lock manifest owner bound
-unfolding checked_location
-asked-location t lock manifest owner name bound =
-    row_asks t (registered manifest bound) (λ location. check_by lock manifest owner name bound >>=? λ passed. Done (Ok location))
-    (λ location. asked-last t (check_by lock manifest owner name bound) (λ passed. Ok location) ∙ asked-check t lock manifest owner name bound)
+told-location t lock manifest owner name bound =
+    told-goes_on t (registered manifest bound) (λ location. check_by lock manifest owner name bound >>=? λ passed. Done (Ok location))
+    (λ location. told-refusing t (check_by lock manifest owner name bound) (λ passed. Done (Ok location)) (told-check t lock manifest owner name bound) (λ passed. told-done t (Ok location)))
 
 pub location_on_tree : LocationOnTree
-location_on_tree = record { answers = answer-location; asks = asked-location }
+location_on_tree = record { tells = told-location }
 
-answer-fault : (t : Files) (lock : Option Lock) (manifest : Contents) (owner : PackageLocator) (name : List ℕ) (bound : PackageLocator) → answer t (binding_fault lock manifest owner name bound) ≡ fault_in (location_on t lock manifest owner name bound)
+told-fault : (t : Files) (lock : Option Lock) (manifest : Contents) (owner : PackageLocator) (name : List ℕ) (bound : PackageLocator) → told t (binding_fault lock manifest owner name bound) ≡ made fault_in (location_on t lock manifest owner name bound)
 unfolding binding_fault
-answer-fault t lock manifest owner name bound = answer-made t (checked_location lock manifest owner name bound) fault_in ∙ ap fault_in (answer-location t lock manifest owner name bound)
-
-asked-fault : (t : Files) (lock : Option Lock) (manifest : Contents) (owner : PackageLocator) (name : List ℕ) (bound : PackageLocator) → asked t (binding_fault lock manifest owner name bound) ≡ location_asks lock manifest owner bound
-unfolding binding_fault
-asked-fault t lock manifest owner name bound = asked-made t (checked_location lock manifest owner name bound) fault_in ∙ asked-location t lock manifest owner name bound
+told-fault t lock manifest owner name bound =
+    told-made t (checked_location lock manifest owner name bound) fault_in ∙ ap (made fault_in) (told-location t lock manifest owner name bound)
 
 pub fault_on_tree : FaultOnTree
-fault_on_tree = record { answers = answer-fault; asks = asked-fault }
+fault_on_tree = record { tells = told-fault }

@@ -5,6 +5,6 @@ pub mod PlacesView
 pub mod Range
 pub mod Checks
 pub mod Fault
-pub mod Lent
+pub mod Borrowed
 pub mod OnTree
 pub mod Locked

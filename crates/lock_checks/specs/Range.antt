@@ -12,10 +12,10 @@ use Rattle.deno_package_json.specs.declared.dep_value.PackageJsonDepValue.TheVar
 use Rattle.deno_package_json.specs.declared.error.PackageJsonLoadError.{PackageJsonLoadError}
 use Rattle.deno_package_json.specs.Package.{Package}
 use Rattle.deno_package_json.specs.Loading.{from_text}
-use Rattle.deno_package_json.specs.Requirements.{Required, requirements_of}
+use Rattle.deno_package_json.specs.Requirements.{Required, Requirements, requirements_of}
 use Rattle.pnp_core.specs.declared.manifest.PackageLocator.{PackageLocator}
-use Rattle.pnp_core.specs.Manifest.{Contents, location_of}
-use Rattle.pnp_core.specs.PhysicalPlace.{physical_place}
+use Rattle.pnp_core.specs.Manifest.{Contents}
+use Rattle.pnp_core.specs.PhysicalPlace.{place_of}
 use Rattle.lock_checks.specs.declared.fault.EdgeFault.{EdgeFault}
 use Rattle.lock_checks.specs.declared.fault.EdgeFault.TheVariants.{MalformedPackage, OutOfRange}
 
@@ -29,9 +29,13 @@ range_of (Ok (Req named)) = unless_tag named.version_req
 range_of (Ok (Workspace required)) = None
 range_of (Err fault) = None
 
+-- the range that requirements have under a name
+abbrev pub range_among : List ℕ → Requirements → Option Requirement
+range_among name required = option_and_then range_of (lookup (bytes_eq name) required)
+
 -- the range that a package declares under a name
 abbrev pub range_under : List ℕ → Package → Option Requirement
-range_under name says = option_and_then range_of (lookup (bytes_eq name) (requirements_of says))
+range_under name says = range_among name (requirements_of says)
 
 -- a package.json that can't be read refuses the binding
 abbrev pub range_or_malformed : Path → List ℕ → Result Package PackageJsonLoadError → Result (Option Requirement) EdgeFault
@@ -57,13 +61,9 @@ abbrev pub range_in_place : Option Path → List ℕ → Plan (Result (Option Re
 range_in_place None name = Done (Ok None)
 range_in_place (Some folder) name = range_in_folder folder name
 
--- the folder of a row's package, where it lies in no archive
-abbrev pub folder_of : Contents → PackageLocator → Option Path
-folder_of manifest owner = option_and_then physical_place (location_of manifest owner)
-
 -- The range that the package of a row declares under a name. A package inside an archive declares none.
 abbrev pub declared_range : Contents → PackageLocator → List ℕ → Plan (Result (Option Requirement) EdgeFault)
-declared_range manifest owner name = range_in_place (folder_of manifest owner) name
+declared_range manifest owner name = range_in_place (place_of manifest owner) name
 
 -- the version can be read, and is within the range
 abbrev pub is_within : Requirement → List ℕ → Bool

@@ -1,57 +1,57 @@
 // The checks of a binding.
+ghost use Rattle.std.specs.Prelude.{◌≡◌, IfOk, Some};
 ghost use Rattle.std.specs.Option.{option_copied};
+ghost use Rattle.pnp_core.specs.Manifest.{location_of};
 ghost use Rattle.tree_core.specs.Asks.{Asks};
 ghost use Rattle.tree_core.specs.Resolving.{Resolves};
+ghost use Rattle.lock_checks.specs.Borrowed.{borrowed};
 ghost use Rattle.lock_checks.specs.Checks.{check_by, checked_location, lock_check, range_check};
 ghost use Rattle.lock_checks.specs.Fault.{binding_fault};
-ghost use Rattle.lock_checks.specs.Lent.{lent};
 
 use crate::range::{declared_range, location_of, within};
 use crate::reference::{is_npm, is_workspace};
-use crate::{EdgeFault, Lock};
-use pnp_core::{Manifest, PackageLocator};
+use crate::{Edge, EdgeFault, Lock};
+use package_readings::PackageReadings;
 use std::alloc::Global;
 use tree_core::{Asker, ReadError, ResolveError};
 use yarn_lock_parser::Entry;
 
-/// Why the binding of a name that an owner asks for is refused, if it is: the bound package has no row, or the lock doesn't allow it.
+/// Why a binding is refused, if it is: the bound package has no row, or the lock doesn't allow it.
 pub fn check_binding<R: Asker>(
     alloc: Global,
     tree: &mut R,
+    packages: &mut PackageReadings,
     lock: Option<&Lock<'_>>,
-    manifest: &Manifest,
-    owner: &PackageLocator,
-    name: &str,
-    bound: &PackageLocator,
+    edge: &Edge<'_>,
 ) -> Result<Option<EdgeFault>, ReadError>
     ensures { Asks (R.asking tree.old) (R.asking tree.new) result
-        (binding_fault (option_copied lock.entry) manifest.now owner.now name.now bound.now) }
+        (binding_fault (option_copied lock.entry) edge.now.manifest.now edge.now.owner.now
+        edge.now.name.now edge.now.bound.now) }
 {
-    match checked_location(alloc, tree, lock, manifest, owner, name, bound) {
+    match checked_location(alloc, tree, packages, lock, edge) {
         Ok(_) => Ok(None),
-        Err(ResolveError::Refused(fault)) => Ok(Some(fault)),
-        Err(ResolveError::TreeFault) => Err(ReadError::Fault),
-        Err(ResolveError::NoMemory) => Err(ReadError::NoMemory),
+        Err(error) => Ok(Some(error.refusal()?)),
     }
 }
 
-/// The location of the bound package, where a name that an owner asks for is bound to it and no check refuses that.
+/// The location of the bound package, where no check refuses the binding.
 pub fn checked_location<'m, R: Asker>(
     alloc: Global,
     tree: &mut R,
+    packages: &mut PackageReadings,
     lock: Option<&Lock<'_>>,
-    manifest: &'m Manifest,
-    owner: &PackageLocator,
-    name: &str,
-    bound: &PackageLocator,
+    edge: &Edge<'m>,
 ) -> Result<&'m str, ResolveError<EdgeFault>>
-    ensures { Resolves (R.asking tree.old) (R.asking tree.new) (lent result)
-        (checked_location (option_copied lock.entry) manifest.now owner.now name.now bound.now) }
+    ensures asks { Resolves (R.asking tree.old) (R.asking tree.new) (borrowed result)
+        (checked_location (option_copied lock.entry) edge.now.manifest.now edge.now.owner.now
+        edge.now.name.now edge.now.bound.now) }
+    ensures row { IfOk result (λ location.
+        location_of edge.now.manifest.now edge.now.bound.now ≡ Some location.now) }
 {
-    let Some(location) = location_of(manifest, bound) else {
+    let Some(location) = location_of(edge.manifest, edge.bound) else {
         return Err(ResolveError::Refused(EdgeFault::NotInRegistry));
     };
-    check_by(alloc, tree, lock, manifest, owner, name, bound)?;
+    check_by(alloc, tree, packages, lock, edge)?;
     Ok(location)
 }
 
@@ -59,17 +59,16 @@ pub fn checked_location<'m, R: Asker>(
 fn check_by<R: Asker>(
     alloc: Global,
     tree: &mut R,
+    packages: &mut PackageReadings,
     lock: Option<&Lock<'_>>,
-    manifest: &Manifest,
-    owner: &PackageLocator,
-    name: &str,
-    bound: &PackageLocator,
+    edge: &Edge<'_>,
 ) -> Result<(), ResolveError<EdgeFault>>
     ensures { Resolves (R.asking tree.old) (R.asking tree.new) result
-        (check_by (option_copied lock.entry) manifest.now owner.now name.now bound.now) }
+        (check_by (option_copied lock.entry) edge.now.manifest.now edge.now.owner.now
+        edge.now.name.now edge.now.bound.now) }
 {
     match lock {
-        Some(lock) => lock_check(alloc, tree, lock, manifest, owner, name, bound),
+        Some(lock) => lock_check(alloc, tree, packages, lock, edge),
         None => Ok(()),
     }
 }
@@ -78,15 +77,15 @@ fn check_by<R: Asker>(
 fn lock_check<R: Asker>(
     alloc: Global,
     tree: &mut R,
+    packages: &mut PackageReadings,
     lock: &Lock<'_>,
-    manifest: &Manifest,
-    owner: &PackageLocator,
-    name: &str,
-    bound: &PackageLocator,
+    edge: &Edge<'_>,
 ) -> Result<(), ResolveError<EdgeFault>>
     ensures { Resolves (R.asking tree.old) (R.asking tree.new) result
-        (lock_check lock.now manifest.now owner.now name.now bound.now) }
+        (lock_check lock.now edge.now.manifest.now edge.now.owner.now edge.now.name.now
+        edge.now.bound.now) }
 {
+    let bound = edge.bound;
     let reference = bound.reference.as_str();
     if is_workspace(reference) {
         return Ok(());
@@ -97,21 +96,20 @@ fn lock_check<R: Asker>(
     if !is_npm(reference) {
         return Ok(());
     }
-    range_check(alloc, tree, manifest, owner, name, entry)
+    range_check(alloc, tree, packages, edge, entry)
 }
 
 // That an entry's version is within the range that the asking package declares.
 fn range_check<R: Asker>(
     alloc: Global,
     tree: &mut R,
-    manifest: &Manifest,
-    owner: &PackageLocator,
-    name: &str,
+    packages: &mut PackageReadings,
+    edge: &Edge<'_>,
     entry: &Entry<'_>,
 ) -> Result<(), ResolveError<EdgeFault>>
     ensures { Resolves (R.asking tree.old) (R.asking tree.new) result
-        (range_check manifest.now owner.now name.now entry.now) }
+        (range_check edge.now.manifest.now edge.now.owner.now edge.now.name.now entry.now) }
 {
-    let range = declared_range(alloc, tree, manifest, owner, name)?;
-    within(alloc, &range, entry.version())
+    let range = declared_range(alloc, tree, packages, edge)?;
+    within(alloc, range, entry.version())
 }

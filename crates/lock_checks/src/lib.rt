@@ -2,6 +2,7 @@
 #![tactic(auto)]
 
 mod binding;
+mod edge;
 mod fault;
 pub mod laws;
 mod lock;
@@ -11,6 +12,7 @@ mod range;
 mod reference;
 
 pub use binding::{check_binding, checked_location};
+pub use edge::Edge;
 pub use fault::EdgeFault;
 pub use lock::Lock;
 pub use naming::names_locator;

@@ -1,6 +1,7 @@
 // Why bindings are refused, by hand.
 use crate::fixtures::{first_lock, later_lock, locator};
-use lock_checks::{EdgeFault, Lock, check_binding};
+use lock_checks::{Edge, EdgeFault, Lock, check_binding};
+use package_readings::PackageReadings;
 use pnp_core::{Manifest, PackageLocator, loaded_manifest};
 use std::alloc::{AllocError, Global};
 use std::process::Abort;
@@ -140,6 +141,7 @@ fn package(alloc: Global, text: &str) -> Result<PackageLocator, Fail> {
 fn found(
     alloc: Global,
     recorder: &mut Recorder<'_, MemoryTree>,
+    packages: &mut PackageReadings,
     lock: Option<&Lock<'_>>,
     manifest: &Manifest,
     line: &str,
@@ -148,7 +150,13 @@ fn found(
     let (name, bound) = asked.split_once(' ').ok_or("no name")?;
     let owner = package(alloc, owner)?;
     let bound = package(alloc, bound)?;
-    let fault = check_binding(alloc, recorder, lock, manifest, &owner, name, &bound)?;
+    let edge = Edge {
+        manifest,
+        owner: &owner,
+        name,
+        bound: &bound,
+    };
+    let fault = check_binding(alloc, recorder, packages, lock, &edge)?;
     Ok(told(alloc, fault)?)
 }
 
@@ -156,12 +164,13 @@ fn comes_to(
     rt: &impl Abort,
     alloc: Global,
     recorder: &mut Recorder<'_, MemoryTree>,
+    packages: &mut PackageReadings,
     lock: Option<&Lock<'_>>,
     manifest: &Manifest,
     line: &str,
 ) -> Result<(), Fail> {
     let (binding, wanted) = line.split_once(" = ").ok_or("no outcome")?;
-    let told = found(alloc, recorder, lock, manifest, binding)?;
+    let told = found(alloc, recorder, packages, lock, manifest, binding)?;
     assert_eq!(rt; told.as_str(), wanted, "{binding}");
     Ok(())
 }
@@ -170,12 +179,13 @@ fn each_comes_to(
     rt: &impl Abort,
     alloc: Global,
     recorder: &mut Recorder<'_, MemoryTree>,
+    packages: &mut PackageReadings,
     lock: Option<&Lock<'_>>,
     manifest: &Manifest,
     lines: &str,
 ) -> Result<(), Fail> {
     for line in lines.lines() {
-        comes_to(rt, alloc, recorder, lock, manifest, line)?;
+        comes_to(rt, alloc, recorder, packages, lock, manifest, line)?;
     }
     Ok(())
 }
@@ -189,7 +199,16 @@ fn come_to(
     let manifest = manifest_of(alloc)?;
     let mut tree = tree_of_packages(alloc)?;
     let mut recorder = Recorder::new(alloc, &mut tree);
-    each_comes_to(rt, alloc, &mut recorder, lock, &manifest, lines)
+    let mut packages = PackageReadings::new(alloc);
+    each_comes_to(
+        rt,
+        alloc,
+        &mut recorder,
+        &mut packages,
+        lock,
+        &manifest,
+        lines,
+    )
 }
 
 #[test]
@@ -214,7 +233,15 @@ fn questions(alloc: Global, lock: &Lock<'_>, line: &str) -> Result<usize, Fail> 
     let manifest = manifest_of(alloc)?;
     let mut tree = tree_of_packages(alloc)?;
     let mut recorder = Recorder::new(alloc, &mut tree);
-    let _told = found(alloc, &mut recorder, Some(lock), &manifest, line)?;
+    let mut packages = PackageReadings::new(alloc);
+    let _told = found(
+        alloc,
+        &mut recorder,
+        &mut packages,
+        Some(lock),
+        &manifest,
+        line,
+    )?;
     Ok(recorder.trail().len())
 }
 

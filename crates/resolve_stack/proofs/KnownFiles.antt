@@ -46,12 +46,12 @@ known-beside t u path (k ∷ known) none same h =
     )
 
 -- One more is known.
-pub known-push : (t : Files) (known : List ReadManifest) (k : ReadManifest) → AreKnownOn t known → loaded_on t k.path ≡ Ok k.manifest → AreKnownOn t (known ++ k ∷ [])
+pub known-push : (t : Files) (known : List ReadManifest) (k : ReadManifest) → AreKnownOn t known → (loaded_on t k.path).result ≡ Ok k.manifest → AreKnownOn t (known ++ k ∷ [])
 known-push t [] k h is = (is, tt)
 known-push t (x ∷ known) k h is = (h.0, known-push t known k h.1 is)
 
 -- The same of a push that may be refused.
-pub known-pushed : (t : Files) (known now : List ReadManifest) (k : ReadManifest) (pushed : Bool) → now ≡ cond pushed (known ++ k ∷ []) known → AreKnownOn t known → loaded_on t k.path ≡ Ok k.manifest → AreKnownOn t now
+pub known-pushed : (t : Files) (known now : List ReadManifest) (k : ReadManifest) (pushed : Bool) → now ≡ cond pushed (known ++ k ∷ []) known → AreKnownOn t known → (loaded_on t k.path).result ≡ Ok k.manifest → AreKnownOn t now
 known-pushed t known now k true is h loaded = rw is (known-push t known k h loaded)
 known-pushed t known now k false is h loaded = rw is h
 

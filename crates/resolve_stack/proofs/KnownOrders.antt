@@ -5,15 +5,17 @@ use Rattle.sugar_path.specs.PathEq.{path_eq-Decides}
 use Rattle.tree_core.specs.Tree.{Files}
 use Rattle.tree_core.specs.First.{content_of}
 use Rattle.tree_core.specs.Plan.{Plan, Done, answer, asked, read, ◌>>=◌, ◌>>=?◌}
+use Rattle.tree_core.specs.Told.{told}
+use Rattle.tree_core.proofs.Tellings.{told-is}
 use Rattle.tree_core.specs.Asks.{Asking, Asks, AgreeWith}
 use Rattle.tree_core.specs.Rows.{order, refuses_by}
 use Rattle.tree_core.specs.declared.tree.ReadError.{ReadError}
 use Rattle.pnp_core.specs.Loading.{loading}
-use Rattle.pnp_core.specs.OnTree.{loaded_on, loaded_asks}
+use Rattle.pnp_core.specs.OnTree.{loaded_on}
 use Rattle.pnp_core.specs.Nearest.{nearest}
 use Rattle.swc_loader.specs.declared.resolution.FileName.{FileName}
 use Rattle.resolver_core.specs.Mapping.{Order, Mapping, mapping_order, mapped}
-use Rattle.resolver_core.specs.MappingOnTree.{mapped_on, mapped_asks}
+use Rattle.resolver_core.specs.MappingOnTree.{mapped_on}
 use Rattle.resolver_core.proofs.MappingLaws.{mapping_on_tree}
 use Rattle.resolve_stack.specs.declared.verdict.Verdict.{Verdict}
 use Rattle.resolve_stack.specs.Settings.{ProjectSettings, path_of}
@@ -23,30 +25,30 @@ use Rattle.resolve_stack.specs.OrderParts.{manifest_rows}
 use Rattle.resolve_stack.specs.Order.{join, join_order}
 use Rattle.resolve_stack.specs.Verdict.{verdict, verdict_of, behind_mapping}
 use Rattle.resolve_stack.specs.Known.{ReadManifest, known_at, known_or_read, read_by, manifest_in_by, nearest_manifest_by, join_by, join_order_by, verdict_by, AreKnownOn, AreRight}
-use Rattle.resolve_stack.proofs.OnTrees.{answer-read, asked-read}
+use Rattle.resolve_stack.proofs.OnTrees.{told-read_manifest}
 use Rattle.resolve_stack.proofs.AlikePlans.{Alike, alike_self, alike_then, alike_on_ok, asks_alike}
 
 -- what is known of a file is what it says
-known-says : (t : Files) (known : List ReadManifest) (file : Path) → AreKnownOn t known → known_or_read (known_at known file) file (content_of t file) ≡ readable file (loaded_on t file)
+known-says : (t : Files) (known : List ReadManifest) (file : Path) → AreKnownOn t known → known_or_read (known_at known file) file (content_of t file) ≡ readable file (loaded_on t file).result
 known-says t [] file h = refl
 known-says t (k ∷ known) file h = by_test (path_eq k.path file) refl (known-says t known file h.1)
   where
-    by_test : (b : Bool) → path_eq k.path file ≡ b → known_or_read (known_at known file) file (content_of t file) ≡ readable file (loaded_on t file) → known_or_read (cond b (Some k.manifest) (known_at known file)) file (content_of t file) ≡ readable file (loaded_on t file)
-    by_test true same rest = ap (readable file) (sym (ap (loaded_on t) (sym ((path_eq-Decides k.path file).0 same)) ∙ h.0))
+    by_test : (b : Bool) → path_eq k.path file ≡ b → known_or_read (known_at known file) file (content_of t file) ≡ readable file (loaded_on t file).result → known_or_read (cond b (Some k.manifest) (known_at known file)) file (content_of t file) ≡ readable file (loaded_on t file).result
+    by_test true same rest = ap (readable file) (sym (ap (λ p. (loaded_on t p).result) (sym ((path_eq-Decides k.path file).0 same)) ∙ h.0))
     by_test false other rest = rest
 
 answer-read_by : (t : Files) (known : List ReadManifest) (file : Path) → answer t (read_by known file) ≡ known_or_read (known_at known file) file (content_of t file)
 unfolding read_by answer read ◌>>=◌
 answer-read_by t known file = refl
 
-asked-read_by : (t : Files) (known : List ReadManifest) (file : Path) → asked t (read_by known file) ≡ loaded_asks file
+asked-read_by : (t : Files) (known : List ReadManifest) (file : Path) → asked t (read_by known file) ≡ (loaded_on t file).questions
 unfolding read_by asked read ◌>>=◌
 asked-read_by t known file = refl
 
 reading_alike : (t : Files) (known : List ReadManifest) (file : Path) → AreKnownOn t known → Alike t (read_by known file) (read_manifest file)
 reading_alike t known file h = record {
-  answers = answer-read_by t known file ∙ known-says t known file h ∙ sym (answer-read t file);
-  asks = asked-read_by t known file ∙ sym (asked-read t file);
+  answers = answer-read_by t known file ∙ known-says t known file h ∙ sym (ap (λ tells. tells.result) (told-read_manifest t file));
+  asks = asked-read_by t known file ∙ sym (ap (λ tells. tells.questions) (told-read_manifest t file));
 }
 
 manifest_in_alike : (t : Files) (known : List ReadManifest) (project : ProjectSettings) (request : Request) (found : Option Path) → AreKnownOn t known → Alike t (manifest_in_by known project request found) (manifest_in project request found)
@@ -68,16 +70,12 @@ join_alike t known project request h =
     (λ going. alike_self)
 
 mapping_alike : {X : Type 0} (t : Files) (p q : Order X) (m : Mapping) (base : FileName) (s : List ℕ) → ((b : FileName) (s : List ℕ) → Alike t (p b s) (q b s)) → Alike t (mapping_order p m base s) (mapping_order q m base s)
-mapping_alike {X = X} t p q m base s alike = record {
-  answers =
-      (mapping_on_tree X).answers t p m base s
-      ∙ (λ i. mapped_on (λ b s. (alike b s).answers i) (mapped m base s))
-      ∙ sym ((mapping_on_tree X).answers t q m base s);
-  asks =
-      (mapping_on_tree X).asks t p m base s
-      ∙ (λ i. mapped_asks (λ b s. (alike b s).answers i) (λ b s. (alike b s).asks i) (mapped m base s))
-      ∙ sym ((mapping_on_tree X).asks t q m base s);
-}
+mapping_alike {X = X} t p q m base s alike =
+    let same : told t (mapping_order p m base s) ≡ told t (mapping_order q m base s) =
+    (mapping_on_tree X).tells t p m base s
+    ∙ (λ i. mapped_on (λ b s. told-is (alike b s).answers (alike b s).asks i) (mapped m base s))
+    ∙ sym ((mapping_on_tree X).tells t q m base s) in
+    record { answers = ap (λ tells. tells.result) same; asks = ap (λ tells. tells.questions) same }
 
 behind_alike : {X : Type 0} (t : Files) (p q : Order X) (o : Option Mapping) (base : FileName) (s : List ℕ) → ((b : FileName) (s : List ℕ) → Alike t (p b s) (q b s)) → Alike t (behind_mapping o p base s) (behind_mapping o q base s)
 behind_alike t p q None base s alike = alike_then _ _ (alike base s) (λ r. alike_self)

@@ -1,3 +1,4 @@
+pub mod ExportedFiles
 pub mod Faults
 pub mod Raising
 pub mod Projects

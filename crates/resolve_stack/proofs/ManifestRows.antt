@@ -12,26 +12,26 @@ use Rattle.tree_core.specs.Plan.{Done}
 use Rattle.tree_core.specs.Asks.{Asking, Asks, seen}
 use Rattle.tree_core.specs.Resolving.{IsDecided, IsDecidedTo, Resolves, resolving}
 use Rattle.tree_core.proofs.Asking.{asks_done, asks_decided}
-use Rattle.lock_checks.specs.Lent.{lent}
+use Rattle.lock_checks.specs.Borrowed.{borrowed}
 use Rattle.pnp_core.specs.Manifest.{Contents}
 use Rattle.pnp_core.specs.ManifestReading.{reading}
 use Rattle.resolve_stack.specs.declared.verdict.JoinRefusal.{JoinRefusal}
 use Rattle.resolve_stack.specs.Rows.{readable}
 use Rattle.resolve_stack.specs.Known.{ReadManifest, known_or_read}
 
-decided_lent : {A X : Type 0} (result : Result (Bor A) (ResolveError X)) (r : Result A X) → IsDecidedTo result r → IsDecided (lent result) r
-decided_lent (Ok a) r is = is
-decided_lent (Err (Refused x)) r is = is
-decided_lent (Err TreeFault) r is = is
-decided_lent (Err NoMemory) r is = is
+decided_borrowed : {A X : Type 0} (result : Result (Bor A) (ResolveError X)) (r : Result A X) → IsDecidedTo result r → IsDecided (borrowed result) r
+decided_borrowed (Ok a) r is = is
+decided_borrowed (Err (Refused x)) r is = is
+decided_borrowed (Err TreeFault) r is = is
+decided_borrowed (Err NoMemory) r is = is
 
 -- where a manifest is known, it is that one
 pub known_row : {s : Asking} {m : Contents} (known : Option Contents) (file : Path) (content : Option (List ℕ)) → known ≡ Some m → Asks s s (seen resolving (Ok m)) (Done (known_or_read known file content))
 known_row known file content is = asks_done (sym (ap (λ o. known_or_read o file content) is))
 
 -- else what the bytes say
-pub read_row : {s : Asking} (result : Result (Bor Contents) (ResolveError JoinRefusal)) (known : Option Contents) (file : Path) (content : Option (List ℕ)) → known ≡ None → IsDecidedTo result (readable file (reading content file)) → Resolves s s (lent result) (Done (known_or_read known file content))
-read_row result known file content is decided = rw is (asks_decided (lent result) (decided_lent result _ decided))
+pub read_row : {s : Asking} (result : Result (Bor Contents) (ResolveError JoinRefusal)) (known : Option Contents) (file : Path) (content : Option (List ℕ)) → known ≡ None → IsDecidedTo result (readable file (reading content file)) → Resolves s s (borrowed result) (Done (known_or_read known file content))
+read_row result known file content is decided = rw is (asks_decided (borrowed result) (decided_borrowed result _ decided))
 
 -- a kept manifest of a file and of its bytes is one with this path and these bytes
 pub is_reading : (read : ReadManifest) (file : Path) (bytes : List ℕ) → path_eq read.path file && bytes_eq read.bytes bytes ≡ true → (read.path ≡ file) × (read.bytes ≡ bytes)

@@ -105,10 +105,10 @@ project_unlocked e s text p o lock same clean mapped is h =
     (cause_first e (lock_given s.lock) _ refused))
 
 -- the project that settings make
-pub project_made : (s : GivenSettings) (text : List ℕ) (p : Path) (o : Option Mapping) (l : Option Lock) (node : NodeSettings) → text ≡ s.cwd → clean_setting (codes "cwd") text ≡ Ok p → mapping_given s.ts ≡ Ok o → lock_given s.lock ≡ Ok l → node ≡ settings_of p s.target s.alias s.preserve_symlinks s.node_modules → project_of s ≡ Ok (record { node = node; mapping = o; lock = l })
+pub project_made : (s : GivenSettings) (text : List ℕ) (p : Path) (o : Option Mapping) (l : Option Lock) (node : NodeSettings) → text ≡ s.cwd → clean_setting (codes "cwd") text ≡ Ok p → mapping_given s.ts ≡ Ok o → lock_given s.lock ≡ Ok l → node ≡ settings_of p s.target s.alias s.preserve_symlinks s.node_modules → project_of s ≡ Ok (record { node = node; mapping = o; lock = l; conditions = s.conditions })
 unfolding project_of
 project_made s text p o l node same clean mapped locked is =
-    let with : NodeSettings → Option Mapping → Option Lock → Result ProjectSettings ProjectError = λ n m k. Ok (record { node = n; mapping = m; lock = k }) in
+    let with : NodeSettings → Option Mapping → Option Lock → Result ProjectSettings ProjectError = λ n m k. Ok (record { node = n; mapping = m; lock = k; conditions = s.conditions }) in
     let from : Path → NodeSettings = λ cwd. settings_of cwd s.target s.alias s.preserve_symlinks s.node_modules in
     ap (λ (r : Result Path ProjectError). r >>= λ cwd. mapping_given s.ts >>= λ m. lock_given s.lock >>= with (from cwd) m) (ap (clean_setting (codes "cwd")) (sym same) ∙ clean)
     ∙ ap (λ (r : Result (Option Mapping) ProjectError). r >>= λ m. lock_given s.lock >>= with (from p) m) mapped

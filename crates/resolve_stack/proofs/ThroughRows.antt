@@ -7,13 +7,14 @@ use Rattle.tree_core.specs.Plan.{answer}
 use Rattle.tree_core.specs.Asks.{widened}
 use Rattle.tree_core.proofs.RowLaws.{answer-made, answer-raised}
 use Rattle.tree_core.specs.Rows.{Going, end_of, or_refused}
-use Rattle.tree_core.specs.Results.{◌>>=◌}
+use Rattle.tree_core.specs.Told.{Told, unasked, made, where_ok, ◌>>=?◌}
 use Rattle.pnp_core.specs.declared.error.HydrationCause.{HydrationCause}
 use Rattle.pnp_core.specs.declared.manifest.PackageLocator.{PackageLocator}
 use Rattle.pnp_core.specs.declared.manifest.Binding.{Binding}
 use Rattle.pnp_core.specs.declared.manifest.Binding.TheVariants.{Bound, MissingPeer, Undeclared}
 use Rattle.pnp_core.specs.BareIdentifier.{split_bare}
 use Rattle.pnp_core.specs.Manifest.{Contents, location_of}
+use Rattle.pnp_core.specs.Owner.{owner}
 use Rattle.pnp_core.specs.Binding.{bind}
 use Rattle.pnp_core.specs.PhysicalPlace.{physical_place}
 use Rattle.pnp_core.specs.OnTree.{nearest_on, loaded_on}
@@ -34,7 +35,7 @@ use Rattle.swc_loader.specs.NodeOnTree.{ruled_specifier_on, before_on, search_on
 use Rattle.resolver_core.specs.declared.refusal.TsRefusal.{TsRefusal}
 use Rattle.resolver_core.specs.declared.refusal.TsRefusal.TheVariants.{Inner}
 use Rattle.resolver_core.specs.Mapping.{Mapping, mapped}
-use Rattle.resolver_core.specs.MappingOnTree.{answers_on, mapped_on, tries_in, IsFirstAnswer}
+use Rattle.resolver_core.specs.MappingOnTree.{tells_on, mapped_on, tries_in, IsFirstAnswer}
 use Rattle.resolver_core.proofs.FirstAnswers.{first_answer_decides}
 use Rattle.resolver_core.proofs.MappingLaws.{mapping_on_tree}
 use Rattle.yarn_lock_parser.specs.Lock.{Lock}
@@ -49,7 +50,7 @@ use Rattle.resolve_stack.specs.Settings.{ProjectSettings, path_of}
 use Rattle.resolve_stack.specs.Request.{Request, asked_for}
 use Rattle.resolve_stack.specs.Order.{join, join_order}
 use Rattle.resolve_stack.specs.Rows.{of_node, bare_from, bare_base, readable, identifier_of, bound_or_refused, bound_of, of_fault, folder_of, contained, via_of}
-use Rattle.resolve_stack.specs.OnTree.{or_node_rows_on, manifest_in_file, manifest_on, asking_package, bare_target_on, checked_on, placed_on, found_or_name, through_on, join_on}
+use Rattle.resolve_stack.specs.OnTree.{RowOn, decided_on, refuses_on, ends_on, or_node_rows_on, manifest_in_on, manifest_on, owner_on, bare_target_on, checked_on, exported_on, placed_on, found_or_name, through_on, join_on}
 use Rattle.resolve_stack.specs.Verdict.{verdict_of, behind_mapping, project_order, verdict}
 use Rattle.resolve_stack.specs.Through.{IsHeldBy, ThroughRow, IsFoundFrom, IsFoundByTry, IsFoundBehind, IsFound}
 use Rattle.resolve_stack.proofs.OnTrees.{answer-join}
@@ -61,7 +62,7 @@ IsFoundEnd t project request (Ok resolution) = IsFoundFrom t project request res
 IsFoundEnd t project request (Err refusal) = Unit {0}
 
 -- a row that goes on, or ends the order as it should
-goes : {A : Type 0} (t : Files) (project : ProjectSettings) (request : Request) (g : Going A Resolution JoinRefusal) (f : A → Going Resolution Resolution JoinRefusal) → ((e : Result Resolution JoinRefusal) → g ≡ Err e → IsFoundEnd t project request e) → ((a : A) → g ≡ Ok a → IsFoundEnd t project request (end_of (f a))) → IsFoundEnd t project request (end_of (g >>= f))
+goes : {A : Type 0} (t : Files) (project : ProjectSettings) (request : Request) (g : Going A Resolution JoinRefusal) (f : A → RowOn Resolution) → ((e : Result Resolution JoinRefusal) → g ≡ Err e → IsFoundEnd t project request e) → ((a : A) → g ≡ Ok a → IsFoundEnd t project request (end_of (f a).result)) → IsFoundEnd t project request (end_of (where_ok f g).result)
 goes t project request (Ok a) f ends next = next a refl
 goes t project request (Err e) f ends next = ends e refl
 
@@ -90,13 +91,13 @@ unrefused : {A : Type 0} (d : Result A JoinRefusal) (a : A) → or_refused {R = 
 unrefused (Ok b) a is = let same : b ≡ a = cc in ap Ok same
 unrefused (Err x) a is = cc
 
-or_node_end : {A : Type 0} (t : Files) (project : ProjectSettings) (request : Request) (o : Option A) (e : Result Resolution JoinRefusal) → or_node_rows_on t project request o ≡ Err e → IsFoundEnd t project request e
+or_node_end : {A : Type 0} (t : Files) (project : ProjectSettings) (request : Request) (o : Option A) (e : Result Resolution JoinRefusal) → (or_node_rows_on t project request o).result ≡ Err e → IsFoundEnd t project request e
 or_node_end t project request (Some a) e is = cc
 or_node_end t project request None e is =
-    let same : widened of_node (node_on t project.node request.importer request.specifier) ≡ e = cc in
-    node_end t project request (node_on t project.node request.importer request.specifier) (node-plain t project.node request.importer request.specifier) e same
+    let same : widened of_node (node_on t project.node request.importer request.specifier).result ≡ e = cc in
+    node_end t project request (node_on t project.node request.importer request.specifier).result (node-plain t project.node request.importer request.specifier) e same
 
-or_node_value : {A : Type 0} (t : Files) (project : ProjectSettings) (request : Request) (o : Option A) (a : A) → or_node_rows_on t project request o ≡ Ok a → o ≡ Some a
+or_node_value : {A : Type 0} (t : Files) (project : ProjectSettings) (request : Request) (o : Option A) (a : A) → (or_node_rows_on t project request o).result ≡ Ok a → o ≡ Some a
 or_node_value t project request (Some b) a is = let same : b ≡ a = cc in ap Some same
 or_node_value t project request None a is = cc
 
@@ -125,37 +126,37 @@ read_of file (Err cause) m h = cc
 
 record Read (t : Files) (p : Path) (m : Contents) : Type 0 where
   manifest : Path
-  nearest : nearest_on t p ≡ Some manifest
-  reads : loaded_on t manifest ≡ Ok m
+  nearest : (nearest_on t p).result ≡ Some manifest
+  reads : (loaded_on t manifest).result ≡ Ok m
 
-read_from : (t : Files) (project : ProjectSettings) (request : Request) (base : List ℕ) (m : Contents) → manifest_on t project request base ≡ Ok m → Read t (path_of project base) m
-read_from t project request base m h = by_near (nearest_on t (path_of project base)) refl h
+read_from : (t : Files) (project : ProjectSettings) (request : Request) (base : List ℕ) (m : Contents) → (manifest_on t project request base).result ≡ Ok m → Read t (path_of project base) m
+read_from t project request base m h = by_near (nearest_on t (path_of project base)).result refl h
   where
-    by_near : (near : Option Path) → nearest_on t (path_of project base) ≡ near → manifest_in_file t project request near ≡ Ok m → Read t (path_of project base) m
+    by_near : (near : Option Path) → (nearest_on t (path_of project base)).result ≡ near → (manifest_in_on t project request near).result ≡ Ok m → Read t (path_of project base) m
     by_near None is h = cc
     by_near (Some file) is h =
-        let read = unrefused (readable file (loaded_on t file)) m h in
-        record { manifest = file; nearest = is; reads = read_of file (loaded_on t file) m read }
+        let read = unrefused (readable file (loaded_on t file).result) m h in
+        record { manifest = file; nearest = is; reads = read_of file (loaded_on t file).result m read }
 
-manifest_end : (t : Files) (project : ProjectSettings) (request : Request) (base : List ℕ) (e : Result Resolution JoinRefusal) → manifest_on t project request base ≡ Err e → IsFoundEnd t project request e
-manifest_end t project request base e h = by_near (nearest_on t (path_of project base)) h
+manifest_end : (t : Files) (project : ProjectSettings) (request : Request) (base : List ℕ) (e : Result Resolution JoinRefusal) → (manifest_on t project request base).result ≡ Err e → IsFoundEnd t project request e
+manifest_end t project request base e h = by_near (nearest_on t (path_of project base)).result h
   where
-    by_near : (near : Option Path) → manifest_in_file t project request near ≡ Err e → IsFoundEnd t project request e
+    by_near : (near : Option Path) → (manifest_in_on t project request near).result ≡ Err e → IsFoundEnd t project request e
     by_near None h =
-        let same : widened of_node (node_on t project.node request.importer request.specifier) ≡ e = cc in
-        node_end t project request (node_on t project.node request.importer request.specifier) (node-plain t project.node request.importer request.specifier) e same
-    by_near (Some file) h = refused_end t project request (readable file (loaded_on t file)) e h
+        let same : widened of_node (node_on t project.node request.importer request.specifier).result ≡ e = cc in
+        node_end t project request (node_on t project.node request.importer request.specifier).result (node-plain t project.node request.importer request.specifier) e same
+    by_near (Some file) h = refused_end t project request (readable file (loaded_on t file).result) e h
 
 -- a target that is searched is the specifier's alias
-aliased : (t : Files) (s : NodeSettings) (importer : Path) (specifier target : List ℕ) → target_or_answer {X = JoinRefusal} (before_on t s importer specifier) ≡ Ok target → alias_of s specifier ≡ target
-aliased t s importer specifier target h = by_decided (option_or (ruled_specifier_on t s importer specifier) (core_module_for s.target specifier)) h
+aliased : (t : Files) (s : NodeSettings) (importer : Path) (specifier target : List ℕ) → target_or_answer {X = JoinRefusal} (before_on t s importer specifier).result ≡ Ok target → alias_of s specifier ≡ target
+aliased t s importer specifier target h = by_decided (option_or (ruled_specifier_on t s importer specifier).result (core_module_for s.target specifier)) h
   where
     by_decided : (o : Option Resolution) → target_or_answer {X = JoinRefusal} (decided_or_target s specifier o) ≡ Ok target → alias_of s specifier ≡ target
     by_decided (Some resolution) h = cc
     by_decided None h = cc
 
-before_end : (t : Files) (project : ProjectSettings) (request : Request) (importer : Path) (e : Result Resolution JoinRefusal) → target_or_answer (before_on t project.node importer request.specifier) ≡ Err e → IsFoundEnd t project request e
-before_end t project request importer e h = by_before (before_on t project.node importer request.specifier) (before-plain t project.node importer request.specifier) h
+before_end : (t : Files) (project : ProjectSettings) (request : Request) (importer : Path) (e : Result Resolution JoinRefusal) → target_or_answer (before_on t project.node importer request.specifier).result ≡ Err e → IsFoundEnd t project request e
+before_end t project request importer e h = by_before (before_on t project.node importer request.specifier).result (before-plain t project.node importer request.specifier) h
   where
     by_before : (b : Before) → IsPlainBefore b → target_or_answer b ≡ Err e → IsFoundEnd t project request e
     by_before (Target target) plain h = cc
@@ -165,19 +166,19 @@ before_end t project request importer e h = by_before (before_on t project.node 
         let P : Result Resolution JoinRefusal → Type 0 = IsFoundEnd t project request in
         subst P same (plain_found t project request resolution.found plain)
 
-bare_end : (t : Files) (project : ProjectSettings) (request : Request) (base target : List ℕ) (e : Result Resolution JoinRefusal) → bare_target_on t project base target ≡ Err e → IsFoundEnd t project request e
+bare_end : (t : Files) (project : ProjectSettings) (request : Request) (base target : List ℕ) (e : Result Resolution JoinRefusal) → (bare_target_on t project base target).result ≡ Err e → IsFoundEnd t project request e
 bare_end t project request base target e h = by_test (is_bare target) h
   where
-    by_test : (b : Bool) → cond {A = Going (List ℕ) Resolution JoinRefusal} b (Ok target) (Err (widened of_node (search_on t project.node base target))) ≡ Err e → IsFoundEnd t project request e
+    by_test : (b : Bool) → (cond {A = RowOn (List ℕ)} b (unasked (Ok target)) (ends_on (made (widened of_node) (search_on t project.node base target)))).result ≡ Err e → IsFoundEnd t project request e
     by_test true h = cc
     by_test false h =
-        let same : widened of_node (search_on t project.node base target) ≡ e = cc in
-        node_end t project request (search_on t project.node base target) (search-plain t project.node base target) e same
+        let same : widened of_node (search_on t project.node base target).result ≡ e = cc in
+        node_end t project request (search_on t project.node base target).result (search-plain t project.node base target) e same
 
-bare_value : (t : Files) (project : ProjectSettings) (base target named : List ℕ) → bare_target_on t project base target ≡ Ok named → target ≡ named
+bare_value : (t : Files) (project : ProjectSettings) (base target named : List ℕ) → (bare_target_on t project base target).result ≡ Ok named → target ≡ named
 bare_value t project base target named h = by_test (is_bare target) h
   where
-    by_test : (b : Bool) → cond {A = Going (List ℕ) Resolution JoinRefusal} b (Ok target) (Err (widened of_node (search_on t project.node base target))) ≡ Ok named → target ≡ named
+    by_test : (b : Bool) → (cond {A = RowOn (List ℕ)} b (unasked (Ok target)) (ends_on (made (widened of_node) (search_on t project.node base target)))).result ≡ Ok named → target ≡ named
     by_test true h = cc
     by_test false h = cc
 
@@ -198,22 +199,38 @@ bound_by m o importer target name b h = by_binding (bind m o name) h
     by_binding Undeclared h = cc
 
 -- the rows behind the folder of the bound package, on a tree
-abbrev behind_folder : Files → ProjectSettings → PackageLocator → Path → Option (List ℕ) → Going Resolution Resolution JoinRefusal
-behind_folder t project bound folder subpath =
-    or_refused (placed_on t project folder subpath) >>= λ placed. found_or_name placed >>= λ found. or_refused (contained folder found.0) >>= λ file. Ok (through_on t project (via_of bound folder) file found.1)
+abbrev behind_file : Files → ProjectSettings → PackageLocator → Path → Path × Bool → RowOn Resolution
+behind_file t project bound folder found =
+    decided_on (contained folder found.0) >>=? λ file. refuses_on (through_on t project (via_of bound folder) file found.1)
 
-folder_end : (t : Files) (project : ProjectSettings) (request : Request) (bound : PackageLocator) (folder : Path) (subpath : Option (List ℕ)) → ((f : Path) → below f folder ≡ true → ThroughRow t project request (text_of f) (via_of bound folder)) → IsFoundEnd t project request (end_of (behind_folder t project bound folder subpath))
+abbrev behind_placed : Files → ProjectSettings → PackageLocator → Path → Placed → RowOn Resolution
+behind_placed t project bound folder placed = unasked (found_or_name placed) >>=? behind_file t project bound folder
+
+abbrev behind_exports : Files → ProjectSettings → PackageLocator → Path → Option (List ℕ) → Option Path → RowOn Resolution
+behind_exports t project bound folder subpath exported =
+    refuses_on (placed_on t project folder subpath exported) >>=? behind_placed t project bound folder
+
+abbrev behind_folder : Files → ProjectSettings → PackageLocator → Path → Option (List ℕ) → RowOn Resolution
+behind_folder t project bound folder subpath =
+    refuses_on (exported_on t project folder subpath) >>=? behind_exports t project bound folder subpath
+
+folder_end : (t : Files) (project : ProjectSettings) (request : Request) (bound : PackageLocator) (folder : Path) (subpath : Option (List ℕ)) → ((f : Path) → below f folder ≡ true → ThroughRow t project request (text_of f) (via_of bound folder)) → IsFoundEnd t project request (end_of (behind_folder t project bound folder subpath).result)
 folder_end t project request bound folder subpath through =
-    goes t project request (or_refused (placed_on t project folder subpath)) (λ placed. found_or_name placed >>= λ found. or_refused (contained folder found.0) >>= λ file. Ok (through_on t project (via_of bound folder) file found.1)) (refused_end t project request (placed_on t project folder subpath)) (λ placed is_placed.
-    goes t project request (found_or_name placed) (λ found. or_refused (contained folder found.0) >>= λ file. Ok (through_on t project (via_of bound folder) file found.1)) (ignored_end t project request placed) (λ found is_found.
-    goes t project request (or_refused (contained folder found.0)) (λ file. Ok (through_on t project (via_of bound folder) file found.1)) (refused_end t project request (contained folder found.0)) (λ file within.
+    goes t project request (or_refused (exported_on t project folder subpath).result) (behind_exports t project bound folder subpath) (refused_end t project request (exported_on t project folder subpath).result) (λ exported is_exported.
+    goes t project request (or_refused (placed_on t project folder subpath exported).result) (behind_placed t project bound folder) (refused_end t project request (placed_on t project folder subpath exported).result) (λ placed is_placed.
+    goes t project request (found_or_name placed) (behind_file t project bound folder) (ignored_end t project request placed) (λ found is_found.
+    goes t project request (or_refused (contained folder found.0)) (λ file. refuses_on (through_on t project (via_of bound folder) file found.1)) (refused_end t project request (contained folder found.0)) (λ file within.
     let inside = passed (below found.0 folder) found.0 file (Outside (text_of found.0) (text_of folder)) (unrefused (contained folder found.0) file within) in
-    through file (ap (λ f. below f folder) (sym inside.1) ∙ inside.0))))
+    through file (ap (λ f. below f folder) (sym inside.1) ∙ inside.0)))))
 
 -- the rows behind the binding, on a tree
-abbrev behind_binding : Files → ProjectSettings → Contents → PackageLocator → List ℕ → PackageLocator → Option (List ℕ) → Going Resolution Resolution JoinRefusal
+abbrev behind_location : Files → ProjectSettings → PackageLocator → Option (List ℕ) → List ℕ → RowOn Resolution
+behind_location t project locator subpath location =
+    decided_on (folder_of location) >>=? λ folder. behind_folder t project locator folder subpath
+
+abbrev behind_binding : Files → ProjectSettings → Contents → PackageLocator → List ℕ → PackageLocator → Option (List ℕ) → RowOn Resolution
 behind_binding t project manifest asking name locator subpath =
-    or_refused (checked_on t project manifest asking name locator) >>= λ location. or_refused (folder_of location) >>= λ folder. behind_folder t project locator folder subpath
+    refuses_on (checked_on t project manifest asking name locator) >>=? behind_location t project locator subpath
 
 abbrev ThroughBound : Files → ProjectSettings → Request → Contents → PackageLocator → List ℕ → PackageLocator → Type 0
 ThroughBound t project request manifest asking name bound = (location : List ℕ) (folder f : Path) → location_of manifest bound ≡ Some location → IsHeldBy t project.lock manifest asking name bound → physical_place location ≡ Some folder → below f folder ≡ true → ThroughRow t project request (text_of f) (via_of bound folder)
@@ -224,58 +241,72 @@ unwidened f (Ok b) a h = let same : b ≡ a = cc in ap Ok same
 unwidened f (Err x) a h = cc
 
 -- a first result, where what is made behind it is its own value
-first_value : {A X : Type 0} (first : Result A X) (check : Result (Unit {0}) X) (a : A) → (first >>= λ b. check >>= λ passed. Ok b) ≡ Ok a → first ≡ Ok a
-first_value (Ok b) (Ok tt) a h = let same : b ≡ a = cc in ap Ok same
-first_value (Ok b) (Err x) a h = cc
+first_value : {A X : Type 0} (first : Result A X) (check : Told (Result (Unit {0}) X)) (a : A) → (where_ok (λ b. check >>=? λ passed. unasked (Ok b)) first).result ≡ Ok a → first ≡ Ok a
+first_value {A = A} {X = X} (Ok b) check a h = ap Ok (by_check check.result h)
+  where
+    by_check : (r : Result (Unit {0}) X) → (where_ok {A = Unit {0}} {B = A} {X = X} (λ passed. unasked (Ok b)) r).result ≡ Ok a → b ≡ a
+    by_check (Ok passed) h = cc
+    by_check (Err x) h = cc
 first_value (Err x) check a h = cc
 
 -- a location that the checks let through is that of the row, and the lock holds the binding
-row_behind : (t : Files) (project : ProjectSettings) (manifest : Contents) (asking : PackageLocator) (name : List ℕ) (bound : PackageLocator) (location : List ℕ) → checked_on t project manifest asking name bound ≡ Ok location → location_of manifest bound ≡ Some location
+row_behind : (t : Files) (project : ProjectSettings) (manifest : Contents) (asking : PackageLocator) (name : List ℕ) (bound : PackageLocator) (location : List ℕ) → (checked_on t project manifest asking name bound).result ≡ Ok location → location_of manifest bound ≡ Some location
 row_behind t project manifest asking name bound location h =
-    there (location_of manifest bound) NotInRegistry location (first_value (registered manifest bound) (check_on t project.lock manifest asking name bound) location (unwidened (of_fault bound) (location_on t project.lock manifest asking name bound) location h))
+    there (location_of manifest bound) NotInRegistry location (first_value (registered manifest bound) (check_on t project.lock manifest asking name bound) location (unwidened (of_fault bound) (location_on t project.lock manifest asking name bound).result location h))
 
-held_behind : (t : Files) (project : ProjectSettings) (manifest : Contents) (asking : PackageLocator) (name : List ℕ) (bound : PackageLocator) (location : List ℕ) → checked_on t project manifest asking name bound ≡ Ok location → IsHeldBy t project.lock manifest asking name bound
-held_behind t project manifest asking name bound location h = by_lock project.lock (unwidened (of_fault bound) (location_on t project.lock manifest asking name bound) location h)
+held_behind : (t : Files) (project : ProjectSettings) (manifest : Contents) (asking : PackageLocator) (name : List ℕ) (bound : PackageLocator) (location : List ℕ) → (checked_on t project manifest asking name bound).result ≡ Ok location → IsHeldBy t project.lock manifest asking name bound
+held_behind t project manifest asking name bound location h = by_lock project.lock (unwidened (of_fault bound) (location_on t project.lock manifest asking name bound).result location h)
   where
-    by_lock : (lock : Option Lock) → location_on t lock manifest asking name bound ≡ Ok location → IsHeldBy t lock manifest asking name bound
+    by_lock : (lock : Option Lock) → (location_on t lock manifest asking name bound).result ≡ Ok location → IsHeldBy t lock manifest asking name bound
     by_lock None passes = tt
     by_lock (Some lock) passes = λ other. passes_as_locked t lock manifest asking name bound location passes other
 
-binding_end : (t : Files) (project : ProjectSettings) (request : Request) (manifest : Contents) (asking : PackageLocator) (name : List ℕ) (locator : PackageLocator) (subpath : Option (List ℕ)) → ThroughBound t project request manifest asking name locator → IsFoundEnd t project request (end_of (behind_binding t project manifest asking name locator subpath))
+binding_end : (t : Files) (project : ProjectSettings) (request : Request) (manifest : Contents) (asking : PackageLocator) (name : List ℕ) (locator : PackageLocator) (subpath : Option (List ℕ)) → ThroughBound t project request manifest asking name locator → IsFoundEnd t project request (end_of (behind_binding t project manifest asking name locator subpath).result)
 binding_end t project request manifest asking name locator subpath through =
-    goes t project request (or_refused (checked_on t project manifest asking name locator)) (λ location. or_refused (folder_of location) >>= λ folder. behind_folder t project locator folder subpath) (refused_end t project request (checked_on t project manifest asking name locator)) (λ location checked.
+    goes t project request (or_refused (checked_on t project manifest asking name locator).result) (behind_location t project locator subpath) (refused_end t project request (checked_on t project manifest asking name locator).result) (λ location checked.
     goes t project request (or_refused (folder_of location)) (λ folder. behind_folder t project locator folder subpath) (refused_end t project request (folder_of location)) (λ folder place.
-    let passes = unrefused (checked_on t project manifest asking name locator) location checked in
+    let passes = unrefused (checked_on t project manifest asking name locator).result location checked in
     folder_end t project request locator folder subpath (λ f within. through location folder f
     (row_behind t project manifest asking name locator location passes)
     (held_behind t project manifest asking name locator location passes)
     (there (physical_place location) (Archive location) folder (unrefused (folder_of location) folder place)) within)))
 
 -- the rows behind a bare target, on a tree
-abbrev behind_target : Files → ProjectSettings → List ℕ → Contents → PackageLocator → List ℕ → Going Resolution Resolution JoinRefusal
-behind_target t project base manifest asking named =
-    or_refused (identifier_of named) >>= λ identifier. or_refused (bound_of manifest asking (path_of project base) named identifier.0) >>= λ locator. behind_binding t project manifest asking identifier.0 locator identifier.1
+abbrev behind_identifier : Files → ProjectSettings → List ℕ → Contents → PackageLocator → List ℕ → List ℕ × Option (List ℕ) → RowOn Resolution
+behind_identifier t project base manifest asking named identifier =
+    decided_on (bound_of manifest asking (path_of project base) named identifier.0) >>=? λ locator. behind_binding t project manifest asking identifier.0 locator identifier.1
 
-target_end : (t : Files) (project : ProjectSettings) (request : Request) (base : List ℕ) (manifest : Contents) (asking : PackageLocator) (named : List ℕ) → ((identifier : List ℕ × Option (List ℕ)) (locator : PackageLocator) → split_bare named ≡ Some identifier → bind manifest asking identifier.0 ≡ Bound locator → ThroughBound t project request manifest asking identifier.0 locator) → IsFoundEnd t project request (end_of (behind_target t project base manifest asking named))
+abbrev behind_target : Files → ProjectSettings → List ℕ → Contents → PackageLocator → List ℕ → RowOn Resolution
+behind_target t project base manifest asking named =
+    decided_on (identifier_of named) >>=? behind_identifier t project base manifest asking named
+
+target_end : (t : Files) (project : ProjectSettings) (request : Request) (base : List ℕ) (manifest : Contents) (asking : PackageLocator) (named : List ℕ) → ((identifier : List ℕ × Option (List ℕ)) (locator : PackageLocator) → split_bare named ≡ Some identifier → bind manifest asking identifier.0 ≡ Bound locator → ThroughBound t project request manifest asking identifier.0 locator) → IsFoundEnd t project request (end_of (behind_target t project base manifest asking named).result)
 target_end t project request base manifest asking named through =
-    goes t project request (or_refused (identifier_of named)) (λ identifier. or_refused (bound_of manifest asking (path_of project base) named identifier.0) >>= λ locator. behind_binding t project manifest asking identifier.0 locator identifier.1) (refused_end t project request (identifier_of named)) (λ identifier split.
+    goes t project request (or_refused (identifier_of named)) (behind_identifier t project base manifest asking named) (refused_end t project request (identifier_of named)) (λ identifier split.
     goes t project request (or_refused (bound_of manifest asking (path_of project base) named identifier.0)) (λ locator. behind_binding t project manifest asking identifier.0 locator identifier.1) (refused_end t project request (bound_of manifest asking (path_of project base) named identifier.0)) (λ locator binds.
     binding_end t project request manifest asking identifier.0 locator identifier.1
     (through identifier locator (there (split_bare named) (BadSpecifier named) identifier (unrefused (identifier_of named) identifier split)) (bound_by manifest asking (path_of project base) named identifier.0 locator (unrefused (bound_of manifest asking (path_of project base) named identifier.0) locator binds)))))
 
--- the rows behind the owner, on a tree
-abbrev behind_owner : Files → ProjectSettings → Request → List ℕ → Contents → PackageLocator → Going Resolution Resolution JoinRefusal
+-- the rows behind the owner, the manifest and the importer, on a tree
+abbrev behind_owner : Files → ProjectSettings → Request → List ℕ → Contents → PackageLocator → RowOn Resolution
 behind_owner t project request base manifest asking =
-    target_or_answer (before_on t project.node (path_of project base) request.specifier) >>= λ target. bare_target_on t project base target >>= λ named. behind_target t project base manifest asking named
+    made target_or_answer (before_on t project.node (path_of project base) request.specifier) >>=? λ target. bare_target_on t project base target >>=? behind_target t project base manifest asking
+
+abbrev behind_manifest : Files → ProjectSettings → Request → List ℕ → Contents → RowOn Resolution
+behind_manifest t project request base manifest =
+    owner_on t project request manifest base >>=? behind_owner t project request base manifest
+
+abbrev behind_base : Files → ProjectSettings → Request → List ℕ → RowOn Resolution
+behind_base t project request base = manifest_on t project request base >>=? behind_manifest t project request base
 
 -- what the rows gave, one after the other
-pub found_end : (t : Files) (project : ProjectSettings) (request : Request) → IsFoundEnd t project request (join_on t project request)
+pub found_end : (t : Files) (project : ProjectSettings) (request : Request) → IsFoundEnd t project request (join_on t project request).result
 found_end t project request =
-    goes t project request (or_node_rows_on t project request (bare_base request)) (λ base. manifest_on t project request base >>= λ manifest. or_node_rows_on t project request (asking_package project manifest base) >>= λ asking. behind_owner t project request base manifest asking) (or_node_end t project request (bare_base request)) (λ base from.
-    goes t project request (manifest_on t project request base) (λ manifest. or_node_rows_on t project request (asking_package project manifest base) >>= λ asking. behind_owner t project request base manifest asking) (manifest_end t project request base) (λ manifest read.
-    goes t project request (or_node_rows_on t project request (asking_package project manifest base)) (λ asking. behind_owner t project request base manifest asking) (or_node_end t project request (asking_package project manifest base)) (λ asking owns.
-    goes t project request (target_or_answer (before_on t project.node (path_of project base) request.specifier)) (λ target. bare_target_on t project base target >>= λ named. behind_target t project base manifest asking named) (before_end t project request (path_of project base)) (λ target alias.
-    goes t project request (bare_target_on t project base target) (λ named. behind_target t project base manifest asking named) (bare_end t project request base target) (λ named bare.
+    goes t project request (or_node_rows_on t project request (bare_base request)).result (behind_base t project request) (or_node_end t project request (bare_base request)) (λ base from.
+    goes t project request (manifest_on t project request base).result (behind_manifest t project request base) (manifest_end t project request base) (λ manifest read.
+    goes t project request (owner_on t project request manifest base).result (behind_owner t project request base manifest) (or_node_end t project request (owner manifest (path_of project base))) (λ asking owns.
+    goes t project request (target_or_answer (before_on t project.node (path_of project base) request.specifier).result) (λ target. bare_target_on t project base target >>=? behind_target t project base manifest asking) (before_end t project request (path_of project base)) (λ target alias.
+    goes t project request (bare_target_on t project base target).result (behind_target t project base manifest asking) (bare_end t project request base target) (λ named bare.
     let reading = read_from t project request base manifest read in
     target_end t project request base manifest asking named (λ identifier locator split binds location folder f row held place within. record {
       importer = base;
@@ -289,7 +320,7 @@ found_end t project request =
       from = from_base request.importer request.specifier base (or_node_value t project request (bare_base request) base from);
       nearest = reading.nearest;
       reads = reading.reads;
-      owns = or_node_value t project request (asking_package project manifest base) asking owns;
+      owns = or_node_value t project request (owner manifest (path_of project base)) asking owns;
       names = ap split_bare (aliased t project.node (path_of project base) request.specifier target alias ∙ bare_value t project base target named bare) ∙ split;
       binds = binds;
       row = row;
@@ -306,7 +337,7 @@ found_by_join t project request r is =
     subst P (sym (answer-join t project request) ∙ is) (found_end t project request)
 
 -- what is made of the first inner answer was found by that inner request
-found_by_try : (t : Files) (project : ProjectSettings) (m : Mapping) (request : Request) (r : Resolution) → IsFirstAnswer (answers_on t (join_order project)) (tries_in (mapped m request.importer request.specifier)) r → IsFoundByTry t project m request r
+found_by_try : (t : Files) (project : ProjectSettings) (m : Mapping) (request : Request) (r : Resolution) → IsFirstAnswer (tells_on t (join_order project)) (tries_in (mapped m request.importer request.specifier)) r → IsFoundByTry t project m request r
 found_by_try t project m request r first = record {
   first = first;
   found =
@@ -330,14 +361,14 @@ found_behind t project None request =
     by_result (Err x) is = tt
 found_behind t project (Some m) request =
     let P : Result Resolution (TsRefusal JoinRefusal) → Type 0 = IsFoundResult t project (Some m) request in
-    subst P (sym ((mapping_on_tree JoinRefusal).answers t (join_order project) m request.importer request.specifier)) (by_result (mapped_on (answers_on t (join_order project)) (mapped m request.importer request.specifier)) refl)
+    subst P (sym (ap (λ tells. tells.result) ((mapping_on_tree JoinRefusal).tells t (join_order project) m request.importer request.specifier))) (by_result (mapped_on (tells_on t (join_order project)) (mapped m request.importer request.specifier)).result refl)
   where
-    by_first : (r : Resolution) → (r.found ≡ None) ⊎ IsFirstAnswer (answers_on t (join_order project)) (tries_in (mapped m request.importer request.specifier)) r → IsFoundBehind t project (Some m) request r
+    by_first : (r : Resolution) → (r.found ≡ None) ⊎ IsFirstAnswer (tells_on t (join_order project)) (tries_in (mapped m request.importer request.specifier)) r → IsFoundBehind t project (Some m) request r
     by_first r (inl none) = inl none
     by_first r (inr first) = inr (found_by_try t project m request r first)
 
-    by_result : (o : Result Resolution (TsRefusal JoinRefusal)) → mapped_on (answers_on t (join_order project)) (mapped m request.importer request.specifier) ≡ o → IsFoundResult t project (Some m) request o
-    by_result (Ok r) is = by_first r ((first_answer_decides JoinRefusal).decides (answers_on t (join_order project)) m request.importer request.specifier r is)
+    by_result : (o : Result Resolution (TsRefusal JoinRefusal)) → (mapped_on (tells_on t (join_order project)) (mapped m request.importer request.specifier)).result ≡ o → IsFoundResult t project (Some m) request o
+    by_result (Ok r) is = by_first r ((first_answer_decides JoinRefusal).decides (tells_on t (join_order project)) m request.importer request.specifier r is)
     by_result (Err x) is = tt
 
 -- the verdict of the order was found as it says

@@ -88,7 +88,7 @@ pub record KnownProject : Type 0 where
 
 -- on a tree each file has the manifest that is known of it
 abbrev pub AreKnownOn : Files → List ReadManifest → Type 0
-AreKnownOn t known = AllByRecursion (λ k. loaded_on t k.path ≡ Ok k.manifest) known
+AreKnownOn t known = AllByRecursion (λ k. (loaded_on t k.path).result ≡ Ok k.manifest) known
 
 -- what is known on a tree stays known there
 abbrev pub StaysKnown : List ReadManifest → List ReadManifest → Type 0

@@ -1,5 +1,6 @@
 pub mod Settings
 pub mod Request
+pub mod Exports
 pub mod Rows
 pub mod Order
 pub mod OrderParts

@@ -10,7 +10,7 @@ use Rattle.resolver_core.specs.Mapping.{Order}
 use Rattle.resolve_stack.specs.declared.verdict.JoinRefusal.{JoinRefusal}
 use Rattle.resolve_stack.specs.Settings.{ProjectSettings, path_of}
 use Rattle.resolve_stack.specs.Request.{Request, asked_for}
-use Rattle.resolve_stack.specs.Rows.{or_node_rows, bare_base, nearest_manifest, owner_of, bare_target, identifier_of, bound_of, checked_row, folder_of, found_at, unless_ignored, contained, via_of, answered_through}
+use Rattle.resolve_stack.specs.Rows.{or_node_rows, bare_base, nearest_manifest, owner_of, bare_target, identifier_of, bound_of, checked_row, folder_of, exported_file, found_at, unless_ignored, contained, via_of, answered_through}
 
 abbrev pub join_rows : ProjectSettings → Request → Row Resolution Resolution JoinRefusal
 join_rows project request = do
@@ -23,7 +23,8 @@ join_rows project request = do
   locator ← decided (bound_of manifest owner (path_of project base) named identifier.0)
   location ← refuses_by (checked_row project manifest owner identifier.0 locator)
   folder ← decided (folder_of location)
-  placed ← refuses_by (found_at project folder identifier.1)
+  exported ← refuses_by (exported_file project folder identifier.1)
+  placed ← refuses_by (found_at project folder identifier.1 exported)
   found ← unless_ignored placed
   file ← decided (contained folder found.0)
   refuses_by (answered_through project (via_of locator folder) file found.1)

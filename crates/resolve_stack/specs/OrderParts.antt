@@ -13,12 +13,13 @@ use Rattle.swc_loader.specs.NodeRows.{target_before_search}
 use Rattle.resolve_stack.specs.declared.verdict.JoinRefusal.{JoinRefusal}
 use Rattle.resolve_stack.specs.Settings.{ProjectSettings, path_of}
 use Rattle.resolve_stack.specs.Request.{Request}
-use Rattle.resolve_stack.specs.Rows.{owner_of, bare_target, identifier_of, bound_of, checked_row, folder_of, found_at, unless_ignored, contained, via_of, answered_through}
+use Rattle.resolve_stack.specs.Rows.{owner_of, bare_target, identifier_of, bound_of, checked_row, folder_of, exported_file, found_at, unless_ignored, contained, via_of, answered_through}
 
 -- behind the folder of the row: the search there, its containment and the answer
 abbrev pub folder_rows : ProjectSettings → PackageLocator → Path → Option (List ℕ) → Row Resolution Resolution JoinRefusal
 folder_rows project bound folder subpath = do
-  placed ← refuses_by (found_at project folder subpath)
+  exported ← refuses_by (exported_file project folder subpath)
+  placed ← refuses_by (found_at project folder subpath exported)
   found ← unless_ignored placed
   file ← decided (contained folder found.0)
   refuses_by (answered_through project (via_of bound folder) file found.1)

@@ -30,6 +30,7 @@ use Rattle.swc_loader.specs.Spelling.{custom, answered}
 use Rattle.swc_loader.specs.NodeRows.{search}
 use Rattle.swc_loader.specs.NodeOrder.{node}
 use Rattle.swc_loader.specs.Located.{resolve_at}
+use Rattle.swc_loader.specs.BrowserRules.{ruled_file}
 use Rattle.lock_checks.specs.declared.fault.EdgeFault.{EdgeFault}
 use Rattle.lock_checks.specs.declared.fault.EdgeFault.TheVariants as edge_fault
 use Rattle.lock_checks.specs.Checks.{checked_location}
@@ -37,6 +38,7 @@ use Rattle.resolve_stack.specs.declared.verdict.JoinRefusal.{JoinRefusal}
 use Rattle.resolve_stack.specs.declared.verdict.JoinRefusal.TheVariants.{BadSpecifier, FailedManifestHydration, UndeclaredDependency, MissingPeerDependency, NotInRegistry, NotLocked, MalformedPackage, OutOfRange, Archive, Outside, NotFound, BaseNotAFile}
 use Rattle.resolve_stack.specs.Settings.{ProjectSettings, path_of}
 use Rattle.resolve_stack.specs.Request.{Request}
+use Rattle.resolve_stack.specs.Exports.{export_key, file_under}
 
 -- a refusal of the search for Node's modules, as the order's
 abbrev pub of_node : NodeRefusal → JoinRefusal
@@ -132,9 +134,14 @@ abbrev pub unless_ignored : Placed → Row (Path × Bool) Resolution JoinRefusal
 unless_ignored (File f rewritten) = Done (Ok (f, rewritten))
 unless_ignored (Ignored name) = Done (Err (Ok (custom name)))
 
--- Join rows 10 and 11: what is found at the location, by the rules for it
-abbrev pub found_at : ProjectSettings → Path → Option (List ℕ) → Plan (Result Placed JoinRefusal)
-found_at project folder subpath = raised of_node (resolve_at project.node folder subpath)
+-- Join row 10, where conditions are given: the file that the package's exports mean by the subpath, and none where it has no exports
+abbrev pub exported_file : ProjectSettings → Path → Option (List ℕ) → Plan (Result (Option Path) JoinRefusal)
+exported_file project folder subpath = file_under project.conditions folder (export_key folder subpath)
+
+-- Join rows 10 and 11: the file that exports mean, or else what is found at the location, by the rules for it
+abbrev pub found_at : ProjectSettings → Path → Option (List ℕ) → Option Path → Plan (Result Placed JoinRefusal)
+found_at project folder subpath None = raised of_node (resolve_at project.node folder subpath)
+found_at project folder subpath (Some f) = never_refuses (ruled_file project.node f)
 
 -- Join row 12: a file that isn't below the location is refused.
 abbrev pub contained : Path → Path → Result Path JoinRefusal

@@ -28,6 +28,7 @@ pub record GivenSettings : Type 0 where
   pub alias : List (List ℕ × List ℕ)
   pub ts : Option TsSettings
   pub lock : Option (List ℕ)
+  pub conditions : Option (List (List ℕ))
 
 abbrev pub given : Settings → GivenSettings
 given s = record {
@@ -38,6 +39,7 @@ given s = record {
   alias = s.alias.entries;
   ts = s.ts;
   lock = option_map (λ text. text.now) s.lock;
+  conditions = s.conditions;
 }
 
 -- a project, as contracts see it
@@ -48,6 +50,8 @@ pub record ProjectSettings : Type 0 where
   pub mapping : Option Mapping
   -- the lock that bindings are held to
   pub lock : Option Lock
+  -- the conditions under which the exports of a bound package count, in their order
+  pub conditions : Option (List (List ℕ))
 
 -- the path that a setting names, or the fault that it isn't a clean absolute one
 abbrev pub clean_setting : List ℕ → List ℕ → Result Path ProjectError
@@ -102,6 +106,7 @@ project_of s = do
     node = settings_of cwd s.target s.alias s.preserve_symlinks s.node_modules;
     mapping = mapping;
     lock = lock;
+    conditions = s.conditions;
   })
 
 -- this is the cause against settings. Want of memory needs none

@@ -19,7 +19,7 @@ use Rattle.swc_loader.specs.declared.resolution.Resolution.{Resolution}
 use Rattle.swc_loader.specs.declared.resolution.Via.{Via}
 use Rattle.swc_loader.specs.declared.resolution.Found.{Found}
 use Rattle.resolver_core.specs.Mapping.{Mapping, mapped}
-use Rattle.resolver_core.specs.MappingOnTree.{answers_on, tries_in, IsFirstAnswer}
+use Rattle.resolver_core.specs.MappingOnTree.{tells_on, tries_in, IsFirstAnswer}
 use Rattle.resolve_stack.specs.declared.verdict.Verdict.{Verdict}
 use Rattle.resolve_stack.specs.declared.verdict.Verdict.TheVariants.{Answered, Refused}
 use Rattle.resolve_stack.specs.Settings.{ProjectSettings}
@@ -51,8 +51,8 @@ pub record ThroughRow (t : Files) (project : ProjectSettings) (request : Request
   pub location : List ℕ
   pub folder : Path
   pub from : request.importer ≡ Real importer
-  pub nearest : nearest_on t (clean project.node.cwd importer) ≡ Some manifest
-  pub reads : loaded_on t manifest ≡ Ok contents
+  pub nearest : (nearest_on t (clean project.node.cwd importer)).result ≡ Some manifest
+  pub reads : (loaded_on t manifest).result ≡ Ok contents
   pub owns : owner contents (clean project.node.cwd importer) ≡ Some asking
   pub names : split_bare (alias_of project.node request.specifier) ≡ Some (name, subpath)
   pub binds : bind contents asking name ≡ Bound (locator v.name v.reference)
@@ -72,7 +72,7 @@ IsFoundFrom t project request (Some found) = IsFoundVia t project request found.
 
 -- What is made of the first inner request of a mapping that the join answers was found by that request.
 pub record IsFoundByTry (t : Files) (project : ProjectSettings) (mapping : Mapping) (request : Request) (r : Resolution) : Type 0 where
-  pub first : IsFirstAnswer (answers_on t (join_order project))
+  pub first : IsFirstAnswer (tells_on t (join_order project))
       (tries_in (mapped mapping request.importer request.specifier)) r
   pub found : IsFoundFrom t project (asked_for first.by.base first.by.specifier) r.found
 

@@ -97,6 +97,10 @@ impl JoinRefusal {
                 let location = location.try_clone(alloc)?;
                 Ok(JoinRefusal::Archive { location })
             }
+            JoinRefusal::NotExported { location, key } => {
+                let (location, key) = copies_of_two(alloc, location, key)?;
+                Ok(JoinRefusal::NotExported { location, key })
+            }
             JoinRefusal::Outside { file, location } => {
                 let (file, location) = copies_of_two(alloc, file, location)?;
                 Ok(JoinRefusal::Outside { file, location })

@@ -1,6 +1,7 @@
 // The join: a bare specifier from a file, bound by the row of the package that owns the file. Where a row has nothing to go on
 // with, the node rows answer.
 ghost use Rattle.std.specs.Prelude.{◌≡◌};
+ghost use Rattle.std.specs.Option.{option_copied};
 ghost use Rattle.tree_core.specs.Resolving.{Resolves};
 ghost use Rattle.tree_core.specs.Rows.{order};
 ghost use Rattle.swc_loader.specs.declared.resolution.FileName.TheVariants.{Real};
@@ -10,6 +11,7 @@ ghost use Rattle.resolve_stack.specs.Known.{join_by};
 ghost use Rattle.resolve_stack.specs.OrderParts.{owned_rows, bare_rows, folder_rows};
 ghost use Rattle.resolve_stack.specs.Rows.{node_rows_of};
 
+use crate::exports::exported_file;
 use crate::join_rows::{
     Asking, bare_base, bound_of, checked_row, contained, folder_of, found_at, identifier_of,
     raised, read_manifest,
@@ -17,6 +19,8 @@ use crate::join_rows::{
 use crate::kept::KeptManifest;
 use crate::request::Request;
 use crate::{JoinRefusal, KeptReadings, Project};
+use lock_checks::Edge;
+use package_readings::PackageReadings;
 use pnp_core::{PackageLocator, closest_manifest, owner_of};
 use std::alloc::Global;
 use sugar_path::{CleanPath, Text};
@@ -40,17 +44,31 @@ pub(crate) fn join<R: Asker>(
         packages,
     } = kept;
     let Some(text) = bare_base(request) else {
-        return by_node_rows(alloc, tree, packages, project, request);
+        return by_node_rows(alloc, tree, &mut packages.values, project, request);
     };
     let path = CleanPath::read(alloc, project.cwd(), text)?;
     let Some(file) = closest_manifest(alloc, tree, &path)? else {
         let importer = Importer { text, path: &path };
-        return by_node_rows_from(alloc, tree, packages, project, &importer, request);
+        return by_node_rows_from(
+            alloc,
+            tree,
+            &mut packages.values,
+            project,
+            &importer,
+            request,
+        );
     };
     let manifest = read_manifest(alloc, tree, known, manifests, file)?;
     let Some(owner) = owner_of(alloc, manifest, &path)? else {
         let importer = Importer { text, path: &path };
-        return by_node_rows_from(alloc, tree, packages, project, &importer, request);
+        return by_node_rows_from(
+            alloc,
+            tree,
+            &mut packages.values,
+            project,
+            &importer,
+            request,
+        );
     };
     let asking = Asking {
         text,
@@ -100,7 +118,7 @@ fn by_node_rows_from<R: Asker>(
 fn join_owned<R: Asker>(
     alloc: Global,
     tree: &mut R,
-    readings: &mut Readings,
+    packages: &mut PackageReadings,
     project: &Project<'_>,
     request: &Request<'_>,
     asking: &Asking<'_>,
@@ -112,6 +130,7 @@ fn join_owned<R: Asker>(
 {
     let node = project.node();
     let Asking { text, path, .. } = *asking;
+    let readings = &mut packages.values;
     let before = node.before_search_with(alloc, tree, readings, path, request.specifier)?;
     let target = match before {
         Before::Decided(resolution) => return Ok(resolution),
@@ -119,17 +138,18 @@ fn join_owned<R: Asker>(
     };
     if !is_bare(target.as_str()) {
         let importer = Importer { text, path };
+        let readings = &mut packages.values;
         let found = node.search_with(alloc, tree, readings, &importer, target.as_str());
         return raised(found);
     }
-    join_bare(alloc, tree, readings, project, asking, target.as_str())
+    join_bare(alloc, tree, packages, project, asking, target.as_str())
 }
 
 // The rows behind a bare target.
 fn join_bare<R: Asker>(
     alloc: Global,
     tree: &mut R,
-    readings: &mut Readings,
+    packages: &mut PackageReadings,
     project: &Project<'_>,
     asking: &Asking<'_>,
     target: &str,
@@ -140,25 +160,45 @@ fn join_bare<R: Asker>(
 {
     let (name, subpath) = identifier_of(alloc, target)?;
     let locator = bound_of(alloc, asking, target, &name)?;
-    let location = checked_row(alloc, tree, project, asking, &name, &locator)?;
-    let folder = folder_of(alloc, location)?;
-    join_in_folder(alloc, tree, readings, project, locator, &folder, &subpath)
+    let edge = Edge {
+        manifest: asking.manifest,
+        owner: asking.owner,
+        name: name.as_str(),
+        bound: &locator,
+    };
+    let location = checked_row(alloc, tree, packages, project, &edge)?;
+    let folder = folder_of(alloc, asking.manifest, &locator, location)?;
+    let subpath = text_in(&subpath);
+    join_in_folder(alloc, tree, packages, project, locator, folder, subpath)
+}
+
+// A text that may be there, borrowed.
+fn text_in(text: &Option<Text>) -> Option<&str>
+    ensures { option_copied result ≡ text.now }
+{
+    match text {
+        Some(text) => Some(text.as_str()),
+        None => None,
+    }
 }
 
 // The rows behind the location of the package.
 fn join_in_folder<R: Asker>(
     alloc: Global,
     tree: &mut R,
-    readings: &mut Readings,
+    packages: &mut PackageReadings,
     project: &Project<'_>,
     locator: PackageLocator,
     folder: &CleanPath,
-    subpath: &Option<Text>,
+    subpath: Option<&str>,
 ) -> Result<Resolution, ResolveError<JoinRefusal>>
     ensures { Resolves (R.asking tree.old) (R.asking tree.new) result
-        (order (folder_rows project.now locator folder.now subpath.now)) }
+        (order (folder_rows project.now locator folder.now (option_copied subpath.entry))) }
 {
-    let (file, rewritten) = match found_at(alloc, tree, readings, project, folder, subpath)? {
+    let exported = exported_file(alloc, tree, packages, project, folder, subpath)?;
+    let readings = &mut packages.values;
+    let placed = found_at(alloc, tree, readings, project, folder, subpath, exported)?;
+    let (file, rewritten) = match placed {
         Placed::File { path, rewritten } => (path, rewritten),
         Placed::Ignored(name) => return Ok(Resolution::custom(name)),
     };

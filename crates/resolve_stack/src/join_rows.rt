@@ -1,9 +1,10 @@
 // The join rows, each by itself.
-ghost use Rattle.std.specs.Prelude.{◌≡◌, ℕ, List, IfOk, Err};
+ghost use Rattle.std.specs.Prelude.{◌≡◌, ℕ, List, IfOk, Err, Some};
 ghost use Rattle.std.specs.Option.{option_copied};
 ghost use Rattle.tree_core.specs.Asks.{seen};
-ghost use Rattle.tree_core.specs.Resolving.{Resolves, IsDecided, resolving};
-ghost use Rattle.lock_checks.specs.Lent.{lent};
+ghost use Rattle.tree_core.specs.Resolving.{Resolves, IsDecided, IsDecidedTo, resolving};
+ghost use Rattle.lock_checks.specs.Borrowed.{borrowed};
+ghost use Rattle.pnp_core.specs.Manifest.{location_of};
 ghost use Rattle.pnp_core.specs.Owner.{IsReady};
 ghost use Rattle.resolve_stack.specs.Request.{request_of};
 ghost use Rattle.resolve_stack.specs.OrderParts.{raised_result};
@@ -13,9 +14,10 @@ ghost use Rattle.resolve_stack.specs.Rows as rows;
 use crate::kept::{KeptManifest, KeptManifests, known_at};
 use crate::request::Request;
 use crate::{JoinRefusal, Project};
-use lock_checks::{EdgeFault, checked_location};
+use lock_checks::{Edge, EdgeFault, checked_location};
+use package_readings::PackageReadings;
 use pnp_core::{
-    Binding, Manifest, PackageLocator, binding_of_name, missing_peer_of, physical_place,
+    Binding, Manifest, PackageLocator, binding_of_name, missing_peer_of, package_place,
     split_bare_identifier, undeclared_of,
 };
 use std::alloc::{AllocError, Global};
@@ -81,7 +83,7 @@ pub(crate) fn read_manifest<'k, R: Asker>(
     kept: &'k mut KeptManifests,
     file: CleanPath,
 ) -> Result<&'k Manifest, ResolveError<JoinRefusal>>
-    ensures asks { Resolves (R.asking tree.old) (R.asking tree.new) (lent result)
+    ensures asks { Resolves (R.asking tree.old) (R.asking tree.new) (borrowed result)
         (read_by known.now file) }
     ensures ready { IfOk result (λ manifest. IsReady manifest.now) }
 {
@@ -141,23 +143,19 @@ pub(crate) fn bound_of(
 pub(crate) fn checked_row<'m, R: Asker>(
     alloc: Global,
     tree: &mut R,
+    packages: &mut PackageReadings,
     project: &Project<'_>,
-    asking: &Asking<'m>,
-    name: &Text,
-    bound: &PackageLocator,
+    edge: &Edge<'m>,
 ) -> Result<&'m str, ResolveError<JoinRefusal>>
-    ensures { Resolves (R.asking tree.old) (R.asking tree.new) (lent result)
-        (rows.checked_row project.now asking.now.manifest.now asking.now.owner.now name.now bound.now) }
+    ensures asks { Resolves (R.asking tree.old) (R.asking tree.new) (borrowed result)
+        (rows.checked_row project.now edge.now.manifest.now edge.now.owner.now
+        edge.now.name.now edge.now.bound.now) }
+    ensures row { IfOk result (λ location.
+        location_of edge.now.manifest.now edge.now.bound.now ≡ Some location.now) }
 {
-    let lock = project.lock();
-    let Asking {
-        manifest,
-        owner,
-        ..
-    } = *asking;
-    match checked_location(alloc, tree, lock, manifest, owner, name.as_str(), bound) {
+    match checked_location(alloc, tree, packages, project.lock(), edge) {
         Ok(location) => Ok(location),
-        Err(ResolveError::Refused(fault)) => Err(refused_binding(alloc, bound, fault)),
+        Err(ResolveError::Refused(fault)) => Err(refused_binding(alloc, edge.bound, fault)),
         Err(ResolveError::TreeFault) => Err(ResolveError::TreeFault),
         Err(ResolveError::NoMemory) => Err(ResolveError::NoMemory),
     }
@@ -199,14 +197,17 @@ fn of_fault(
     }
 }
 
-// The folder where a location's bytes are.
-pub(crate) fn folder_of(
+// The folder where the bytes of a bound package are, whose row has this location.
+pub(crate) fn folder_of<'m>(
     alloc: Global,
+    manifest: &'m Manifest,
+    bound: &PackageLocator,
     location: &str,
-) -> Result<CleanPath, ResolveError<JoinRefusal>>
-    ensures { IsDecided result (rows.folder_of location.now) }
+) -> Result<&'m CleanPath, ResolveError<JoinRefusal>>
+    requires { location_of manifest.now bound.now ≡ Some location.now }
+    ensures { IsDecidedTo result (rows.folder_of location.now) }
 {
-    match physical_place(alloc, location)? {
+    match package_place(manifest, bound) {
         Some(folder) => Ok(folder),
         None => Err(ResolveError::Refused(JoinRefusal::Archive {
             location: Text::of(alloc, location)?,
@@ -214,25 +215,24 @@ pub(crate) fn folder_of(
     }
 }
 
-// What is found at the location of a package.
+// The file that exports mean, or else what is found at the location of a package, by the rules for it.
 pub(crate) fn found_at<R: Asker>(
     alloc: Global,
     tree: &mut R,
     readings: &mut Readings,
     project: &Project<'_>,
     folder: &CleanPath,
-    subpath: &Option<Text>,
+    subpath: Option<&str>,
+    exported: Option<CleanPath>,
 ) -> Result<Placed, ResolveError<JoinRefusal>>
     ensures { Resolves (R.asking tree.old) (R.asking tree.new) result
-        (rows.found_at project.now folder.now subpath.now) }
+        (rows.found_at project.now folder.now (option_copied subpath.entry) exported) }
 {
-    let subpath = match subpath {
-        Some(subpath) => Some(subpath.as_str()),
-        None => None,
-    };
     let node = project.node();
-    let found = node.resolve_at_with(alloc, tree, readings, folder, subpath);
-    raised(found)
+    match exported {
+        Some(file) => Ok(node.rewrite_at_with(alloc, tree, readings, file)?),
+        None => raised(node.resolve_at_with(alloc, tree, readings, folder, subpath)),
+    }
 }
 
 // A file that lies below a location; any other is refused.

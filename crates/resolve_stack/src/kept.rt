@@ -12,23 +12,23 @@ ghost use Rattle.resolve_stack.specs.Known.{IsReadFrom, StaysKnown, known_at};
 ghost use Rattle.resolve_stack.specs.Rows.{readable};
 
 use crate::JoinRefusal;
+use package_readings::PackageReadings;
 use pnp_core::{HydrationCause, Manifest, manifest_of_bytes};
 use std::alloc::{AllocError, Global};
 use std::marker::Model;
 use std::mem;
 use sugar_path::{Bytes, CleanPath};
-use swc_loader::Readings;
 use tree_core::{Question, Reply, ResolveError, Trail};
 
 // How many manifests are kept.
 const MOST: usize = 4;
 
-/// What requests have read: the last few manifests, and what package.jsons were parsed to. It changes no answer, so that it can be lent to
-/// requests of any projects and trees: each is used only where the bytes are those that were read.
+/// What requests have read: the last few manifests, and what package.jsons were read to. It changes no answer, so that requests
+/// of any projects over any trees can share it: each is used only where the bytes are those that were read.
 #[derive(Drop)]
 pub struct KeptReadings {
     pub(crate) manifests: KeptManifests,
-    pub(crate) packages: Readings,
+    pub(crate) packages: PackageReadings,
 }
 
 impl KeptReadings {
@@ -36,7 +36,7 @@ impl KeptReadings {
     pub fn new(alloc: Global) -> KeptReadings {
         KeptReadings {
             manifests: KeptManifests::new(alloc),
-            packages: Readings::new(alloc),
+            packages: PackageReadings::new(alloc),
         }
     }
 }
@@ -111,7 +111,7 @@ impl KeptManifest {
     // Whether a trail has its bytes as the reply for its file.
     pub(crate) fn is_replied(&self, alloc: Global, trail: &Trail) -> bool
         ensures { IsTrue result → (t : Files) → Agrees t trail.now
-            → loaded_on t self.now.path ≡ Ok self.now.manifest }
+            → (loaded_on t self.now.path).result ≡ Ok self.now.manifest }
     {
         let Ok(path) = self.path.to_text(alloc) else {
             return false;

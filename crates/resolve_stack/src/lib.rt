@@ -2,6 +2,7 @@
 #![tactic(auto)]
 
 mod copies;
+mod exports;
 mod import;
 mod join;
 mod join_rows;

@@ -31,6 +31,9 @@ pub struct Settings<'l> {
     pub ts: Option<TsSettings>,
     /// The text of a lock file: what it doesn't hold is refused.
     pub lock: Option<&'l str>,
+    /// The conditions under which the `exports` of a package that a manifest binds say which file a subpath means, in the
+    /// order in which they count. Without them `exports` are passed over.
+    pub conditions: Option<List<Text>>,
 }
 
 /// The settings of a mapping, as a tsconfig has them.
@@ -70,6 +73,7 @@ pub struct Project<'l> {
     node: NodeModulesResolver,
     mapping: Option<Mapping>,
     lock: Option<Lock<'l>>,
+    conditions: Option<List<Text>>,
 }
 
 // Written out, so that the end of a project is one call to the proofs of what holds it.
@@ -79,6 +83,7 @@ impl<'l> Drop for Project<'l> {
             node: _,
             mapping: _,
             lock: _,
+            conditions: _,
         } = self;
     }
 }
@@ -88,7 +93,12 @@ impl<'l> Model for Project<'l> {
 
     ghost Value = { ProjectSettings };
 
-    ghost view = { λ p. record { node = p.node; mapping = p.mapping; lock = p.lock } };
+    ghost view = { λ p. record {
+      node = p.node;
+      mapping = p.mapping;
+      lock = p.lock;
+      conditions = p.conditions;
+    } };
 }
 
 impl<'l> Project<'l> {
@@ -106,6 +116,7 @@ impl<'l> Project<'l> {
             alias,
             ts,
             lock,
+            conditions,
         } = settings;
         check_setting(alloc, "cwd", cwd.as_str())?;
         let mapping = match ts {
@@ -125,6 +136,7 @@ impl<'l> Project<'l> {
             node,
             mapping,
             lock,
+            conditions,
         })
     }
 
@@ -154,6 +166,13 @@ impl<'l> Project<'l> {
         ensures { option_copied result ≡ self.now.lock }
     {
         self.lock.as_ref()
+    }
+
+    // The conditions under which exports count.
+    pub(crate) fn conditions(&self) -> Option<&List<Text>>
+        ensures { option_copied result ≡ self.now.conditions }
+    {
+        self.conditions.as_ref()
     }
 }
 

@@ -40,7 +40,7 @@ pub enum JoinRefusal {
         name: Text,
         reference: Text,
     },
-    /// A package.json that is needed, of the package that asks or of one that is searched, isn't one.
+    /// A package.json that is needed, of the package that asks, or of one that is searched or whose exports count, isn't one.
     #[error("{path} is malformed")]
     MalformedPackage {
         /// The clean path of the package.json.
@@ -60,6 +60,14 @@ pub enum JoinRefusal {
         /// The location as the package's row says it.
         location: Text,
     },
+    /// The bound package exports no file under the key, by the project's conditions.
+    #[error("{location} doesn't export {key}")]
+    NotExported {
+        /// The clean path of the location.
+        location: Text,
+        /// `.` for the package itself, else `./` and the subpath.
+        key: Text,
+    },
     /// The file that was found isn't below the location of the bound package.
     #[error("the file {file} isn't below {location}")]
     Outside {
@@ -71,8 +79,8 @@ pub enum JoinRefusal {
     /// The search found no file.
     #[error("nothing is found at {text}")]
     NotFound {
-        /// The text that was searched: the target, or the text behind a package's location, and for the whole package that
-        /// location's clean path.
+        /// The text that was searched: the target, or the text behind a package's location that the subpath or the package's
+        /// exports give, and for the whole package that location's clean path.
         text: Text,
     },
     /// What asks is no path, and the specifier needs one.

@@ -17,6 +17,7 @@ fn a_request_is_answered(rt: HostRuntime) -> Result<(), Fail> {
         alias: IndexMap::new(rt.alloc()),
         ts: None,
         lock: None,
+        conditions: None,
     };
     let project = Project::new(rt.alloc(), settings)?;
     let importer = FileName::Real(Text::of(rt.alloc(), "/shop/main.js")?);

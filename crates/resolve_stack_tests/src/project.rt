@@ -30,6 +30,7 @@ pub fn project_by<'l>(
             alias: IndexMap::new(alloc),
             ts,
             lock,
+            conditions: None,
         },
     )
 }

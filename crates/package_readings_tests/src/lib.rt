@@ -1,0 +1,5 @@
+//! The tests of `package_readings`.
+#![tactic(auto)]
+
+#[cfg(test)]
+mod contents;
