@@ -47,6 +47,9 @@ fn documents() -> &'static str {
 {"cwd":"/w","target":"node","ts":{},"lock":"","files":[],"requests":[]}|refused: bad-field ts
 {"cwd":"/w","target":"node","lock":1,"files":1,"requests":[]}|refused: bad-field lock
 {"cwd":"/w","target":"node","lock":["# a"],"files":[{"path":"a","text":""}],"requests":[]}|refused: bad-field lock
+{"cwd":"/w","target":"node","lock":null,"conditions":"x","files":1,"requests":[]}|refused: bad-field conditions
+{"cwd":"/w","target":"node","conditions":["import",1],"files":[],"requests":[]}|refused: bad-field conditions
+{"cwd":"/w","target":"node","lock":1,"conditions":1,"files":[],"requests":[]}|refused: bad-field lock
 {"cwd":"/w","target":"node","lock":"","files":[],"requests":[]}|refused: bad-project LockParser
 {"cwd":"/w","target":"node","lock":"","files":[{"path":"a","text":""}],"requests":[]}|refused: bad-tree "a"
 {"cwd":"/w","ts":{"base_url":"/w","paths":[["*/*",["c"]]]},"lock":"# a","files":[],"requests":[]}|refused: bad-project TwoWildcards 0
@@ -56,7 +59,7 @@ fn documents() -> &'static str {
 {"cwd":"w","target":"node","files":[{"path":"/a","text":"","canonical":"/"}],"requests":[]}|refused: bad-tree "/a"
 {"cwd":"w","target":"node","files":[{"path":"/a/b","text":""},{"path":"/a","text":""}],"requests":[]}|refused: bad-tree "/a" "/a/b"
 {"cwd":"w","target":"node","files":[{"path":"/a","text":""}],"requests":[]}|refused: bad-project SettingsFault cwd
-{"cwd":"/w","target":"node","preserve_symlinks":true,"node_modules":false,"alias":{"a":"b"},"ts":null,"lock":null,"files":[],"requests":[]}|
+{"cwd":"/w","target":"node","preserve_symlinks":true,"node_modules":false,"alias":{"a":"b"},"ts":null,"lock":null,"conditions":null,"files":[],"requests":[]}|
 {"cwd":"/w","target":"node","files":[{"path":"/a","text":""},{"path":"/a","hex":"0a"}],"requests":[]}|
 {"cwd":"/w","preserve_symlinks":true,"files":[{"path":"/w/node_modules/q/package.json","text":"{\"main\":\"m.js\",\"browser\":\"b.js\"}"},{"path":"/w/node_modules/q/m.js","text":""},{"path":"/w/node_modules/q/b.js","text":""}],"requests":[{"from":"q","specifier":"q"}]}|{"answer":{"real":"node_modules/q/b.js"},"found":{"file":"/w/node_modules/q/b.js","via":null},"slug":null}
 {"cwd":"/w","target":"browser","files":[{"path":"/w/package.json","text":"{\"browser\":{\"fs\":false}}"}],"requests":[{"from":"/w/a.js","specifier":"fs"}]}|{"answer":{"custom":"fs"},"found":null,"slug":null}
@@ -158,7 +161,7 @@ pub(crate) fn documents_that_come(alloc: Global, words: &str, rows: &str) -> Res
 fn each_cause_has_its_line(rt: HostRuntime) -> Result<(), Fail> {
     assert_eq!(rt;
         documents_that_come(rt.alloc(), "resolve", documents())?,
-        47
+        50
     );
     Ok(())
 }

@@ -30,6 +30,7 @@ settings_for r = record {
   alias = [];
   ts = None;
   lock = None;
+  conditions = None;
 }
 
 -- the project that it is asked in, or the cause against its working folder

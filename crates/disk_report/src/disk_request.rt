@@ -121,6 +121,7 @@ fn settings_for(alloc: Global, request: &DiskRequest<'_>) -> Result<GivenSetting
         node_modules: true,
         alias: Object::new(alloc),
         ts: None,
+        conditions: None,
     })
 }
 

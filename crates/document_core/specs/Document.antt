@@ -56,6 +56,7 @@ settings_in fields lock = record {
   alias = fields.alias;
   ts = option_map mapping_settings fields.ts;
   lock = lock;
+  conditions = fields.conditions;
 }
 
 -- the project of settings, or the first cause against them

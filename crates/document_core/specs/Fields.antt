@@ -30,8 +30,8 @@ target_of d = option_and_then target_named (as_str d)
 abbrev pub required : {X : Type 0} → Field → Option X → Result X Cause
 required f o = ok_or o (BadField f)
 
--- the settings that a JSON value gives but for its lock, or the first cause against them
-unfoldable pub settings_of : Data → Result GivenSettings Cause
+-- the settings that a JSON value gives, with the text of its lock beside them, or the first cause against them
+unfoldable pub settings_of : Data → Result (GivenSettings × Option (List ℕ)) Cause
 settings_of d = do
   cwd ← required field.Cwd (field_by (codes "cwd") as_str d)
   target ← required field.Target (field_or (codes "target") Browser target_of d)
@@ -39,22 +39,27 @@ settings_of d = do
   node_modules ← required field.NodeModules (field_or (codes "node_modules") true as_bool d)
   alias ← required field.Alias (field_or (codes "alias") [] (object_by as_str) d)
   ts ← required field.Ts (field_or (codes "ts") None (nullable_by mapping_of) d)
-  Ok (record {
-    cwd = cwd;
-    target = target;
-    preserve_symlinks = preserve_symlinks;
-    node_modules = node_modules;
-    alias = alias;
-    ts = ts;
-  })
+  lock ← required field.Lock (field_or (codes "lock") None (nullable_by as_str) d)
+  conditions ← required field.Conditions (field_or (codes "conditions") None (nullable_by (list_by as_str)) d)
+  Ok (
+    record {
+      cwd = cwd;
+      target = target;
+      preserve_symlinks = preserve_symlinks;
+      node_modules = node_modules;
+      alias = alias;
+      ts = ts;
+      conditions = conditions;
+    },
+    lock,
+  )
 
 -- the project that a JSON value gives, or the first cause against its fields
 unfoldable pub project_fields_of : Data → Result GivenProject Cause
 project_fields_of d = do
-  settings ← settings_of d
-  lock ← required field.Lock (field_or (codes "lock") None (nullable_by as_str) d)
+  given ← settings_of d
   files ← required field.Files (field_by (codes "files") (list_by file_of) d)
-  Ok (record { settings = settings; lock = lock; files = files })
+  Ok (record { settings = given.0; lock = given.1; files = files })
 
 -- the document that a JSON value gives, or the first cause against its fields
 unfoldable pub fields_of : Data → Result Document Cause

@@ -41,6 +41,7 @@ pub struct GivenSettings {
     pub node_modules: bool,
     pub alias: Object<Text>,
     pub ts: Option<GivenMapping>,
+    pub conditions: Option<List<Text>>,
 }
 
 // Written out, so that letting settings go is one step of a proof.
@@ -53,6 +54,7 @@ impl Drop for GivenSettings {
             node_modules: _,
             alias: _,
             ts: _,
+            conditions: _,
         } = self;
     }
 }
@@ -69,6 +71,7 @@ impl GivenSettings {
             node_modules,
             alias,
             ts,
+            conditions,
         } = self;
         Settings {
             cwd,
@@ -78,6 +81,7 @@ impl GivenSettings {
             alias: alias.map,
             ts: ts.map(TsSettings::from),
             lock,
+            conditions,
         }
     }
 }
@@ -104,8 +108,7 @@ pub(crate) fn read_fields<J: JsonValue>(alloc: Global, value: &J) -> Result<Docu
 pub fn read_project<J: JsonValue>(alloc: Global, value: &J) -> Result<GivenProject, DocumentError>
     ensures { Meets result (project_fields_of (J.stands_for value.now)) }
 {
-    let settings = read_settings(alloc, value)?;
-    let lock: Option<Text> = field_or(alloc, value, Field::Lock, None)?;
+    let (settings, lock) = read_settings(alloc, value)?;
     let files: List<GivenFile> = required_field(alloc, value, Field::Files)?;
     Ok(GivenProject {
         settings,
@@ -114,9 +117,12 @@ pub fn read_project<J: JsonValue>(alloc: Global, value: &J) -> Result<GivenProje
     })
 }
 
-// The settings that a JSON value gives.
+// The settings that a JSON value gives, and the text of the lock.
 #[tactic(auto, unfolding(crate::specs::Fields::settings_of))]
-fn read_settings<J: JsonValue>(alloc: Global, value: &J) -> Result<GivenSettings, DocumentError>
+fn read_settings<J: JsonValue>(
+    alloc: Global,
+    value: &J,
+) -> Result<(GivenSettings, Option<Text>), DocumentError>
     ensures { Meets result (settings_of (J.stands_for value.now)) }
 {
     let cwd: Text = required_field(alloc, value, Field::Cwd)?;
@@ -125,14 +131,18 @@ fn read_settings<J: JsonValue>(alloc: Global, value: &J) -> Result<GivenSettings
     let node_modules = field_or(alloc, value, Field::NodeModules, true)?;
     let alias = field_or(alloc, value, Field::Alias, Object::<Text>::new(alloc))?;
     let ts: Option<GivenMapping> = field_or(alloc, value, Field::Ts, None)?;
-    Ok(GivenSettings {
+    let lock: Option<Text> = field_or(alloc, value, Field::Lock, None)?;
+    let conditions: Option<List<Text>> = field_or(alloc, value, Field::Conditions, None)?;
+    let settings = GivenSettings {
         cwd,
         target,
         preserve_symlinks,
         node_modules,
         alias,
         ts,
-    })
+        conditions,
+    };
+    Ok((settings, lock))
 }
 
 /// A field that has to be there, or `BadField`.

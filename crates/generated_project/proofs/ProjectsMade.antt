@@ -16,7 +16,7 @@ use Rattle.generated_project.specs.declared.counts.Counts.{Counts}
 use Rattle.generated_project.specs.Generated.{generated_requests, generated_settings, generated_tree}
 
 project_on : Path → Result ProjectSettings ProjectError
-project_on cwd = Ok (record { node = settings_of cwd Node [] false true; mapping = None; lock = None })
+project_on cwd = Ok (record { node = settings_of cwd Node [] false true; mapping = None; lock = None; conditions = None })
 
 -- whatever the test of the working folder comes to, a project that is made is this one
 by_test : (b : Bool) (project : ProjectSettings) → (cond b (Ok (path_in (codes "/g"))) (Err (SettingsFault (codes "cwd"))) >>= project_on) ≡ Ok project → project ≡ generated_settings
@@ -24,7 +24,7 @@ unfolding generated_settings project_on
 by_test true project made = cc
 by_test false project made = cc
 
-pub project_made : (project : ProjectSettings) (given : GivenSettings) → given ≡ record { cwd = codes "/g"; target = Node; preserve_symlinks = false; node_modules = true; alias = []; ts = None; lock = None } → project_of given ≡ Ok project → project ≡ generated_settings
+pub project_made : (project : ProjectSettings) (given : GivenSettings) → given ≡ record { cwd = codes "/g"; target = Node; preserve_symlinks = false; node_modules = true; alias = []; ts = None; lock = None; conditions = None } → project_of given ≡ Ok project → project ≡ generated_settings
 unfolding project_of project_on
 project_made project given is made = by_test (is_clean_path (codes "/g")) project (rw is at made)
 

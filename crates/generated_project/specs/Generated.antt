@@ -90,4 +90,5 @@ generated_settings = record {
   node = settings_of (path_in (codes "/g")) Node [] false true;
   mapping = None;
   lock = None;
+  conditions = None;
 }

@@ -46,6 +46,7 @@ fn generated_project(alloc: Global) -> Result<Project<'static>, AllocError>
         alias: IndexMap::new(alloc),
         ts: None,
         lock: None,
+        conditions: None,
     };
     match Project::new(alloc, settings) {
         Ok(project) => Ok(project),

@@ -23,6 +23,7 @@ pub fn settings(
         alias: IndexMap::new(alloc),
         ts,
         lock: None,
+        conditions: None,
     })
 }
 

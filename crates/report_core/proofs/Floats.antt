@@ -17,7 +17,7 @@ use Rattle.swc_loader.specs.declared.resolution.Via.{Via}
 use Rattle.resolver_core.specs.declared.refusal.TsRefusal.{TsRefusal}
 use Rattle.resolver_core.specs.declared.refusal.TsRefusal.TheVariants.{Inner, TsFault}
 use Rattle.resolve_stack.specs.declared.verdict.JoinRefusal.{JoinRefusal}
-use Rattle.resolve_stack.specs.declared.verdict.JoinRefusal.TheVariants.{BadSpecifier, FailedManifestHydration, UndeclaredDependency, MissingPeerDependency, NotInRegistry, NotLocked, MalformedPackage, OutOfRange, Archive, Outside, NotFound, BaseNotAFile}
+use Rattle.resolve_stack.specs.declared.verdict.JoinRefusal.TheVariants.{BadSpecifier, FailedManifestHydration, UndeclaredDependency, MissingPeerDependency, NotInRegistry, NotLocked, MalformedPackage, OutOfRange, Archive, NotExported, Outside, NotFound, BaseNotAFile}
 use Rattle.resolve_stack.specs.declared.verdict.Verdict.{Verdict}
 use Rattle.resolve_stack.specs.declared.verdict.Verdict.TheVariants.{Answered, Refused}
 use Rattle.report_core.specs.Verdicts.{name_value, text_or_null, via_value, found_value, answer_value, refusal_value, refused_value, verdict_value}
@@ -52,6 +52,7 @@ refusal_without (NotLocked name reference) = refl
 refusal_without (MalformedPackage path) = refl
 refusal_without (OutOfRange range version) = refl
 refusal_without (Archive location) = refl
+refusal_without (NotExported location key) = refl
 refusal_without (Outside file location) = refl
 refusal_without (NotFound text) = refl
 refusal_without BaseNotAFile = refl

@@ -8,7 +8,7 @@ use Rattle.swc_loader.specs.declared.resolution.Found.{Found}
 use Rattle.pnp_core.specs.declared.error.HydrationCause.{HydrationCause}
 use Rattle.pnp_core.specs.declared.error.HydrationCause.TheVariants.{NotText, NoPayload, BadJson, BadPattern, NoTopLevel}
 use Rattle.resolve_stack.specs.declared.verdict.JoinRefusal.{JoinRefusal}
-use Rattle.resolve_stack.specs.declared.verdict.JoinRefusal.TheVariants.{BadSpecifier, FailedManifestHydration, UndeclaredDependency, MissingPeerDependency, NotInRegistry, NotLocked, MalformedPackage, OutOfRange, Archive, Outside, NotFound, BaseNotAFile}
+use Rattle.resolve_stack.specs.declared.verdict.JoinRefusal.TheVariants.{BadSpecifier, FailedManifestHydration, UndeclaredDependency, MissingPeerDependency, NotInRegistry, NotLocked, MalformedPackage, OutOfRange, Archive, NotExported, Outside, NotFound, BaseNotAFile}
 use Rattle.resolver_core.specs.declared.refusal.TsRefusal.{TsRefusal}
 use Rattle.resolver_core.specs.declared.refusal.TsRefusal.TheVariants.{Inner, TsFault}
 use Rattle.pnp_core.specs.declared.manifest.PackageLocator.{PackageLocator}
@@ -107,6 +107,10 @@ refusal_value (MalformedPackage path) = object
 refusal_value (Archive location) = object
     (member (codes "kind") (string (codes "Archive"))
     (member (codes "location") (string location) no_members))
+refusal_value (NotExported location key) = object
+    (member (codes "key") (string key)
+    (member (codes "kind") (string (codes "NotExported"))
+    (member (codes "location") (string location) no_members)))
 refusal_value (Outside file location) = object
     (member (codes "file") (string file)
     (member (codes "kind") (string (codes "Outside"))

@@ -2,7 +2,9 @@
 ghost use Rattle.std.specs.Prelude.{◌≡◌, IfOk, codes, map};
 ghost use Rattle.serde_json.specs.Data.{array, member, no_members};
 ghost use Rattle.serde_json.specs.View.{items_of, view};
-ghost use Rattle.report_core.specs.Verdicts.{answer_value, cause_name, found_value, issuer_value, name_value, package_value, refusal_value, refused_value, text_or_null, verdict_value, via_value};
+ghost use Rattle.report_core.specs.Verdicts.{answer_value, cause_name, found_value, issuer_value, name_value};
+ghost use Rattle.report_core.specs.Verdicts.{package_value, refusal_value, refused_value, text_or_null};
+ghost use Rattle.report_core.specs.Verdicts.{verdict_value, via_value};
 ghost use Rattle.resolve_stack.specs.declared.verdict.JoinRefusal.TheVariants as refusal;
 
 use pnp_core::{HydrationCause, MissingPeerDependency, PackageLocator, UndeclaredDependency};
@@ -149,6 +151,7 @@ fn value_of_refusal(alloc: Global, refusal: &JoinRefusal) -> Result<Value, Alloc
             value_of_out_of_range(alloc, range, version)
         }
         JoinRefusal::Archive { location } => value_of_archive(alloc, location),
+        JoinRefusal::NotExported { location, key } => value_of_unexported(alloc, location, key),
         JoinRefusal::Outside { file, location } => value_of_outside(alloc, file, location),
         JoinRefusal::NotFound { text } => value_of_unfound(alloc, text),
         JoinRefusal::BaseNotAFile => json!(in alloc; {"kind": "BaseNotAFile"}),
@@ -242,6 +245,17 @@ fn value_of_archive(alloc: Global, location: &Text) -> Result<Value, AllocError>
     ensures { IfOk result (λ value. view value ≡ refusal_value (refusal.Archive location.now)) }
 {
     json!(in alloc; {"kind": "Archive", "location": location.as_str()})
+}
+
+fn value_of_unexported(alloc: Global, location: &Text, key: &Text) -> Result<Value, AllocError>
+    ensures { IfOk result (λ value.
+        view value ≡ refusal_value (refusal.NotExported location.now key.now)) }
+{
+    json!(in alloc; {
+        "key": key.as_str(),
+        "kind": "NotExported",
+        "location": location.as_str()
+    })
 }
 
 fn value_of_outside(alloc: Global, file: &Text, location: &Text) -> Result<Value, AllocError>

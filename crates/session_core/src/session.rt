@@ -2,7 +2,8 @@
 ghost use Rattle.std.specs.Prelude.{◌≡◌, ◌≢◌, ◌<◌, [], None, Some, is_some, IfOk, IfErr, IfNone, IfSome, IsOk, IsSome, MatchResult, OnOk, OnErr, OnSome, count_by, map, length, slice_get};
 ghost use Rattle.std.specs.Borrow.{sem};
 ghost use Rattle.std.specs.FinMap as finite;
-ghost use Rattle.tree_core.specs.Tree.{is_file, put_times};
+ghost use Rattle.std.specs.Option.{option_copied};
+ghost use Rattle.tree_core.specs.Tree.{bytes_at, is_file, put_times};
 ghost use Rattle.tree_core.specs.Memory.{refusal};
 ghost use Rattle.tree_core.specs.declared.memory.PutError.TheVariants.{NoMemory};
 ghost use Rattle.resolve_stack.specs.ImportFault.{StarvedAt};
@@ -170,6 +171,13 @@ impl<'l> Session<'l> {
         Keys {
             latest: &self.latest,
         }
+    }
+
+    /// The bytes of the file at a path of the tree as it is now, where there is one. That is no question.
+    pub fn file(&self, path: &str) -> Option<&[u8]>
+        ensures { option_copied result ≡ bytes_at (state_of self.now).tree.files path.now }
+    {
+        self.tree.tree().file(path)
     }
 
     /// How many questions were put to the tree.

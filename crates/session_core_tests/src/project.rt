@@ -32,6 +32,7 @@ fn settings_of(alloc: Global, kind: Kind) -> Result<Settings<'static>, AllocErro
         alias: IndexMap::new(alloc),
         ts,
         lock: lock_of(kind),
+        conditions: None,
     })
 }
 

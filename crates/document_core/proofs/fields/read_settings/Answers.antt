@@ -50,6 +50,31 @@ returns-in_err-ts g c =
     (meets_then _ _ _ _ alias
     (meets_raised _ _ _ c.from_residual-in_err-ts.ensures.1 (meets_stops _ _ _ c.in_err-ts.ensures))))))
 
+pub returns-in_err-lock : goal.returns-in_err-lock
+unfolding settings_of
+returns-in_err-lock g c =
+    let alias = rw c.new.ensures at c.in_ok-alias.ensures in
+    meets_then _ _ _ _ c.in_ok-cwd.ensures
+    (meets_then _ _ _ _ c.in_ok-target.ensures
+    (meets_then _ _ _ _ c.in_ok-preserve_symlinks.ensures
+    (meets_then _ _ _ _ c.in_ok-node_modules.ensures
+    (meets_then _ _ _ _ alias
+    (meets_then _ _ _ _ c.in_ok-ts.ensures
+    (meets_raised _ _ _ c.from_residual-in_err-lock.ensures.1 (meets_stops _ _ _ c.in_err-lock.ensures)))))))
+
+pub returns-in_err-conditions : goal.returns-in_err-conditions
+unfolding settings_of
+returns-in_err-conditions g c =
+    let alias = rw c.new.ensures at c.in_ok-alias.ensures in
+    meets_then _ _ _ _ c.in_ok-cwd.ensures
+    (meets_then _ _ _ _ c.in_ok-target.ensures
+    (meets_then _ _ _ _ c.in_ok-preserve_symlinks.ensures
+    (meets_then _ _ _ _ c.in_ok-node_modules.ensures
+    (meets_then _ _ _ _ alias
+    (meets_then _ _ _ _ c.in_ok-ts.ensures
+    (meets_then _ _ _ _ c.in_ok-lock.ensures
+    (meets_raised _ _ _ c.from_residual-in_err-conditions.ensures.1 (meets_stops _ _ _ c.in_err-conditions.ensures))))))))
+
 pub returns : goal.returns
 unfolding settings_of
 returns g c =
@@ -60,4 +85,6 @@ returns g c =
     (ok_then _ _ c.in_ok-node_modules.ensures
     (ok_then _ _ alias
     (ok_then _ _ c.in_ok-ts.ensures
-    refl)))))
+    (ok_then _ _ c.in_ok-lock.ensures
+    (ok_then _ _ c.in_ok-conditions.ensures
+    refl)))))))
