@@ -1,0 +1,19 @@
+// Laws, each proved for all bytes. The calls have them by their contracts.
+ghost use Rattle.import_graph.specs.Laws.{BetweenLastMarks, LineImports, LinesImportInTurn};
+
+/// What a line is taken to name stands in it between two marks of one kind, and no such mark stands
+/// in it or behind the second; each text that stands so is taken.
+pub fn between_last_marks()
+    ensures { BetweenLastMarks }
+{}
+
+/// A line imports a text exactly where it begins with one of the three words behind its blanks, and
+/// the text is UTF-8 and stands between the last two quotes, or else the last two apostrophes.
+pub fn line_imports()
+    ensures { LineImports }
+{}
+
+/// Two texts with a line feed between them import what each imports, in turn.
+pub fn lines_import_in_turn()
+    ensures { LinesImportInTurn }
+{}

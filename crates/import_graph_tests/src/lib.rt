@@ -1,0 +1,5 @@
+//! The tests of `import_graph`.
+#![tactic(auto)]
+
+#[cfg(test)]
+mod lines;
