@@ -77,7 +77,3 @@ no_releases lock_version name version entries other =
     by_test : ((lock_version == 1) ≡ true) × (lock_version ≡ 1) ⊎ ((lock_version == 1) ≡ false) × (lock_version ≢ 1) → (lock_version == 1) ≡ false
     by_test (inl first) = absurd (other first.1)
     by_test (inr later) = later.0
-
--- and in one of version 1 they are told by their names and versions
-pub all_releases : (lock_version : ℕ) (name version : List ℕ) (entries : List Entry) → (lock_version == 1) ≡ true → first_place (λ e. bytes_eq name e.name && bytes_eq version e.version) entries ≡ first_place (is_released_as lock_version name version) entries
-all_releases lock_version name version entries first = first_place-same (λ e. bytes_eq name e.name && bytes_eq version e.version) (is_released_as lock_version name version) entries (λ e. rw first refl)

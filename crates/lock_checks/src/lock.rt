@@ -2,11 +2,12 @@
 ghost use Rattle.std.specs.Prelude.{◌≡◌, ◌==◌, ◌&&◌, IfOk, slice_get};
 
 use crate::places::{earlier, places_of_releases, places_of_resolutions};
-use crate::reference::{after, plain_reference};
+use crate::reference::plain_reference;
 use pnp_core::PackageLocator;
 use std::alloc::{AllocError, Global};
 use std::collections::HashMap;
 use std::marker::Model;
+use sugar_path::after;
 use yarn_lock_parser::{Entry, Lockfile};
 
 /// A lock that finds the entry of a package by a look-up. What it shows is the lock file.

@@ -2,8 +2,9 @@
 ghost use Rattle.std.specs.Prelude.{◌≡◌, ◌++◌, bytes_eq, codes};
 ghost use Rattle.lock_checks.specs.Naming.{names_locator};
 
-use crate::reference::{after, plain_reference};
+use crate::reference::plain_reference;
 use pnp_core::PackageLocator;
+use sugar_path::after;
 use yarn_lock_parser::Entry;
 
 /// Whether an entry of a lock of this version names a package. It takes no memory.

@@ -1,6 +1,5 @@
 // How a reference is read.
 ghost use Rattle.std.specs.Prelude.{◌≡◌, option_map};
-ghost use Rattle.sugar_path.specs.Front.{after};
 ghost use Rattle.lock_checks.specs.Reference.{behind_mark, is_npm, is_workspace, plain_reference};
 
 // A reference without its virtual part.
@@ -35,11 +34,4 @@ pub(crate) fn is_npm(reference: &str) -> bool
     ensures { result ≡ is_npm reference.now }
 {
     plain_reference(reference).starts_with("npm:")
-}
-
-// What follows a word at the front.
-pub(crate) fn after<'a>(word: &str, text: &'a str) -> Option<&'a str>
-    ensures { option_map (λ t. t.now) result ≡ after word.now text.now }
-{
-    text.strip_prefix(word)
 }

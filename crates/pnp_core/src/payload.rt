@@ -1,13 +1,12 @@
 // The JSON text inside a manifest's program file.
 ghost use Rattle.std.specs.Prelude.{◌≡◌, IfOk, option_map, string_bytes};
 ghost use Rattle.std.specs.Cow.{cow_str_bytes};
-ghost use Rattle.sugar_path.specs.Front.{after};
 ghost use Rattle.pnp_core.specs.Payload.{payload, quoted, after_leftmost, after_opening, after_constant, after_call, is_blank, after_blank, after_blanks};
 
 use memchr::memchr2;
 use std::alloc::{AllocError, Global};
 use std::borrow::CowStr;
-use sugar_path::Text;
+use sugar_path::{Text, after};
 
 /// The payload of a manifest's text: what stands between the quotes behind the leftmost of the two openings that Yarn writes.
 pub fn payload_of(alloc: Global, text: &str) -> Result<Option<Text>, AllocError>
@@ -52,7 +51,7 @@ fn after_opening(text: &str) -> Option<&str>
 {
     match after_constant(text) {
         Some(rest) => Some(rest),
-        None => after_word(text, "hydrateRuntimeState(JSON.parse('"),
+        None => after("hydrateRuntimeState(JSON.parse('", text),
     }
 }
 
@@ -60,16 +59,10 @@ fn after_opening(text: &str) -> Option<&str>
 fn after_constant(text: &str) -> Option<&str>
     ensures { option_map (λ t. t.now) result ≡ after_constant text.now }
 {
-    let name = after_some_blanks(after_word(text, "const")?)?;
-    let sign = after_blanks(after_word(name, "RAW_RUNTIME_STATE")?);
-    let quote = after_blanks(after_word(sign, "=")?);
-    after_word(quote, "'")
-}
-
-fn after_word<'a>(text: &'a str, word: &str) -> Option<&'a str>
-    ensures { option_map (λ t. t.now) result ≡ after word.now text.now }
-{
-    text.strip_prefix(word)
+    let name = after_some_blanks(after("const", text)?)?;
+    let sign = after_blanks(after("RAW_RUNTIME_STATE", name)?);
+    let quote = after_blanks(after("=", sign)?);
+    after("'", quote)
 }
 
 fn after_some_blanks(text: &str) -> Option<&str>

@@ -12,13 +12,13 @@ use Rattle.std.proofs.lemmas.Str.{IsUtf8-take, IsUtf8-append, IsUtf8-from_ascii,
 use Rattle.sugar_path.specs.Path.{is_absolute, parts, is_plain, ends_in_slash}
 use Rattle.sugar_path.specs.Reading.{are_steps}
 use Rattle.sugar_path.specs.Route.{place, normal}
-use Rattle.sugar_path.specs.Lent.{IsInOrder}
-use Rattle.sugar_path.specs.LentParts.{IsRestBehind}
+use Rattle.sugar_path.specs.Borrowed.{IsInOrder}
+use Rattle.sugar_path.specs.BorrowedParts.{IsRestBehind}
 use Rattle.sugar_path.proofs.Bools.{or_right}
 use Rattle.sugar_path.proofs.Parts.{parts-slash}
 use Rattle.sugar_path.proofs.Placed.{looks_rooted, looks-some, placed-rooted, normal-open}
 use Rattle.sugar_path.proofs.SharedTexts.{shared-take}
-use Rattle.sugar_path.proofs.LentWays.{bare, bare-split, bare-unended, bare-absolute}
+use Rattle.sugar_path.proofs.BorrowedWays.{bare, bare-split, bare-unended, bare-absolute}
 
 -- ---- what follows a front
 shared-front : (front r : List ℕ) → common_prefix_len nat_eq front (front ++ r) ≡ length front

@@ -16,7 +16,7 @@ pub mod Twice
 pub mod Journeys
 pub mod Pieces
 pub mod Agreed
-pub mod LentWays
+pub mod BorrowedWays
 pub mod Lanes
 pub mod PlaceParts
 pub mod NameWays

@@ -25,9 +25,9 @@ last-cut t k last = record {
   slash = no_slash-after t k (λ i above within is. last.0.after i (omega (arith, above)) within ((Decides-eqb _ 47).1 is));
 }
 
--- the rest behind it as it is lent
-pub rest-lent : (t : List ℕ) (k : ℕ) → take (length t - (k + 1)) (drop (k + 1) t) ≡ drop (k + 1) t
-rest-lent t k = take_all (length t - (k + 1)) (drop (k + 1) t) (omega (arith, length-drop (k + 1) t))
+-- the rest behind it as it is borrowed
+pub rest-borrowed : (t : List ℕ) (k : ℕ) → take (length t - (k + 1)) (drop (k + 1) t) ≡ drop (k + 1) t
+rest-borrowed t k = take_all (length t - (k + 1)) (drop (k + 1) t) (omega (arith, length-drop (k + 1) t))
 
 pub uncut-parts : (t : List ℕ) → IsLastByte (is_byte 47) t None → parts t ≡ t ∷ []
 uncut-parts t none = parts-uncut t (λ k lt is. none k (omega arith) lt is)

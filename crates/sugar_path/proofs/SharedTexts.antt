@@ -51,7 +51,7 @@ shared-slash base target n k told last =
           (sym (take-append-drop (k + 1) target) ∙ ap (λ s. s ++ drop (k + 1) target) (sym (shared-take (k + 1) base target (omega (arith, low, told))) ∙ front));
     }
 
--- the same at the slices that are lent
+-- the same at the slices that are borrowed
 pub way-slices : (base target : List ℕ) (k : ℕ) → SharesSlash base target k → between (parts (take (length base - (k + 1)) (drop (k + 1) base))) (parts (take (length target - (k + 1)) (drop (k + 1) target))) ≡ between (parts base) (parts target)
 way-slices base target k h =
     ap (λ s. between (parts s) (parts (take (length target - (k + 1)) (drop (k + 1) target)))) (take_all (length base - (k + 1)) (drop (k + 1) base) (omega (arith, length-drop (k + 1) base)))

@@ -3,8 +3,8 @@ pub mod ComponentTypes
 pub mod Content
 pub mod Front
 pub mod Laws
-pub mod Lent
-pub mod LentParts
+pub mod Borrowed
+pub mod BorrowedParts
 pub mod Names
 pub mod Parent
 pub mod ParentEnd

@@ -16,7 +16,7 @@ abbrev pub cow_bytes : PathCow → List ℕ
 cow_bytes (Borrowed p) = path_bytes p
 cow_bytes (Owned p) = p
 
--- the path is lent and not a copy
+-- the path is borrowed and not a copy
 abbrev pub is_borrowed : PathCow → Bool
 is_borrowed (Borrowed p) = true
 is_borrowed (Owned p) = false

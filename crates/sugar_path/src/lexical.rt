@@ -1,16 +1,16 @@
-// Lexical operations over a lent path, which never ask the file system.
+// Lexical operations over a borrowed path, which never ask the file system.
 ghost use Rattle.std.specs.Prelude.{◌≡◌, ◌↔◌, ◌⊎◌, ◌||◌, ◌∷◌, [], List, ℕ, IfOk, IsOk, IfSome, IsNone, OnSome, IsTrue, false, not};
 ghost use Rattle.std.specs.Str.{IsUtf8};
 ghost use Rattle.std.specs.Str.Lossy.{utf8_lossy};
 ghost use Rattle.std.specs.Cow.{cow_str_bytes, IsBorrowedStr};
 ghost use Rattle.sugar_path.specs.Path.{is_absolute};
 ghost use Rattle.sugar_path.specs.Route.{place, normal, from_folder};
-ghost use Rattle.sugar_path.specs.Lent.{IsNormalLent, IsPlaceLent, IsWayLent};
+ghost use Rattle.sugar_path.specs.Borrowed.{IsNormalBorrowed, IsPlaceBorrowed, IsWayBorrowed};
 ghost use Rattle.sugar_path.specs.Relative.{needs_folder, relative_from};
 ghost use Rattle.sugar_path.specs.PathTypes.{path_bytes, cow_bytes, is_borrowed, folder_of, is_known, absolute_if_known};
 
+use crate::borrowed::borrowed_way;
 use crate::faults::TryError;
-use crate::lent::lent_way;
 use crate::normal::{is_here, is_normal, is_place, needs_folder};
 use crate::path::{CwdAnswer, Path, PathBuf, PathCow};
 use crate::places::{normal_of, place_below, place_of};
@@ -20,7 +20,7 @@ use crate::ways::relative_of;
 use std::alloc::{AllocError, Global};
 use std::borrow::CowStr;
 
-/// Lexical operations over a lent path. Each call reads the path's bytes alone, with `/` as separator.
+/// Lexical operations over a borrowed path. Each call reads the path's bytes alone, with `/` as separator.
 pub trait SugarPath<'a>: Sealed {
     /// The bytes of the path.
     ghost bytes: { Self → List ℕ };
@@ -29,10 +29,10 @@ pub trait SugarPath<'a>: Sealed {
     fn normalize(self, alloc: Global) -> Result<PathCow<'a>, AllocError>
         ensures path { IfOk result (λ p. cow_bytes p ≡ normal (bytes self)) }
         ensures borrowed { IfOk result (λ p. IsTrue (is_borrowed p) ↔
-            IsNormalLent (bytes self)) }
+            IsNormalBorrowed (bytes self)) }
 
-        // What is lent takes no memory.
-        ensures lent { IsNormalLent (bytes self) → IsOk result };
+        // What is borrowed takes no memory.
+        ensures without_memory { IsNormalBorrowed (bytes self) → IsOk result };
 
     /// The path from the root: itself, or behind the folder `cwd`, without `.`, `..`, repeated or trailing separators.
     fn absolutize_with(self, alloc: Global, cwd: Path<'_>) -> Result<PathCow<'a>, AllocError>
@@ -40,8 +40,8 @@ pub trait SugarPath<'a>: Sealed {
         ensures path { IfOk result (λ p.
             cow_bytes p ≡ from_folder (path_bytes cwd.entry) (bytes self)) }
         ensures borrowed { IfOk result (λ p. IsTrue (is_borrowed p) ↔
-            IsPlaceLent (bytes self)) }
-        ensures lent { IsPlaceLent (bytes self) → IsOk result };
+            IsPlaceBorrowed (bytes self)) }
+        ensures without_memory { IsPlaceBorrowed (bytes self) → IsOk result };
 
     /// As `absolutize_with`, where the working folder is known if it is needed.
     fn absolutize(self, alloc: Global, cwd: &CwdAnswer) -> Result<PathCow<'a>, AllocError>
@@ -49,8 +49,8 @@ pub trait SugarPath<'a>: Sealed {
         ensures path { IfOk result (λ p.
             cow_bytes p ≡ from_folder (folder_of cwd.now) (bytes self)) }
         ensures borrowed { IfOk result (λ p. IsTrue (is_borrowed p) ↔
-            IsPlaceLent (bytes self)) }
-        ensures lent { IsPlaceLent (bytes self) → IsOk result };
+            IsPlaceBorrowed (bytes self)) }
+        ensures without_memory { IsPlaceBorrowed (bytes self) → IsOk result };
 
     /// As `absolutize_with`, with a fault where the working folder is needed and unknown.
     fn try_absolutize(self, alloc: Global, cwd: &CwdAnswer) -> Result<PathCow<'a>, TryError>
@@ -58,13 +58,13 @@ pub trait SugarPath<'a>: Sealed {
         ensures path { IfOk result (λ p.
             cow_bytes p ≡ from_folder (folder_of cwd.now) (bytes self)) }
         ensures borrowed { IfOk result (λ p. IsTrue (is_borrowed p) ↔
-            IsPlaceLent (bytes self)) }
-        ensures lent { IsPlaceLent (bytes self) → IsOk result }
+            IsPlaceBorrowed (bytes self)) }
+        ensures without_memory { IsPlaceBorrowed (bytes self) → IsOk result }
         ensures no_cwd { (result ≡ Err TryError.NoCwd) ↔
             (IsTrue (not (is_absolute (bytes self))) × IsTrue (not (is_known cwd.now))) };
 
     /// The path from `base` to this one: `..` out of the folders of `base`, and then the names. It is empty between two
-    /// paths of one place, and lent where it stands at the end of this path.
+    /// paths of one place, and borrowed where it stands at the end of this path.
     fn relative_with(
         self,
         alloc: Global,
@@ -76,8 +76,8 @@ pub trait SugarPath<'a>: Sealed {
         ensures path { IfOk result (λ p. cow_bytes p ≡
             relative_from (path_bytes cwd.entry) (path_bytes base.entry) (bytes self)) }
         ensures borrowed { IfOk result (λ p. IsTrue (is_borrowed p) ↔
-            IsWayLent (path_bytes base.entry) (bytes self)) }
-        ensures lent { IsWayLent (path_bytes base.entry) (bytes self) → IsOk result };
+            IsWayBorrowed (path_bytes base.entry) (bytes self)) }
+        ensures without_memory { IsWayBorrowed (path_bytes base.entry) (bytes self) → IsOk result };
 
     /// As `relative_with`, where the working folder is known if it is needed.
     fn relative(
@@ -91,8 +91,8 @@ pub trait SugarPath<'a>: Sealed {
         ensures path { IfOk result (λ p. cow_bytes p ≡
             relative_from (folder_of cwd.now) (path_bytes base.entry) (bytes self)) }
         ensures borrowed { IfOk result (λ p. IsTrue (is_borrowed p) ↔
-            IsWayLent (path_bytes base.entry) (bytes self)) }
-        ensures lent { IsWayLent (path_bytes base.entry) (bytes self) → IsOk result };
+            IsWayBorrowed (path_bytes base.entry) (bytes self)) }
+        ensures without_memory { IsWayBorrowed (path_bytes base.entry) (bytes self) → IsOk result };
 
     /// As `relative_with`, with a fault where the working folder is needed and unknown.
     fn try_relative(
@@ -105,8 +105,8 @@ pub trait SugarPath<'a>: Sealed {
         ensures path { IfOk result (λ p. cow_bytes p ≡
             relative_from (folder_of cwd.now) (path_bytes base.entry) (bytes self)) }
         ensures borrowed { IfOk result (λ p. IsTrue (is_borrowed p) ↔
-            IsWayLent (path_bytes base.entry) (bytes self)) }
-        ensures lent { IsWayLent (path_bytes base.entry) (bytes self) → IsOk result }
+            IsWayBorrowed (path_bytes base.entry) (bytes self)) }
+        ensures without_memory { IsWayBorrowed (path_bytes base.entry) (bytes self) → IsOk result }
         ensures no_cwd { (result ≡ Err TryError.NoCwd) ↔
             (IsTrue (needs_folder (path_bytes base.entry) (bytes self)) ×
             IsTrue (not (is_known cwd.now))) };
@@ -126,7 +126,7 @@ pub trait SugarPath<'a>: Sealed {
     fn to_slash_lossy(self, alloc: Global) -> Result<CowStr<'a>, AllocError>
         ensures text { IfOk result (λ text. cow_str_bytes text ≡ utf8_lossy (bytes self)) }
         ensures borrowed { IfOk result (λ text. IsBorrowedStr text ↔ IsUtf8 (bytes self)) }
-        ensures lent { IsUtf8 (bytes self) → IsOk result };
+        ensures without_memory { IsUtf8 (bytes self) → IsOk result };
 
     fn as_path(self) -> Path<'a>
         ensures { path_bytes result ≡ bytes self };
@@ -179,7 +179,7 @@ impl<'a> SugarPath<'a> for Path<'a> {
         base: Path<'_>,
         cwd: Path<'_>,
     ) -> Result<PathCow<'a>, AllocError> {
-        if let Some(way) = lent_way(base.bytes(), self.bytes()) {
+        if let Some(way) = borrowed_way(base.bytes(), self.bytes()) {
             return Ok(PathCow::Borrowed(Path::of_bytes(way)));
         }
         let way = relative_of(alloc, cwd.bytes(), base.bytes(), self.bytes())?;

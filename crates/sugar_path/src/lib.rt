@@ -1,15 +1,16 @@
 //! Lexical paths, and the plain values that the crates above share.
 #![tactic(auto)]
 
+mod borrowed;
 mod clean;
 mod clean_path;
 mod clean_relative;
 mod component;
 mod content;
 mod faults;
+mod front;
 mod joined;
 pub mod laws;
-mod lent;
 mod lexical;
 mod lexical_buf;
 mod normal;
@@ -31,6 +32,7 @@ pub use clean::{clean_text, is_clean};
 pub use clean_path::CleanPath;
 pub use component::{Component, Components};
 pub use faults::TryError;
+pub use front::after;
 pub use joined::join;
 pub use lexical::SugarPath;
 pub use lexical_buf::SugarPathBuf;

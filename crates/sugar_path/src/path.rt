@@ -1,11 +1,11 @@
-// Paths as bytes: lent, owned, or either.
+// Paths as bytes: borrowed, owned, or either.
 ghost use Rattle.std.specs.Prelude.{◌≡◌, IfOk, IsOk, false};
 ghost use Rattle.sugar_path.specs.PathTypes.{path_bytes, cow_bytes, is_borrowed};
 
 use std::alloc::{AllocError, Global};
 use std::marker::Model;
 
-/// The bytes of a path, lent. They need not be UTF-8.
+/// The bytes of a path, borrowed. They need not be UTF-8.
 #[derive(Clone, Copy)]
 pub struct Path<'a> {
     bytes: &'a [u8],
@@ -93,7 +93,7 @@ impl From<PathBuf> for Vec<u8> {
     }
 }
 
-/// A path that is lent where it already stands, and owned where it had to be made.
+/// A path that is borrowed where it already stands, and owned where it had to be made.
 #[derive(Drop)]
 pub enum PathCow<'a> {
     Borrowed(Path<'a>),
@@ -110,7 +110,7 @@ impl<'a> PathCow<'a> {
         }
     }
 
-    /// The path as owned bytes, which copies a lent one.
+    /// The path as owned bytes, which copies a borrowed one.
     pub fn into_owned(self, alloc: Global) -> Result<PathBuf, AllocError>
         ensures path { IfOk result (λ p. p ≡ cow_bytes self.entry) }
 

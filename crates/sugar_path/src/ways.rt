@@ -134,7 +134,7 @@ fn place_from<'a>(alloc: Global, folder: &[u8], path: &'a [u8]) -> Result<PathCo
     Ok(PathCow::Owned(PathBuf::from(place_below(alloc, folder, path)?)))
 }
 
-// The place of a path, lent where the path is its own.
+// The place of a path, borrowed where the path is its own.
 fn place_alone<'a>(alloc: Global, path: &'a [u8]) -> Result<PathCow<'a>, AllocError>
     ensures { IfOk result (λ p. cow_bytes p ≡ place path.now) }
 {

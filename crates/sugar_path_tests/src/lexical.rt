@@ -3,7 +3,7 @@ use std::alloc::Global;
 use std::test::Fail;
 use sugar_path::{CwdAnswer, Path, PathBuf, PathCow, SugarPath, SugarPathBuf, TryError};
 
-// Whether a path is the text of a row, and `lent` or `made` as the row says behind it.
+// Whether a path is the text of a row, and `borrowed` or `made` as the row says behind it.
 fn is_as(found: &PathCow<'_>, wanted: &str) -> bool {
     match wanted.rsplit_once(" | ") {
         Some((text, how)) => { found.as_path().bytes() == text.as_bytes() && how_of(found) == how }
@@ -13,16 +13,16 @@ fn is_as(found: &PathCow<'_>, wanted: &str) -> bool {
 
 fn how_of(found: &PathCow<'_>) -> &'static str {
     match found {
-        PathCow::Borrowed(_) => "lent",
+        PathCow::Borrowed(_) => "borrowed",
         PathCow::Owned(_) => "made",
     }
 }
 
-// A path and its normal form, on each line, and whether that is lent.
+// A path and its normal form, on each line, and whether that is borrowed.
 fn normal_forms() -> &'static str {
     "workspace/src/../dist/assets | workspace/dist/assets | made
- | . | lent
-./ | ./ | lent
+ | . | borrowed
+./ | ./ | borrowed
 a/../ | ./ | made
 /a//b/ | /a/b/ | made
 /foo/../../../bar | /bar | made
@@ -34,8 +34,8 @@ a//b//. | a/b | made
 bar/foo../../ | bar/ | made
 bar/foo../.. | bar | made
 bar/foo../../baz | bar/baz | made
-bar/foo../ | bar/foo../ | lent
-bar/foo.. | bar/foo.. | lent
+bar/foo../ | bar/foo../ | borrowed
+bar/foo.. | bar/foo.. | borrowed
 ../foo../../../bar | ../../bar | made
 ../.../.././.../../../bar | ../../bar | made
 ../../../foo/../../../bar | ../../../../../bar | made
@@ -43,13 +43,13 @@ bar/foo.. | bar/foo.. | lent
 ../foobar/barfoo/foo/../../../bar/../../ | ../../ | made
 ../../../foobar/../../../bar/../../baz | ../../../../../../baz | made
 fixtures///b/../b/c.js | fixtures/b/c.js | made
-/ | / | lent
+/ | / | borrowed
 // | / | made
 /// | / | made
-. | . | lent
-.. | .. | lent
-../ | ../ | lent
-../.. | ../.. | lent
+. | . | borrowed
+.. | .. | borrowed
+../ | ../ | borrowed
+../.. | ../.. | borrowed
 /.. | / | made
 /../ | / | made
 /. | / | made
@@ -57,16 +57,16 @@ fixtures///b/../b/c.js | fixtures/b/c.js | made
 ./a | a | made
 a/. | a | made
 a/./ | a/ | made
-a/.. | . | lent
+a/.. | . | borrowed
 a/../.. | .. | made
 ./.. | .. | made
-./. | . | lent
+./. | . | borrowed
 .// | ./ | made
-... | ... | lent
-a | a | lent
-a/ | a/ | lent
-a/b/c | a/b/c | lent
-/a/b | /a/b | lent
+... | ... | borrowed
+a | a | borrowed
+a/ | a/ | borrowed
+a/b/c | a/b/c | borrowed
+/a/b | /a/b | borrowed
 é/../ü | ü | made"
 }
 
@@ -80,7 +80,7 @@ fn paths_are_normalized(rt: HostRuntime) -> Result<(), Fail> {
     Ok(())
 }
 
-// Whether an owned path has a normal form, which says whether it is lent from a borrowed path.
+// Whether an owned path has a normal form, which says whether it is borrowed from a borrowed path.
 fn is_normalized_to(alloc: Global, path: &str, wanted: &str) -> Result<bool, Fail> {
     let (normal, _) = wanted.split_once(" | ").ok_or("no normal form")?;
     let owned = PathBuf::of(alloc, Path::of_text(path))?;
@@ -99,7 +99,7 @@ fn owned_paths_are_normalized(rt: HostRuntime) -> Result<(), Fail> {
     Ok(())
 }
 
-// A path read from `/w/x` and its place, on each line, and whether that is lent.
+// A path read from `/w/x` and its place, on each line, and whether that is borrowed.
 fn places() -> &'static str {
     "src/lib.rs | /w/x/src/lib.rs | made
  | /w/x | made
@@ -112,9 +112,9 @@ fn places() -> &'static str {
 a/../../b/ | /w/b | made
 ./a/./b//c/ | /w/x/a/b/c | made
 /a/b/../c/ | /a/c | made
-/ | / | lent
+/ | / | borrowed
 /.. | / | made
-/a/b | /a/b | lent
+/a/b | /a/b | borrowed
 /a/b/ | /a/b | made
 //a | /a | made"
 }
@@ -148,16 +148,16 @@ fn the_working_folder_is_asked_where_needed(rt: HostRuntime) -> Result<(), Fail>
 }
 
 // A target, a base, and the way from the base to the target, where both are read from `/w/x`, on each line, and whether that
-// is lent.
+// is borrowed.
 fn ways() -> &'static str {
     "/var | /var/lib | .. | made
 /bin | /var/lib | ../../bin | made
-/var/lib | /var/lib |  | lent
+/var/lib | /var/lib |  | borrowed
 /var/apache | /var/lib | ../apache | made
-/var/lib | /var/ | lib | lent
-/var/lib | / | var/lib | lent
+/var/lib | /var/ | lib | borrowed
+/var/lib | / | var/lib | borrowed
 / | /var/lib | ../.. | made
-/foo/test/bar/package.json | /foo/test | bar/package.json | lent
+/foo/test/bar/package.json | /foo/test | bar/package.json | borrowed
 /Users/a/web/b | /Users/a/web/b/test/mails | ../.. | made
 /foo/bar/baz | /foo/bar/baz-quux | ../baz | made
 /foo/bar/baz-quux | /foo/bar/baz | ../baz-quux | made
@@ -182,13 +182,13 @@ a/b |  | a/b | made
 a/../b | c/../b |  | made
 ../../a | ../.. | a | made
 ../../.. | a | ../../.. | made
-/a/b/c | /a | b/c | lent
+/a/b/c | /a | b/c | borrowed
 /a/./b | /a | b | made
 /a/b | /a/. | b | made
 /a//b | /a | b | made
-/a/b// | /a// | b | lent
-/a/é | /a | é | lent
-/ | // |  | lent
+/a/b// | /a// | b | borrowed
+/a/é | /a | é | borrowed
+/ | // |  | borrowed
 /ab | /a | ../ab | made
 a/b | a | b | made"
 }
@@ -250,7 +250,7 @@ fn bytes_are_read_as_text(rt: HostRuntime) -> Result<(), Fail> {
 }
 
 #[test]
-fn text_is_lent(rt: HostRuntime) {
+fn text_is_borrowed(rt: HostRuntime) {
     let path = Path::of_text("src/lib.rs");
     assert!(rt; path.try_to_slash().is_some());
     assert_eq!(rt; path.to_slash(), "src/lib.rs");

@@ -1,10 +1,10 @@
 -- The plan of a list's first file answers the first that is a file, and asks for each up to it; so does the plan of the first that exists.
 use Rattle.std.proofs.Common.{◌≡◌, Bool, true, false, cond, List, [], ◌∷◌, Some, refl}
-use Rattle.tree_core.specs.declared.question.Question.TheVariants.{File, Exists, Read}
+use Rattle.tree_core.specs.declared.question.Question.TheVariants.{File, Exists}
 use Rattle.sugar_path.specs.Path.{Path, text_of}
 use Rattle.tree_core.specs.Tree.{Files}
-use Rattle.tree_core.specs.Plan.{Done, answer, asked, ◌>>=◌, file, read, first_file, exists, first_existing}
-use Rattle.tree_core.specs.First.{is_key, first_key, up_to_first, content_of, is_there, first_there, up_to_first_there}
+use Rattle.tree_core.specs.Plan.{Done, answer, asked, ◌>>=◌, file, first_file, exists, first_existing}
+use Rattle.tree_core.specs.First.{is_key, first_key, up_to_first, is_there, first_there, up_to_first_there}
 
 pub answer-first_file : (t : Files) (ps : List Path) → answer t (first_file ps) ≡ first_key t ps
 unfolding answer ◌>>=◌ file
@@ -41,19 +41,3 @@ asked-first_existing t (p ∷ ps) = by_test (is_there t p) (asked-first_existing
     by_test : (b : Bool) → asked t (first_existing ps) ≡ up_to_first_there t ps → Exists (text_of p) ∷ asked t (cond b (Done (Some p)) (first_existing ps)) ≡ Exists (text_of p) ∷ cond b [] (up_to_first_there t ps)
     by_test true rest = refl
     by_test false rest = λ i. Exists (text_of p) ∷ rest i
-
-pub answer-file : (t : Files) (p : Path) → answer t (file p) ≡ is_key t p
-unfolding answer file
-answer-file t p = refl
-
-pub asked-file : (t : Files) (p : Path) → asked t (file p) ≡ File (text_of p) ∷ []
-unfolding asked file
-asked-file t p = refl
-
-pub answer-read : (t : Files) (p : Path) → answer t (read p) ≡ content_of t p
-unfolding answer read
-answer-read t p = refl
-
-pub asked-read : (t : Files) (p : Path) → asked t (read p) ≡ Read (text_of p) ∷ []
-unfolding asked read
-asked-read t p = refl

@@ -1,6 +1,6 @@
 -- What one more step of a trail says of a question.
 use Rattle.sugar_path.proofs.Bools.{and_left, and_right}
-use Rattle.std.proofs.Common.{◌≡◌, ◌<◌, ℕ, zero, suc, length, get_or, arith, Bool, true, false, cond, ◌⊎◌, inl, inr, refl, sym, ap, ◌∙◌, List, [], ◌∷◌, ◌++◌, Result, Ok, Err, OnOk, OnErr, Some, None, is_ok, subst}
+use Rattle.std.proofs.Common.{◌≡◌, ◌<◌, ℕ, zero, suc, length, get_or, arith, Bool, true, false, cond, ◌⊎◌, inl, inr, refl, sym, ap, ◌∙◌, List, [], ◌∷◌, ◌++◌, Result, Ok, Err, OnOk, OnErr, Some, None, subst}
 use Rattle.std.proofs.lemmas.Slice.Eq.{bytes_eq-Decides}
 use Rattle.tree_core.specs.declared.question.Question.{Question}
 use Rattle.tree_core.specs.declared.question.Question.TheVariants.{File, Dir, Exists, Read, Canon}
@@ -94,7 +94,3 @@ all_fit-push (s ∷ steps) q r all fit = rw (and_left (fits s.0 s.1) _ all) (all
 pub pushed : {A E : Type 0} (result : Result A E) (t : Files) (old new : List (Question × Reply)) (q : Question) (x : Reply) → OnOk result (new ≡ old ++ (q, x) ∷ []) → OnErr result (new ≡ old) → Agrees t old → x ≡ reply t q → Agrees t new
 pushed (Ok _) t old new q x ok err h e = let P : List (Question × Reply) → Type 0 = Agrees t in subst P (sym ok) (agrees-push t old q x h e)
 pushed (Err _) t old new q x ok err h e = let P : List (Question × Reply) → Type 0 = Agrees t in subst P (sym err) h
-
-pub fits-pushed : {A E : Type 0} (result : Result A E) (old new : List (Question × Reply)) (q : Question) (r : Reply) → new ≡ cond (is_ok result) (old ++ (q, r) ∷ []) old → all_fit old ≡ true → fits q r ≡ true → all_fit new ≡ true
-fits-pushed (Ok _) old new q r e all fit = ap all_fit e ∙ all_fit-push old q r all fit
-fits-pushed (Err _) old new q r e all fit = ap all_fit e ∙ all

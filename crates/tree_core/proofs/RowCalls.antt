@@ -75,15 +75,3 @@ row_then {p = p} f k first is rest = by_plan (order-then p f k) (asks_as (λ a. 
 -- Its exit where the tree fails, or out of memory.
 pub row_fails : {A B R X : Type 0} {old new : Asking} {e : ReadError} {p : Plan A} (f : A → Row B R X) (k : B → Row R R X) (r : Result R (ResolveError X)) → IsErrAnd r (λ x. x ≡ resolving.into e) → Asks {A = A} old new (Err e) p → Resolves old new r (order ((p >>= f) >>=? k))
 row_fails {p = p} f k r is h = by_plan (order-then p f k) (asks_fails_in resolving (λ a. order (f a >>=? k)) r is h)
-
-row_after : {A B R X : Type 0} (a : A) (f : A → Row B R X) (k : B → Row R R X) → order (f a >>=? k) ≡ Done a >>= λ x. order (f x >>=? k)
-unfolding ◌>>=◌
-row_after a f k = refl
-
--- A row of what a call that asks nothing answers.
-pub row_of_answer : {A B R X : Type 0} {old mid new : Asking} {a b c : A} {r : Result (Result R X) ReadError} (f : A → Row B R X) (k : B → Row R R X) → Asks old mid (Ok a) (Done c) → a ≡ b → Asks mid new r (order (f b >>=? k)) → Asks old new r (order (f c >>=? k))
-row_of_answer {c = c} f k first is rest = by_plan (row_after c f k) (asks_as (λ x. order (f x >>=? k)) first is rest)
-
--- Its exit out of memory.
-pub row_of_failure : {A B R X : Type 0} {old new : Asking} {e : ReadError} {c : A} (f : A → Row B R X) (k : B → Row R R X) (r : Result R (ResolveError X)) → IsErrAnd r (λ x. x ≡ resolving.into e) → Asks {A = A} old new (Err e) (Done c) → Resolves old new r (order (f c >>=? k))
-row_of_failure {c = c} f k r is h = by_plan (row_after c f k) (asks_fails_in resolving (λ x. order (f x >>=? k)) r is h)

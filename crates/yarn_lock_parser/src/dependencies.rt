@@ -5,9 +5,10 @@ ghost use Rattle.yarn_lock_parser.specs.Given.{kind_said};
 ghost use Rattle.yarn_lock_parser.specs.Dependencies.{deeper, dependencies_at, dependency_at, dependency_kind, dependency_version, is_lone_return, line_rest, trimmed};
 
 use crate::byte_set::ByteSet;
-use crate::front::{after, after_line_end, before, quoted_at, run, some_run};
+use crate::front::{after_line_end, before, quoted_at, run, some_run};
 use crate::pair::Pair;
 use std::alloc::{AllocError, Global};
+use sugar_path::after;
 
 /// Which dependencies a heading names.
 #[derive(Clone, Copy)]

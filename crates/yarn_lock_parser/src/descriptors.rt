@@ -5,10 +5,11 @@ ghost use Rattle.yarn_lock_parser.specs.Packed.{listed};
 ghost use Rattle.yarn_lock_parser.specs.Descriptors.{before_colon, descriptor_at, descriptors_at, descriptors_on, each_parted, next_descriptor, parted, put_before};
 
 use crate::byte_set::ByteSet;
-use crate::front::{after, after_optional, before, front, line_at, run, some_run};
+use crate::front::{after_optional, before, front, line_at, run, some_run};
 use crate::pair::Pair;
 use std::alloc::{AllocError, Global};
 use std::slice;
+use sugar_path::after;
 
 /// The descriptors of an entry. Most entries have one, which takes no memory beside the entry's own.
 #[derive(Drop)]

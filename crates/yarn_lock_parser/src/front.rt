@@ -6,13 +6,7 @@ ghost use Rattle.sugar_path.specs.Front.{after, before};
 ghost use Rattle.yarn_lock_parser.specs.Front.{after_optional, after_blanks, after_line_end, before_optional, front, IsRest, line_at, quoted_at, run, some_run};
 
 use crate::byte_set::ByteSet;
-
-/// What follows a word at the front.
-pub(crate) fn after<'a>(word: &str, text: &'a str) -> Option<&'a str>
-    ensures { option_map (λ t. t.now) result ≡ after word.now text.now }
-{
-    text.strip_prefix(word)
-}
+use sugar_path::after;
 
 /// What follows a word that may stand at the front.
 pub(crate) fn after_optional<'a>(word: &str, text: &'a str) -> &'a str

@@ -3,8 +3,9 @@ ghost use Rattle.std.specs.Prelude.{◌≡◌, option_map};
 ghost use Rattle.yarn_lock_parser.specs.Header.{after_bun_line, header_at};
 
 use crate::byte_set::ByteSet;
-use crate::front::{after, line_at, run};
+use crate::front::{line_at, run};
 use std::marker::Model;
+use sugar_path::after;
 
 /// The program that wrote a lock file.
 #[derive(Clone, Copy, Debug, PartialEq, Eq)]

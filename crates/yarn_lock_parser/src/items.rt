@@ -5,7 +5,8 @@ ghost use Rattle.yarn_lock_parser.specs.Front.{after_optional};
 ghost use Rattle.yarn_lock_parser.specs.Items.{at_value, integrity_at, resolved_at, version_at};
 
 use crate::byte_set::ByteSet;
-use crate::front::{after, after_blanks, after_line_end, after_optional, run, some_run};
+use crate::front::{after_blanks, after_line_end, after_optional, run, some_run};
+use sugar_path::after;
 
 /// The version, and what follows its line.
 #[tactic(auto, unfolding(crate::specs::Items::version_at))]

@@ -5,8 +5,9 @@ ghost use Rattle.yarn_lock_parser.specs.Metadata.{after_compression, cache_key, 
 
 use crate::byte_set::ByteSet;
 use crate::cut::after_first_empty_line;
-use crate::front::{after, after_blanks, after_line_end, front, run, some_run};
+use crate::front::{after_blanks, after_line_end, front, run, some_run};
 use std::marker::Model;
+use sugar_path::after;
 
 #[derive(Drop)]
 pub(crate) struct Metadata<'a> {

@@ -7,10 +7,11 @@ ghost use Rattle.yarn_lock_parser.specs.Metas.{flag_of, flag_under, meta_at, met
 
 use crate::byte_set::ByteSet;
 use crate::dependencies::deeper;
-use crate::front::{after, after_line_end, before_optional, line_at, quoted_at, run, some_run};
+use crate::front::{after_line_end, before_optional, line_at, quoted_at, run, some_run};
 use std::alloc::{AllocError, Global};
 use std::marker::Model;
 use std::{fmt, slice};
+use sugar_path::after;
 
 /// Which metas a heading names.
 #[derive(Clone, Copy)]

@@ -10,8 +10,8 @@ use Rattle.std.proofs.lemmas.Slice.Eq.{bytes_eq-Decides}
 use Rattle.sugar_path.specs.Path.{Path, IsPath, IsSteps, steps, text_of, names_in, is_absolute, parts, by_parts, path_in, ends_in_slash, below}
 use Rattle.sugar_path.specs.Route.{Rooted, route_of, route_text, place, normal}
 use Rattle.sugar_path.specs.Relative.{between, way, needs_folder, same_start, relative_from}
-use Rattle.sugar_path.specs.Lent.{without_last_slashes, IsInOrder, IsWayLent}
-use Rattle.sugar_path.specs.LentParts.{IsRestBehind}
+use Rattle.sugar_path.specs.Borrowed.{without_last_slashes, IsInOrder, IsWayBorrowed}
+use Rattle.sugar_path.specs.BorrowedParts.{IsRestBehind}
 use Rattle.sugar_path.proofs.Paths.{IsSteps-steps, names_in-steps}
 use Rattle.sugar_path.proofs.Parts.{parts-slash, by_parts-append, IsPath-path_in}
 use Rattle.sugar_path.proofs.Below.{below-tells, below-from_text, steps-append}
@@ -184,13 +184,13 @@ split-steps base target b t h =
       t.0.text ∙ ap steps (t.1 ∙ w.1) ∙ steps-append w.0 (path_in base) ∙ ap (λ s. s ++ steps w.0) (sym (b.0.text ∙ ap steps b.1)),
     )
 
-lent-steps : (base target : List ℕ) → IsWayLent base target → HasSteps base × HasSteps target
-lent-steps base target h = (in_order-steps base h.from.absolute h.from.normal, in_order-steps target h.to.absolute h.to.normal)
+borrowed-steps : (base target : List ℕ) → IsWayBorrowed base target → HasSteps base × HasSteps target
+borrowed-steps base target h = (in_order-steps base h.from.absolute h.from.normal, in_order-steps target h.to.absolute h.to.normal)
 
--- where the target's text goes on behind the base's, the way is lent if both are in order
-pub lent-none : (base target : List ℕ) → IsRestBehind (bare base) (bare target) None → ¬ IsWayLent base target
-lent-none base target none h =
-    let s = lent-steps base target h in
+-- where the target's text goes on behind the base's, the way is borrowed if both are in order
+pub borrowed-none : (base target : List ℕ) → IsRestBehind (bare base) (bare target) None → ¬ IsWayBorrowed base target
+borrowed-none base target none h =
+    let s = borrowed-steps base target h in
     let w = split-steps base target s.0 s.1 h.names in
     by_names w.0 w.3
   where
@@ -198,8 +198,8 @@ lent-none base target none h =
     by_names [] is = none.0 (is ∙ append-nil (bare base))
     by_names (n ∷ q) is = let begun = steps-begun n q in none.1 begun.0 (is ∙ ap (λ s. bare base ++ s) begun.1)
 
-pub lent-below : (base target r : List ℕ) → IsInOrder base → IsInOrder target → IsRestBehind (bare base) (bare target) (Some r) → IsWayLent base target
-lent-below base target r b t rest =
+pub borrowed-below : (base target r : List ℕ) → IsInOrder base → IsInOrder target → IsRestBehind (bare base) (bare target) (Some r) → IsWayBorrowed base target
+borrowed-below base target r b t rest =
     let from = in_order-steps base b.absolute b.normal in
     let to = in_order-steps target t.absolute t.normal in
     record { from = b; to = t; names = rw (← from.1, ← to.1) (by_rest rest) }
@@ -208,11 +208,11 @@ lent-below base target r b t rest =
     by_rest (inl w) = below-from_text (bare target) (bare base) [] (w.0 ∙ sym (append-nil (bare base))) (inl refl)
     by_rest (inr w) = below-from_text (bare target) (bare base) (47 ∷ r) w (inr refl)
 
-pub lent-way : (base target r : List ℕ) → IsInOrder base → IsInOrder target → IsRestBehind (bare base) (bare target) (Some r) → (cwd : List ℕ) → r ≡ relative_from cwd base target
-lent-way base target r b t rest cwd =
+pub borrowed-way : (base target r : List ℕ) → IsInOrder base → IsInOrder target → IsRestBehind (bare base) (bare target) (Some r) → (cwd : List ℕ) → r ≡ relative_from cwd base target
+borrowed-way base target r b t rest cwd =
     let from = in_order-steps base b.absolute b.normal in
     let to = in_order-steps target t.absolute t.normal in
-    let w = split-steps base target from to (lent-below base target r b t rest).names in
+    let w = split-steps base target from to (borrowed-below base target r b t rest).names in
     by_rest w.0 w.1 w.3 rest ∙ sym (way-on cwd base target w.0 b.absolute t.absolute w.2)
   where
     by_rest : (q : Path) → IsPath q → bare target ≡ bare base ++ steps q → ((bare target ≡ bare base) × (r ≡ [])) ⊎ (bare target ≡ bare base ++ 47 ∷ r) → r ≡ join_with_byte 47 (reverse q)
@@ -272,6 +272,6 @@ bare-done s None other h = bare-same s (unended s h)
         by_test false e = refl
 bare-done s (Some x) other h = absurd (other x refl)
 
--- a way that is lent needs no working folder
-pub lent-alone : (base target : List ℕ) → IsWayLent base target → needs_folder base target ≡ false
-lent-alone base target h = both-rooted base target h.from.absolute h.to.absolute
+-- a way that is borrowed needs no working folder
+pub borrowed-alone : (base target : List ℕ) → IsWayBorrowed base target → needs_folder base target ≡ false
+borrowed-alone base target h = both-rooted base target h.from.absolute h.to.absolute

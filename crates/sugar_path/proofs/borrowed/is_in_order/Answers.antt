@@ -1,9 +1,9 @@
 use Rattle.std.proofs.Common.{◌≡◌, false, true, inl, inr, sym, ◌∙◌, rules, subst, List, ℕ}
 use Rattle.std.specs.Prelude.{◌↔◌, IsTrue}
 use Rattle.std.specs.Str.{IsUtf8}
-use Rattle.sugar_path.proofs.LentWays.{IsEmptyOrPlace, in_order-told, in_order-not, not_told}
-use Rattle.sugar_path.proofs.lent.is_in_order.Goals as goal
-use Rattle.sugar_path.proofs.lent.is_in_order.Goals.{then-is_absolute, else-is_absolute}
+use Rattle.sugar_path.proofs.BorrowedWays.{IsEmptyOrPlace, in_order-told, in_order-not, not_told}
+use Rattle.sugar_path.proofs.borrowed.is_in_order.Goals as goal
+use Rattle.sugar_path.proofs.borrowed.is_in_order.Goals.{then-is_absolute, else-is_absolute}
 
 pub returns-then-is_empty_or_place : goal.returns-then-is_empty_or_place
 returns-then-is_empty_or_place c =

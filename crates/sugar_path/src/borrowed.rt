@@ -2,16 +2,16 @@
 ghost use Rattle.std.specs.Prelude.{◌≡◌, ◌↔◌, ◌⊎◌, [], List, ℕ, IfSome, IsSome, IsTrue, option_map};
 ghost use Rattle.sugar_path.specs.Route.{place};
 ghost use Rattle.sugar_path.specs.Relative.{relative_from};
-ghost use Rattle.sugar_path.specs.Lent.{without_last_slashes, IsInOrder, IsWayLent};
-ghost use Rattle.sugar_path.specs.LentParts.{IsRestBehind};
+ghost use Rattle.sugar_path.specs.Borrowed.{without_last_slashes, IsInOrder, IsWayBorrowed};
+ghost use Rattle.sugar_path.specs.BorrowedParts.{IsRestBehind};
 
 use crate::normal::is_place;
 use crate::prefix::common_prefix_len;
 use crate::reading::is_absolute;
 
 /// The relative path from a base to a target, if it stands at the end of the target.
-pub(crate) fn lent_way<'a>(base: &[u8], target: &'a [u8]) -> Option<&'a [u8]>
-    ensures lent { IsSome result ↔ IsWayLent base.now target.now }
+pub(crate) fn borrowed_way<'a>(base: &[u8], target: &'a [u8]) -> Option<&'a [u8]>
+    ensures without_memory { IsSome result ↔ IsWayBorrowed base.now target.now }
     ensures way { IfSome result (λ w. (cwd : List ℕ) →
         w.now ≡ relative_from cwd base.now target.now) }
 {

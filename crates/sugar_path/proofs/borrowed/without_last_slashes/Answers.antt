@@ -1,9 +1,9 @@
 use Rattle.std.proofs.Common.{[], ◌∷◌, ap, sym, ◌∙◌}
 use Rattle.std.proofs.lemmas.Bool.Decides.{Decides-eqb}
 use Rattle.std.proofs.lemmas.Slice.Eq.{strip_suffix_is}
-use Rattle.sugar_path.specs.Lent.{without_last_slashes}
-use Rattle.sugar_path.proofs.LentWays.{bare-slash, bare-done}
-use Rattle.sugar_path.proofs.lent.without_last_slashes.Goals as goal
+use Rattle.sugar_path.specs.Borrowed.{without_last_slashes}
+use Rattle.sugar_path.proofs.BorrowedWays.{bare-slash, bare-done}
+use Rattle.sugar_path.proofs.borrowed.without_last_slashes.Goals as goal
 
 pub loop-shorter-preserved : goal.loop-shorter-preserved
 loop-shorter-preserved c =

@@ -1,6 +1,6 @@
 use Rattle.std.proofs.Common.{◌≡◌, length}
-use Rattle.sugar_path.specs.Lent.{without_last_slashes}
-use Rattle.sugar_path.proofs.lent.without_last_slashes.Given as goal
+use Rattle.sugar_path.specs.Borrowed.{without_last_slashes}
+use Rattle.sugar_path.proofs.borrowed.without_last_slashes.Given as goal
 
 -- nothing but separators was dropped
 abbrev pub invariant-loop-shorter : goal.invariant-loop-shorter

@@ -1,5 +1,5 @@
 use Rattle.sugar_path.proofs.Words.{after-strip_prefix}
-use Rattle.lock_checks.proofs.reference.after.Goals as goal
+use Rattle.sugar_path.proofs.front.after.Goals as goal
 
 pub returns : goal.returns
 returns c = after-strip_prefix c.args.word.now c.args.text.now c.strip_prefix.result c.strip_prefix.ensures.cases
