@@ -14,12 +14,12 @@ use indexmap::IndexMap;
 use std::alloc::{AllocError, Global};
 use std::marker::Model;
 use sugar_path::{Bytes, Text};
-use swc_loader::{Readings, make_room};
+use swc_loader::{ContentKey, Readings, make_room};
 
 // The packages of contents, or none for a content that is refused. A content that is one too many takes the place of all.
 #[derive(Drop)]
 pub(crate) struct LoadedPackages {
-    kept: IndexMap<Bytes, Option<ReadPackage>>,
+    kept: IndexMap<ContentKey, Option<ReadPackage>>,
 }
 
 impl Model for LoadedPackages {
@@ -49,13 +49,16 @@ impl LoadedPackages {
     ) -> Result<Option<&ReadPackage>, AllocError>
         ensures { IfOk result (λ found. IsReadTo content (option_map (λ p. p.now) found)) }
     {
-        let place = place_of(alloc, &mut self.kept, values, content)?;
+        let place = place_of(alloc, &mut self.kept, values, ContentKey::of(content))?;
         Ok(package_at(&self.kept, place))
     }
 }
 
 // The package that stands at a place.
-fn package_at(kept: &IndexMap<Bytes, Option<ReadPackage>>, place: usize) -> Option<&ReadPackage>
+fn package_at(
+    kept: &IndexMap<ContentKey, Option<ReadPackage>>,
+    place: usize,
+) -> Option<&ReadPackage>
     ensures { option_map (λ p. p.now) result
         ≡ option_and_then (λ o. o) (slice_get (map (λ e. e.1) kept.now.entries) place) }
 {
@@ -68,20 +71,20 @@ fn package_at(kept: &IndexMap<Bytes, Option<ReadPackage>>, place: usize) -> Opti
 // The place of the package that a content is. A new content is loaded, and its package kept at the end.
 fn place_of(
     alloc: Global,
-    kept: &mut IndexMap<Bytes, Option<ReadPackage>>,
+    kept: &mut IndexMap<ContentKey, Option<ReadPackage>>,
     values: &mut Readings,
-    content: Bytes,
+    key: ContentKey,
 ) -> Result<usize, AllocError>
     requires { ArePackages kept.old.entries }
     ensures kept { ArePackages kept.new.entries }
-    ensures place { IfOk result (λ place. IsPackageAt kept.new.entries place content) }
+    ensures place { IfOk result (λ place. IsPackageAt kept.new.entries place key) }
 {
-    if let Some(place) = kept.get_index_of(&content) {
+    if let Some(place) = kept.get_index_of(&key) {
         return Ok(place);
     }
-    let package = package_in(alloc, values, &content)?;
+    let package = package_in(alloc, values, key.content())?;
     make_room(kept);
-    let (place, _) = kept.insert_full(content, package)?;
+    let (place, _) = kept.insert_full(key, package)?;
     Ok(place)
 }
 

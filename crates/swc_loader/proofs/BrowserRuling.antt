@@ -1,9 +1,9 @@
 -- Steps of the reading of rules for browsers, one folder, entry or rule at a time.
-use Rattle.std.proofs.Common.{◌≡◌, ◌<◌, ◌≤◌, ℕ, ◌+◌, Bool, true, false, not, cond, if◌then◌else◌, List, [], ◌∷◌, ◌++◌, map, drop, get_or, length, Option, Some, None, option_map, unwrap_or, Result, String, Global, string_bytes, refl, sym, ap, ◌∙◌, subst, append_assoc, append-nil}
+use Rattle.std.proofs.Common.{◌≡◌, ◌<◌, ℕ, ◌+◌, Bool, true, false, not, cond, if◌then◌else◌, List, [], ◌∷◌, ◌++◌, map, drop, get_or, length, Option, Some, None, option_map, unwrap_or, Result, String, Global, string_bytes, refl, sym, ap, ◌∙◌, subst, append_assoc, append-nil}
 use Rattle.std.specs.Prelude.{◌||◌, option_and_then}
 use Rattle.std.specs.List.{list_any, last_or}
 use Rattle.std.specs.Option.{option_map_or}
-use Rattle.std.proofs.lemmas.List.{drop_more, drop_all}
+use Rattle.std.proofs.lemmas.List.{drop_more}
 use Rattle.serde_json.specs.View.{view, members_view}
 use Rattle.serde_json.specs.declared.value.Value.{Value}
 use Rattle.serde_json.specs.Data.{Data, null, boolean, number, string, array, object, Members, no_members, member}
@@ -184,10 +184,6 @@ abbrev pub said_before : Option Path → ModuleRule → ModuleRule
 said_before None later = later
 said_before (Some f) later = or_later (Some f) later
 
-said_before-ignored : (last : Option Path) → said_before last Ignored ≡ Ignored
-said_before-ignored None = refl
-said_before-ignored (Some f) = refl
-
 said_before-named : (last : Option Path) (f : Path) (later : ModuleRule) → said_before last (or_later (Some f) later) ≡ said_before (Some f) later
 said_before-named None f later = refl
 said_before-named (Some g) f NoRule = refl
@@ -210,15 +206,3 @@ ruled-named last rules i rule about f lt is same target h =
     h
     ∙ ap (said_before last) (ruled-at rules i rule about lt is ∙ ap (λ b. if b then or_later rule.target rest else rest) same ∙ ap (λ t. or_later t rest) target)
     ∙ said_before-named last f rest
-
--- a rule by which its source is ignored decides
-pub ruled-ignored : (last : Option Path) (rules : List Rule) (i : ℕ) (rule : Rule) (about : Source) → i < length rules → rule ≡ get_or rules i rule → is_source rule.source about ≡ true → rule.target ≡ None → ruled rules about ≡ said_before last (ruled (drop i rules) about) → ruled rules about ≡ Ignored
-ruled-ignored last rules i rule about lt is same target h =
-    let rest : ModuleRule = ruled (drop (i + 1) rules) about in
-    h
-    ∙ ap (said_before last) (ruled-at rules i rule about lt is ∙ ap (λ b. if b then or_later rule.target rest else rest) same ∙ ap (λ t. or_later t rest) target)
-    ∙ said_before-ignored last
-
--- at the end the last file that was named holds
-pub ruled-end : (last : Option Path) (rules : List Rule) (i : ℕ) (about : Source) → length rules ≤ i → ruled rules about ≡ said_before last (ruled (drop i rules) about) → ruled rules about ≡ said_before last NoRule
-ruled-end last rules i about le h = h ∙ ap (λ rs. said_before last (ruled rs about)) (drop_all i rules le)

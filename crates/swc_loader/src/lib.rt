@@ -5,6 +5,7 @@
 mod before;
 mod browser_rules;
 mod candidates;
+mod content_key;
 mod conventions;
 mod entry;
 mod importer;
@@ -19,10 +20,12 @@ mod shape;
 mod specifier;
 mod spelling;
 mod target;
+mod ts_version;
 mod walk;
 
 pub use before::Before;
 pub use browser_rules::{ModuleRule, Rule, Source};
+pub use content_key::ContentKey;
 pub use conventions::Conventions;
 pub use entry::{PackageEntry, entry_of};
 pub use importer::Importer;
@@ -36,3 +39,4 @@ pub use shape::is_closed;
 pub use specifier::is_bare;
 pub use target::TargetEnv;
 pub use tree_core::{NODE_BUILTINS, ResolveError};
+pub use ts_version::TsVersion;

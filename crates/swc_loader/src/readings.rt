@@ -4,6 +4,7 @@ ghost use Rattle.serde_json.specs.View.{view};
 ghost use Rattle.json_reading.specs.Bytes.{json_of};
 ghost use Rattle.swc_loader.specs.Readings.{AreKeptOf, AreReadings, IsReadAt};
 
+use crate::content_key::ContentKey;
 use indexmap::IndexMap;
 use json_reading::{FromJsonError, read_json};
 use serde_json::Value;
@@ -19,7 +20,7 @@ const MOST: usize = 128;
 /// all of them.
 #[derive(Drop)]
 pub struct Readings {
-    kept: IndexMap<Bytes, Option<Value>>,
+    kept: IndexMap<ContentKey, Option<Value>>,
 }
 
 impl Model for Readings {
@@ -45,7 +46,8 @@ impl Readings {
     pub fn value_of(&mut self, alloc: Global, content: Bytes) -> Result<Option<&Value>, AllocError>
         ensures { IfOk result (λ found. option_map (λ v. view v.now) found ≡ json_of content) }
     {
-        let place = place_of(alloc, &mut self.kept, content)?;
+        let key = ContentKey::of(content);
+        let place = place_of(alloc, &mut self.kept, key)?;
         match self.kept.get_index(place) {
             Some((_, Some(value))) => Ok(Some(value)),
             _ => Ok(None),
@@ -56,24 +58,24 @@ impl Readings {
 // The place of what a content is parsed to. A new content is parsed, and kept at the end.
 fn place_of(
     alloc: Global,
-    kept: &mut IndexMap<Bytes, Option<Value>>,
-    content: Bytes,
+    kept: &mut IndexMap<ContentKey, Option<Value>>,
+    key: ContentKey,
 ) -> Result<usize, AllocError>
     requires { AreReadings kept.old.entries }
     ensures kept { AreReadings kept.new.entries }
-    ensures place { IfOk result (λ place. IsReadAt kept.new.entries place content) }
+    ensures place { IfOk result (λ place. IsReadAt kept.new.entries place key) }
 {
-    if let Some(place) = kept.get_index_of(&content) {
+    if let Some(place) = kept.get_index_of(&key) {
         return Ok(place);
     }
-    let value = parsed(alloc, content.as_slice())?;
+    let value = parsed(alloc, key.content().as_slice())?;
     make_room(kept);
-    let (place, _) = kept.insert_full(content, value)?;
+    let (place, _) = kept.insert_full(key, value)?;
     Ok(place)
 }
 
 /// Makes room for one more content: where no more are to be kept, all go. What stays is what was kept.
-pub fn make_room<V: Drop>(kept: &mut IndexMap<Bytes, V>)
+pub fn make_room<V: Drop>(kept: &mut IndexMap<ContentKey, V>)
     ensures { AreKeptOf kept.old.entries kept.new.entries }
 {
     if kept.len() >= MOST {
