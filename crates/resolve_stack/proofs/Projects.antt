@@ -11,7 +11,7 @@ use Rattle.resolver_core.specs.declared.pattern.TsError.{TsError}
 use Rattle.resolver_core.specs.declared.pattern.TsError.TheVariants as ts_error
 use Rattle.resolver_core.specs.declared.pattern.Pattern.{Pattern}
 use Rattle.resolver_core.specs.Mapping.{Mapping}
-use Rattle.resolver_core.specs.Pattern.{IsReadAs, sorted_patterns}
+use Rattle.resolver_core.specs.Pattern.{IsReadAs, patterns_of}
 use Rattle.swc_loader.specs.Settings.{NodeSettings, settings_of}
 use Rattle.resolve_stack.specs.declared.project.TsSettings.{TsSettings}
 use Rattle.resolve_stack.specs.declared.project.ProjectError.{ProjectError}
@@ -50,20 +50,20 @@ mapping_unclean e ts text same is =
     let P : List ℕ → Type 0 = λ t. IsCauseOf e (clean_setting (codes "base_url") t) in
     cause_first e (clean_setting (codes "base_url") ts.base_url) _ (subst P same is)
 
-pub mapping_unread : (e : TsError) (ts : TsSettings) (text : List ℕ) (p : Path) → text ≡ ts.base_url → clean_setting (codes "base_url") text ≡ Ok p → IsReadAs {A = List Pattern} (Err e) (sorted_patterns ts.paths) → IsCauseOf (cause_of e) (mapping_of ts)
+pub mapping_unread : (e : TsError) (ts : TsSettings) (text : List ℕ) (p : Path) → text ≡ ts.base_url → clean_setting (codes "base_url") text ≡ Ok p → IsReadAs {A = List Pattern} (Err e) (patterns_of ts.paths) → IsCauseOf (cause_of e) (mapping_of ts)
 unfolding mapping_of
 mapping_unread e ts text p same clean is =
     cause_then (cause_of e) (clean_setting (codes "base_url") ts.base_url) p _ (ap (clean_setting (codes "base_url")) (sym same) ∙ clean)
-    (cause_first (cause_of e) (widened cause_of (sorted_patterns ts.paths)) _ (cause_of_patterns e (sorted_patterns ts.paths) is))
+    (cause_first (cause_of e) (widened cause_of (patterns_of ts.paths)) _ (cause_of_patterns e (patterns_of ts.paths) is))
 
 -- the mapping that settings make
-pub mapping_made : (ts : TsSettings) (text : List ℕ) (p : Path) (m : Mapping) → text ≡ ts.base_url → clean_setting (codes "base_url") text ≡ Ok p → sorted_patterns ts.paths ≡ Ok m.patterns → m.base_url ≡ ts.base_url → mapping_of ts ≡ Ok m
+pub mapping_made : (ts : TsSettings) (text : List ℕ) (p : Path) (m : Mapping) → text ≡ ts.base_url → clean_setting (codes "base_url") text ≡ Ok p → patterns_of ts.paths ≡ Ok m.patterns → m.base_url ≡ ts.base_url → m.version ≡ ts.version → mapping_of ts ≡ Ok m
 unfolding mapping_of
-mapping_made ts text p m same clean sorted base =
-    let with : List ℕ → List Pattern → Result Mapping ProjectError = λ url patterns. Ok (record { base_url = url; patterns = patterns }) in
-    ap (λ (r : Result Path ProjectError). r >>= λ folder. widened cause_of (sorted_patterns ts.paths) >>= with ts.base_url) (ap (clean_setting (codes "base_url")) (sym same) ∙ clean)
-    ∙ ap (λ (r : Result (List Pattern) TsError). widened cause_of r >>= with ts.base_url) sorted
-    ∙ ap (λ url. with url m.patterns) (sym base)
+mapping_made ts text p m same clean read base version =
+    let with : List ℕ → List Pattern → Result Mapping ProjectError = λ url patterns. Ok (record { base_url = url; version = ts.version; patterns = patterns }) in
+    ap (λ (r : Result Path ProjectError). r >>= λ folder. widened cause_of (patterns_of ts.paths) >>= with ts.base_url) (ap (clean_setting (codes "base_url")) (sym same) ∙ clean)
+    ∙ ap (λ (r : Result (List Pattern) TsError). widened cause_of r >>= with ts.base_url) read
+    ∙ (λ i. Ok (record { base_url = sym base i; version = sym version i; patterns = m.patterns }))
 
 pub some_mapping : (ts : TsSettings) (m : Mapping) → mapping_of ts ≡ Ok m → mapping_given (Some ts) ≡ Ok (Some m)
 some_mapping ts m made = ap (λ (r : Result Mapping ProjectError). r >>= λ mapping. Ok (Some mapping)) made

@@ -35,7 +35,7 @@ use Rattle.swc_loader.specs.NodeOnTree.{ruled_specifier_on, before_on, search_on
 use Rattle.resolver_core.specs.declared.refusal.TsRefusal.{TsRefusal}
 use Rattle.resolver_core.specs.declared.refusal.TsRefusal.TheVariants.{Inner}
 use Rattle.resolver_core.specs.Mapping.{Mapping, mapped}
-use Rattle.resolver_core.specs.MappingOnTree.{tells_on, mapped_on, tries_in, IsFirstAnswer}
+use Rattle.resolver_core.specs.MappingOnTree.{tells_on, mapped_on, tries_in, IsFirstAnswer, IsUncheckedAnswer}
 use Rattle.resolver_core.proofs.FirstAnswers.{first_answer_decides}
 use Rattle.resolver_core.proofs.MappingLaws.{mapping_on_tree}
 use Rattle.yarn_lock_parser.specs.Lock.{Lock}
@@ -363,8 +363,8 @@ found_behind t project (Some m) request =
     let P : Result Resolution (TsRefusal JoinRefusal) → Type 0 = IsFoundResult t project (Some m) request in
     subst P (sym (ap (λ tells. tells.result) ((mapping_on_tree JoinRefusal).tells t (join_order project) m request.importer request.specifier))) (by_result (mapped_on (tells_on t (join_order project)) (mapped m request.importer request.specifier)).result refl)
   where
-    by_first : (r : Resolution) → (r.found ≡ None) ⊎ IsFirstAnswer (tells_on t (join_order project)) (tries_in (mapped m request.importer request.specifier)) r → IsFoundBehind t project (Some m) request r
-    by_first r (inl none) = inl none
+    by_first : (r : Resolution) → IsUncheckedAnswer (tells_on t (join_order project)) (mapped m request.importer request.specifier) r ⊎ IsFirstAnswer (tells_on t (join_order project)) (tries_in (mapped m request.importer request.specifier)) r → IsFoundBehind t project (Some m) request r
+    by_first r (inl unchecked) = inl unchecked.no_file
     by_first r (inr first) = inr (found_by_try t project m request r first)
 
     by_result : (o : Result Resolution (TsRefusal JoinRefusal)) → (mapped_on (tells_on t (join_order project)) (mapped m request.importer request.specifier)).result ≡ o → IsFoundResult t project (Some m) request o

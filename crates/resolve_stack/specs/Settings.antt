@@ -13,7 +13,7 @@ use Rattle.yarn_lock_parser.specs.Lock.{Lock, Refusal, lock_of}
 use Rattle.resolver_core.specs.declared.pattern.TsError.{TsError}
 use Rattle.resolver_core.specs.declared.pattern.TsError.TheVariants as ts_error
 use Rattle.resolver_core.specs.Mapping.{Mapping}
-use Rattle.resolver_core.specs.Pattern.{sorted_patterns}
+use Rattle.resolver_core.specs.Pattern.{patterns_of}
 use Rattle.resolve_stack.specs.declared.project.Settings.{Settings}
 use Rattle.resolve_stack.specs.declared.project.TsSettings.{TsSettings}
 use Rattle.resolve_stack.specs.declared.project.ProjectError.{ProjectError}
@@ -64,12 +64,12 @@ cause_of (ts_error.TwoWildcards at) = TwoWildcards at
 cause_of (ts_error.ExactNeedsOne at) = ExactNeedsOne at
 cause_of ts_error.NoMemory = NoMemory
 
--- the mapping of a base folder and patterns: the base folder is looked at first
+-- the mapping of a base folder and patterns under a version: the base folder is looked at first
 unfoldable pub mapping_of : TsSettings → Result Mapping ProjectError
 mapping_of ts = do
   base ← clean_setting (codes "base_url") ts.base_url
-  patterns ← widened cause_of (sorted_patterns ts.paths)
-  Ok (record { base_url = ts.base_url; patterns = patterns })
+  patterns ← widened cause_of (patterns_of ts.paths)
+  Ok (record { base_url = ts.base_url; version = ts.version; patterns = patterns })
 
 abbrev pub mapping_given : Option TsSettings → Result (Option Mapping) ProjectError
 mapping_given None = Ok None

@@ -95,8 +95,8 @@ pub(crate) fn import_by<T: Tree>(
 {
     let mut recorder = Recorder::new(alloc, tree);
     let decided = decide_with(alloc, &mut recorder, project, known, kept, request);
-    let (trail, lent) = recorder.into_parts();
-    let _end = lent;
+    let (trail, tree) = recorder.into_parts();
+    let _end = tree;
     Ok(Outcome {
         verdict: decided?,
         trail,

@@ -25,5 +25,5 @@ pub use replay_core::ReplayError;
 pub use replaying::replay;
 pub use resolver::Resolver;
 pub use resolver_core::{Resolve, TsRefusal};
-pub use swc_loader::{FileName, Found, Resolution, TargetEnv, Via};
+pub use swc_loader::{FileName, Found, Resolution, TargetEnv, TsVersion, Via};
 pub use verdict::{JoinRefusal, Outcome, Refusal, Verdict};

@@ -10,7 +10,7 @@ use resolver_core::{Mapping, TsError};
 use std::alloc::{AllocError, Global};
 use std::marker::Model;
 use sugar_path::{CleanPath, List, Text, is_clean};
-use swc_loader::{NodeModulesResolver, TargetEnv};
+use swc_loader::{NodeModulesResolver, TargetEnv, TsVersion};
 use thiserror::Error;
 use yarn_lock_parser::{LockCause, YarnLockError, parse_str};
 
@@ -43,6 +43,8 @@ pub struct TsSettings {
     pub base_url: Text,
     /// Patterns in their order, each with its targets.
     pub paths: List<(Text, List<Text>)>,
+    /// How patterns with text behind their `*` are read.
+    pub version: TsVersion,
 }
 
 /// Why settings make no project, in the order in which the causes count.
@@ -190,9 +192,13 @@ fn mapping_of(alloc: Global, ts: TsSettings) -> Result<Mapping, ProjectError>
     ensures ok { IfOk result (λ m. mapping_of ts ≡ Ok m) }
     ensures fault { IfErr result (λ e. IsCauseOf e (mapping_of ts)) }
 {
-    let TsSettings { base_url, paths } = ts;
+    let TsSettings {
+        base_url,
+        paths,
+        version,
+    } = ts;
     check_setting(alloc, "base_url", base_url.as_str())?;
-    Ok(Mapping::new(alloc, base_url, paths)?)
+    Ok(Mapping::new(alloc, base_url, paths, version)?)
 }
 
 // That a setting is a clean absolute path, or the fault that it isn't.

@@ -1,7 +1,8 @@
 // Projects, the files of one, and what its request comes to.
 use indexmap::IndexMap;
 use resolve_stack::{
-    FileName, Outcome, Project, ProjectError, Resolution, Settings, TargetEnv, TsSettings, Verdict,
+    FileName, Outcome, Project, ProjectError, Resolution, Settings, TargetEnv, TsSettings,
+    TsVersion, Verdict,
 };
 use std::alloc::{AllocError, Global};
 use std::test::Fail;
@@ -40,6 +41,7 @@ pub fn ts_of(alloc: Global, base_url: &str, paths: &str) -> Result<TsSettings, A
     Ok(TsSettings {
         base_url: Text::of(alloc, base_url)?,
         paths: paths_of(alloc, paths)?,
+        version: TsVersion::V1,
     })
 }
 

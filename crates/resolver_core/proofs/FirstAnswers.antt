@@ -1,17 +1,18 @@
 -- What a mapping answers is made of its first inner answer.
 use Rattle.std.proofs.Common.{◌≡◌, ◌⊎◌, inl, inr, ℕ, Bool, true, false, cond, List, [], ◌∷◌, ◌++◌, map, Option, Some, None, Result, Ok, Err, refl, sym, ap, ◌∙◌, append_assoc}
-use Rattle.std.specs.Prelude.{◌&&◌, ◌==◌, not, get_or, length, drop}
+use Rattle.std.specs.Prelude.{◌&&◌, ◌==◌, not, get_or}
 use Rattle.std.specs.List.{AllByRecursion}
 use Rattle.sugar_path.specs.Path.{is_absolute, join}
 use Rattle.swc_loader.specs.declared.resolution.FileName.{FileName}
 use Rattle.swc_loader.specs.declared.resolution.FileName.TheVariants.{Real}
 use Rattle.swc_loader.specs.declared.resolution.Resolution.{Resolution}
 use Rattle.resolver_core.specs.declared.pattern.Pattern.{Pattern}
-use Rattle.resolver_core.specs.declared.pattern.Pattern.TheVariants.{Exact, Wildcard}
+use Rattle.resolver_core.specs.declared.pattern.Pattern.TheVariants.{Exact, Starred}
 use Rattle.resolver_core.specs.declared.refusal.TsRefusal.{TsRefusal}
-use Rattle.resolver_core.specs.Pattern.{deciding}
-use Rattle.resolver_core.specs.Mapping.{Mapping, Try, Tries, Last, First, Mapped, Passed, Unchecked, OrUnchecked, OrFault, is_in_modules, masked, plain, with_slug, unchecked, here, is_passed, slug_of, with_rest, tries_of, by_targets, by_pattern, mapped, passed, or_unchecked, or_fault}
-use Rattle.resolver_core.specs.MappingOnTree.{Tells, answered_by, tried_on, or_next_on, first_on, with_refusal, or_more_on, targets_on, mapped_on, Fails, IsFirstAnswer, listed, all_listed, tries_in, FirstAnswerDecides}
+use Rattle.resolver_core.specs.Pattern.{rest_of, deciding}
+use Rattle.resolver_core.specs.Mapping.{Mapping, Try, Tries, Last, First, Mapped, Passed, Unchecked, OrUnchecked, OrFault, is_in_modules, masked, plain, with_slug, unchecked, here, is_passed, slug_of, with_rest, tries_of, by_targets, by_pattern, mapped, with_refusal, passed, or_unchecked, or_fault}
+use Rattle.resolver_core.specs.MappingOnTree.{Tells, answered_by, tried_on, or_next_on, first_on, or_more_on, targets_on, mapped_on, Fails, IsFirstAnswer, listed, all_listed, tries_in, IsUncheckedAnswer, FirstAnswerDecides}
+use Rattle.resolver_core.proofs.Longest.{all-append}
 
 -- a try whose answer tells the same file
 abbrev SameFile : Try → Type 0
@@ -38,10 +39,6 @@ with_later inner xs more r a = record {
   made_of = a.made_of;
   same_file = a.same_file;
 }
-
-all-append : {A : Type 0} (P : A → Type 0) (xs ys : List A) → AllByRecursion P xs → AllByRecursion P ys → AllByRecursion P (xs ++ ys)
-all-append P [] ys a b = b
-all-append P (x ∷ xs) ys a b = (a.0, all-append P xs ys a.1 b)
 
 -- behind tries that fail
 with_earlier : {X : Type 0} (inner : Tells X) (xs more : List Try) (r : Resolution) → AllByRecursion (Fails inner) xs → IsFirstAnswer inner more r → IsFirstAnswer inner (xs ++ more) r
@@ -136,14 +133,14 @@ same-by_pattern m base s (Some (Exact text target)) = by_test (is_absolute targe
     by_test : (b : Bool) → AllByRecursion SameFile (tries_in (cond b (Unchecked (unchecked target (slug_of target))) (OrUnchecked (Last (record { base = Real m.base_url; specifier = here target; answer = with_slug (slug_of target) })) (unchecked (join m.base_url target) (slug_of target)))))
     by_test true = tt
     by_test false = ((λ r. refl), tt)
-same-by_pattern m base s (Some (Wildcard text prefix targets)) = same-by_targets (Real m.base_url) base s text prefix (map (with_rest (drop (length prefix) s)) targets)
+same-by_pattern m base s (Some (Starred w)) = same-by_targets (Real m.base_url) base s w.text w.prefix (map (with_rest (rest_of m.version s w)) w.targets)
 
 same-mapped : (m : Mapping) (base : FileName) (s : List ℕ) → AllByRecursion SameFile (tries_in (mapped m base s))
 same-mapped m base s = by_test (is_passed base s)
   where
-    by_test : (b : Bool) → AllByRecursion SameFile (tries_in (cond b (Passed (Last (plain base s))) (by_pattern m base s (deciding m.patterns s))))
+    by_test : (b : Bool) → AllByRecursion SameFile (tries_in (cond b (Passed (Last (plain base s))) (by_pattern m base s (deciding m.version m.patterns s))))
     by_test true = ((λ r. refl), tt)
-    by_test false = same-by_pattern m base s (deciding m.patterns s)
+    by_test false = same-by_pattern m base s (deciding m.version m.patterns s)
 
 -- an answer that nothing checks tells no file
 abbrev NoFile : Mapped → Type 0
@@ -169,27 +166,31 @@ no-file-pattern m base s (Some (Exact text target)) = by_test (is_absolute targe
     by_test : (b : Bool) → NoFile (cond b (Unchecked (unchecked target (slug_of target))) (OrUnchecked (Last (record { base = Real m.base_url; specifier = here target; answer = with_slug (slug_of target) })) (unchecked (join m.base_url target) (slug_of target))))
     by_test true = refl
     by_test false = refl
-no-file-pattern m base s (Some (Wildcard text prefix targets)) = no-file-targets (Real m.base_url) base s text prefix (map (with_rest (drop (length prefix) s)) targets)
+no-file-pattern m base s (Some (Starred w)) = no-file-targets (Real m.base_url) base s w.text w.prefix (map (with_rest (rest_of m.version s w)) w.targets)
 
 no-file-mapped : (m : Mapping) (base : FileName) (s : List ℕ) → NoFile (mapped m base s)
 no-file-mapped m base s = by_test (is_passed base s)
   where
-    by_test : (b : Bool) → NoFile (cond b (Passed (Last (plain base s))) (by_pattern m base s (deciding m.patterns s)))
+    by_test : (b : Bool) → NoFile (cond b (Passed (Last (plain base s))) (by_pattern m base s (deciding m.version m.patterns s)))
     by_test true = tt
-    by_test false = no-file-pattern m base s (deciding m.patterns s)
+    by_test false = no-file-pattern m base s (deciding m.version m.patterns s)
 
-decides : {X : Type 0} (inner : Tells X) (mp : Mapped) (r : Resolution) → AllByRecursion SameFile (tries_in mp) → NoFile mp → (mapped_on inner mp).result ≡ Ok r → (r.found ≡ None) ⊎ IsFirstAnswer inner (tries_in mp) r
+decides : {X : Type 0} (inner : Tells X) (mp : Mapped) (r : Resolution) → AllByRecursion SameFile (tries_in mp) → NoFile mp → (mapped_on inner mp).result ≡ Ok r → IsUncheckedAnswer inner mp r ⊎ IsFirstAnswer inner (tries_in mp) r
 decides {X = X} inner (Passed ts) r same none h = inr (first-answer inner ts r same (by_result (first_on inner ts).result h))
   where
     by_result : (o : Result Resolution X) → passed o ≡ Ok r → o ≡ Ok r
     by_result (Ok a) h = let e : a ≡ r = cc in ap Ok e
     by_result (Err x) h = cc
-decides inner (Unchecked u) r same none h = let e : u ≡ r = cc in inl (ap (λ (p : Resolution). p.found) (sym e) ∙ none)
+decides inner (Unchecked u) r same none h =
+    let e : u ≡ r = cc in
+    inl (record { is = ap Some e; failed = tt; no_file = ap (λ (p : Resolution). p.found) (sym e) ∙ none })
 decides {X = X} inner (OrUnchecked ts u) r same none h = by_result (first_on inner ts).result refl h
   where
-    by_result : (o : Result Resolution X) → (first_on inner ts).result ≡ o → or_unchecked {Y = TsRefusal X} u o ≡ Ok r → (r.found ≡ None) ⊎ IsFirstAnswer inner (listed ts) r
+    by_result : (o : Result Resolution X) → (first_on inner ts).result ≡ o → or_unchecked {Y = TsRefusal X} u o ≡ Ok r → IsUncheckedAnswer inner (OrUnchecked ts u) r ⊎ IsFirstAnswer inner (listed ts) r
     by_result (Ok a) is h = let e : a ≡ r = cc in inr (first-answer inner ts r same (is ∙ ap Ok e))
-    by_result (Err x) is h = let e : u ≡ r = cc in inl (ap (λ (p : Resolution). p.found) (sym e) ∙ none)
+    by_result (Err x) is h =
+        let e : u ≡ r = cc in
+        inl (record { is = ap Some e; failed = first-fails inner ts x is; no_file = ap (λ (p : Resolution). p.found) (sym e) ∙ none })
 decides {X = X} inner (OrFault text targets) r same none h = inr (targets-answer inner targets r same (by_result (targets_on inner targets).result h))
   where
     by_result : (o : Result Resolution (List X)) → or_fault text o ≡ Ok r → o ≡ Ok r

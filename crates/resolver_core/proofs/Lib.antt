@@ -1,8 +1,14 @@
 pub mod TextParts
+pub mod PlacesKept
+pub mod Longest
+pub mod Listings
+pub mod Fitting
+pub mod Keeping
 pub mod Wildcards
+pub mod Targets
 pub mod Patterns
 pub mod MappedOrders
 pub mod KeptAnswers
 pub mod MappingLaws
 pub mod FirstAnswers
-pub mod Sorts
+pub mod Versions

@@ -1,7 +1,5 @@
 -- Calls by the order of a mapping.
-use Rattle.std.proofs.Common.{◌≡◌, ◌++◌, ◌∷◌, [], ℕ, Bool, true, false, List, Some, Result, Ok, Err, cond, nat_eq, refl, sym, ap, ◌∙◌, inl, inr, ◌⊎◌, ◌≢◌, ◌==◌, ◌&&◌}
-use Rattle.std.specs.List.{starts_with, find}
-use Rattle.std.proofs.lemmas.Bool.Decides.{eqb_tells}
+use Rattle.std.proofs.Common.{◌≡◌, ℕ, List, Result, Ok, Err, refl, sym, ◌∙◌}
 use Rattle.tree_core.specs.declared.tree.ReadError.{ReadError}
 use Rattle.tree_core.specs.Plan.{Done, ◌>>=◌, on_ok}
 use Rattle.tree_core.specs.Asks.{Asking, Asks}
@@ -31,22 +29,3 @@ tried_ok inner base s f h = by_plan (tried-made inner base s f) (asks_then _ h (
 
 pub tried_err : {X : Type 0} {old new : Asking} {e : ReadError} (inner : Order X) (base : FileName) (s : List ℕ) (f : Resolution → Resolution) → Asks {A = Result Resolution X} old new (Err e) (tried inner (plain base s)) → Asks {A = Result Resolution X} old new (Err e) (tried inner (record { base = base; specifier = s; answer = f }))
 tried_err {e = e} inner base s f h = by_plan (tried-made inner base s f) (asks_fails _ (Err e) refl h)
-
--- what a text begins with, and what stands behind it
-pub begins : (p s : List ℕ) → starts_with nat_eq s p ≡ true → (t : List ℕ) × (s ≡ p ++ t)
-begins [] s h = (s, refl)
-begins (c ∷ p) [] h = cc
-begins (c ∷ p) (d ∷ s) h = by_test (eqb_tells c d) h (begins p s)
-  where
-    by_test : ((c == d) ≡ true) × (c ≡ d) ⊎ ((c == d) ≡ false) × (c ≢ d) → ((c == d) && starts_with nat_eq s p) ≡ true → (starts_with nat_eq s p ≡ true → (t : List ℕ) × (s ≡ p ++ t)) → (t : List ℕ) × (d ∷ s ≡ c ∷ p ++ t)
-    by_test (inl w) both later = let rest = later (rw w.0 at both) in (rest.0, rw w.1 (ap (λ t. d ∷ t) rest.1))
-    by_test (inr w) both later = let none = rw w.0 at both in cc
-
--- what is found passes
-pub find-passes : {X : Type 0} (p : X → Bool) (xs : List X) (x : X) → find p xs ≡ Some x → p x ≡ true
-find-passes p [] x h = cc
-find-passes {X = X} p (y ∷ ys) x h = by_test (p y) refl h (find-passes p ys x)
-  where
-    by_test : (b : Bool) → p y ≡ b → cond b (Some y) (find p ys) ≡ Some x → (find p ys ≡ Some x → p x ≡ true) → p x ≡ true
-    by_test true passes found later = let same : y ≡ x = cc in ap p (sym same) ∙ passes
-    by_test false fails found later = later found

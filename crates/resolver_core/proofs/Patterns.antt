@@ -1,32 +1,11 @@
--- Patterns in order, and their reading.
-use Rattle.std.proofs.Common.{◌≡◌, ◌+◌, ℕ, true, false, List, [], ◌∷◌, ◌++◌, Result, Ok, Err, IsErrAnd, refl, sym, ap, ◌∙◌, arith, append_assoc}
+-- The reading of patterns.
+use Rattle.std.proofs.Common.{◌≡◌, ◌+◌, ℕ, List, [], ◌∷◌, ◌++◌, Result, Ok, Err, IsErrAnd, refl, sym, ap, ◌∙◌, append_assoc}
 use Rattle.std.proofs.lemmas.List.{append-nil}
-use Rattle.std.proofs.lemmas.Bool.Decides.{nat_tests}
-use Rattle.std.specs.Cmp.{IsStrictWeakOrder}
 use Rattle.resolver_core.specs.declared.pattern.Pattern.{Pattern}
-use Rattle.resolver_core.specs.declared.pattern.Pattern.TheVariants.{Exact, Wildcard}
 use Rattle.sugar_path.specs.Results.{◌>>=◌}
 use Rattle.resolver_core.specs.declared.pattern.TsError.{TsError}
 use Rattle.resolver_core.specs.declared.pattern.TsError.TheVariants.{EmptyTargets, TwoWildcards, ExactNeedsOne, NoMemory}
-use Rattle.resolver_core.specs.Pattern.{Paths, IsReadAs, pattern_of, patterns_from, comes_before}
-
--- Exact patterns before wildcards, and of these the longer prefix first: a strict weak order.
-one_way : (p q : Pattern) → comes_before p q ≡ true → comes_before q p ≡ false
-one_way (Exact text target) (Exact other_text other) h = absurd (cc)
-one_way (Exact text target) (Wildcard other_text other others) h = refl
-one_way (Wildcard text prefix targets) (Exact other_text other) h = absurd (cc)
-one_way (Wildcard text prefix targets) (Wildcard other_text other others) h = grind (arith, nat_tests)
-
-chain : (p q r : Pattern) → comes_before p q ≡ false → comes_before q r ≡ false → comes_before p r ≡ false
-chain (Exact a b) (Exact c d) (Exact e f) h k = refl
-chain (Exact a b) (Exact c d) (Wildcard e f g) h k = absurd (cc)
-chain (Exact a b) (Wildcard c d e) r h k = absurd (cc)
-chain (Wildcard a b c) q (Exact d e) h k = refl
-chain (Wildcard a b c) (Exact d e) (Wildcard f g i) h k = absurd (cc)
-chain (Wildcard a b c) (Wildcard d e f) (Wildcard g i j) h k = grind (arith, nat_tests)
-
-pub comes_before-order : IsStrictWeakOrder comes_before
-comes_before-order = record { one_way = one_way; chain = chain }
+use Rattle.resolver_core.specs.Pattern.{Paths, IsReadAs, pattern_of, patterns_from}
 
 -- what is read so far, and then the rest
 abbrev pub after : List Pattern → Result (List Pattern) TsError → Result (List Pattern) TsError

@@ -1,5 +1,5 @@
 pub mod Resolving
-pub mod Sorting
+pub mod Lookups
 pub mod Pattern
 pub mod Mapping
 pub mod MappingView

@@ -1,25 +1,28 @@
 -- The mapping of requests by TypeScript's `paths` and `baseUrl`, over any inner order: which inner requests are made, and how each ends.
-use Rattle.std.specs.Prelude.{ℕ, ◌==◌, ◌&&◌, ◌||◌, Bool, false, not, if◌then◌else◌, nat_eq, bytes_eq, codes, get_or, length, drop, List, [], ◌∷◌, ◌++◌, map, Option, Some, None, Result, Ok, Err}
+use Rattle.std.specs.Prelude.{ℕ, ◌==◌, ◌&&◌, ◌||◌, Bool, false, not, if◌then◌else◌, nat_eq, bytes_eq, codes, get_or, List, [], ◌∷◌, ◌++◌, map, Option, Some, None, Result, Ok, Err}
 use Rattle.std.specs.List.{list_any, after_last, before_first, starts_with}
 use Rattle.sugar_path.specs.Path.{parts, is_absolute, join}
 use Rattle.tree_core.specs.Plan.{Plan, Done, ◌>>=◌, ◌>>=?◌}
 use Rattle.swc_loader.specs.declared.resolution.FileName.{FileName}
 use Rattle.swc_loader.specs.declared.resolution.FileName.TheVariants.{Real, Custom, Anon}
 use Rattle.swc_loader.specs.declared.resolution.Resolution.{Resolution}
+use Rattle.swc_loader.specs.declared.ts_version.TsVersion.{TsVersion}
 use Rattle.resolver_core.specs.declared.pattern.Pattern.{Pattern}
-use Rattle.resolver_core.specs.declared.pattern.Pattern.TheVariants.{Exact, Wildcard}
+use Rattle.resolver_core.specs.declared.pattern.Pattern.TheVariants.{Exact, Starred}
+use Rattle.resolver_core.specs.declared.pattern.Wildcard.{Wildcard}
 use Rattle.resolver_core.specs.declared.refusal.TsRefusal.{TsRefusal}
 use Rattle.resolver_core.specs.declared.refusal.TsRefusal.TheVariants.{Inner, TsFault}
 use Rattle.star_texts.specs.Star.{replaced}
-use Rattle.resolver_core.specs.Pattern.{deciding}
+use Rattle.resolver_core.specs.Pattern.{rest_of, deciding}
 
 -- an order of search: what a request comes to, from a base, by a specifier
 abbrev pub Order : Type 0 → Type 0
 Order X = FileName → List ℕ → Plan (Result Resolution X)
 
--- a mapping: its base folder, and its patterns in the order in which they are tested
+-- a mapping: its base folder, the version of its settings, and its patterns in the order given
 pub record Mapping : Type 0 where
   pub base_url : List ℕ
+  pub version : TsVersion
   pub patterns : List Pattern
 
 abbrev pub is_slash : ℕ → Bool
@@ -121,10 +124,10 @@ abbrev pub by_targets : FileName → FileName → List ℕ → List ℕ → List
 by_targets folder base s text (c ∷ prefix) (target ∷ []) = by_only_target folder base s target
 by_targets folder base s text prefix targets = OrFault text (map (tries_of folder base s) targets)
 
--- A wildcard: what of the specifier stands behind the prefix replaces each `*`.
-abbrev pub by_wildcard : FileName → FileName → List ℕ → List ℕ → List ℕ → List (List ℕ) → Mapped
-by_wildcard folder base s text prefix targets =
-    by_targets folder base s text prefix (map (with_rest (drop (length prefix) s)) targets)
+-- A wildcard: the specifier's rest replaces each `*`.
+abbrev pub by_wildcard : TsVersion → FileName → FileName → List ℕ → Wildcard → Mapped
+by_wildcard version folder base s w =
+    by_targets folder base s w.text w.prefix (map (with_rest (rest_of version s w)) w.targets)
 
 -- No pattern: behind the base folder first, unless the specifier begins with a dot.
 abbrev pub by_base_folder : List ℕ → FileName → List ℕ → Mapped
@@ -135,12 +138,12 @@ by_base_folder base_url base s =
 abbrev pub by_pattern : Mapping → FileName → List ℕ → Option Pattern → Mapped
 by_pattern m base s None = by_base_folder m.base_url base s
 by_pattern m base s (Some (Exact text target)) = by_exact m.base_url target
-by_pattern m base s (Some (Wildcard text prefix targets)) = by_wildcard (Real m.base_url) base s text prefix targets
+by_pattern m base s (Some (Starred w)) = by_wildcard m.version (Real m.base_url) base s w
 
 -- how a mapping maps a request
 abbrev pub mapped : Mapping → FileName → List ℕ → Mapped
 mapped m base s =
-    if is_passed base s then Passed (Last (plain base s)) else by_pattern m base s (deciding m.patterns s)
+    if is_passed base s then Passed (Last (plain base s)) else by_pattern m base s (deciding m.version m.patterns s)
 
 -- a try by the inner order: its success is masked
 unfoldable pub tried : {X : Type 0} → Order X → Try → Plan (Result Resolution X)
@@ -155,15 +158,19 @@ abbrev pub first_success : {X : Type 0} → Order X → Tries → Plan (Result R
 first_success inner (Last t) = tried inner t
 first_success inner (First t ts) = tried inner t >>= or_next (first_success inner ts)
 
-abbrev pub or_next_target : {X : Type 0} → List X → (List X → Plan (Result Resolution (List X))) → Result Resolution X → Plan (Result Resolution (List X))
-or_next_target refusals next (Ok r) = Done (Ok r)
-or_next_target refusals next (Err x) = next (refusals ++ x ∷ [])
+-- an answer, or this refusal in front of the others
+abbrev pub with_refusal : {X : Type 0} → X → Result Resolution (List X) → Result Resolution (List X)
+with_refusal x (Ok r) = Ok r
+with_refusal x (Err xs) = Err (x ∷ xs)
 
--- the first success of targets' tries, or, behind those of earlier targets, the refusal of each one's last try
-abbrev pub each_target : {X : Type 0} → Order X → List Tries → List X → Plan (Result Resolution (List X))
-each_target inner [] refusals = Done (Err refusals)
-each_target inner (ts ∷ rest) refusals =
-    first_success inner ts >>= or_next_target refusals (each_target inner rest)
+abbrev pub or_more : {X : Type 0} → Plan (Result Resolution (List X)) → Result Resolution X → Plan (Result Resolution (List X))
+or_more next (Ok r) = Done (Ok r)
+or_more next (Err x) = next >>= λ result. Done (with_refusal x result)
+
+-- the first success of targets' tries, or the refusal of each one's last try
+abbrev pub each_target : {X : Type 0} → Order X → List Tries → Plan (Result Resolution (List X))
+each_target inner [] = Done (Err [])
+each_target inner (ts ∷ rest) = first_success inner ts >>= or_more (each_target inner rest)
 
 abbrev pub passed : {X : Type 0} → Result Resolution X → Result Resolution (TsRefusal X)
 passed (Ok r) = Ok r
@@ -183,7 +190,7 @@ by_mapped inner (Passed ts) = first_success inner ts >>= λ result. Done (passed
 by_mapped inner (Unchecked r) = Done (Ok r)
 by_mapped inner (OrUnchecked ts r) = first_success inner ts >>= λ result. Done (or_unchecked r result)
 by_mapped inner (OrFault pattern targets) =
-    each_target inner targets [] >>= λ result. Done (or_fault pattern result)
+    each_target inner targets >>= λ result. Done (or_fault pattern result)
 
 -- the order of a mapping over an inner order
 abbrev pub mapping_order : {X : Type 0} → Order X → Mapping → Order (TsRefusal X)

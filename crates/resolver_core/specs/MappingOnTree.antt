@@ -1,12 +1,12 @@
 -- What a mapping tells of a tree, as a function of what the order behind it tells there: the laws by which a reader checks the plan.
-use Rattle.std.specs.Prelude.{◌≡◌, ◌⊎◌, ℕ, List, [], ◌∷◌, ◌++◌, None, Result, Ok, Err}
+use Rattle.std.specs.Prelude.{◌≡◌, ◌⊎◌, ℕ, List, [], ◌∷◌, ◌++◌, Option, Some, None, Result, Ok, Err}
 use Rattle.std.specs.List.{AllByRecursion}
 use Rattle.tree_core.specs.Tree.{Files}
 use Rattle.tree_core.specs.Told.{Told, told, unasked, made, ◌>>=◌}
 use Rattle.swc_loader.specs.declared.resolution.FileName.{FileName}
 use Rattle.swc_loader.specs.declared.resolution.Resolution.{Resolution}
 use Rattle.resolver_core.specs.declared.refusal.TsRefusal.{TsRefusal}
-use Rattle.resolver_core.specs.Mapping.{Order, Mapping, Try, Tries, Last, First, Mapped, Passed, Unchecked, OrUnchecked, OrFault, masked, mapped, mapping_order, passed, or_unchecked, or_fault}
+use Rattle.resolver_core.specs.Mapping.{Order, Mapping, Try, Tries, Last, First, Mapped, Passed, Unchecked, OrUnchecked, OrFault, masked, mapped, mapping_order, with_refusal, passed, or_unchecked, or_fault}
 
 -- what requests tell of a tree, by base and specifier
 abbrev pub Tells : Type 0 → Type 0
@@ -33,11 +33,6 @@ or_next_on next (Err x) = next
 abbrev pub first_on : {X : Type 0} → Tells X → Tries → Told (Result Resolution X)
 first_on inner (Last t) = tried_on inner t
 first_on inner (First t ts) = tried_on inner t >>= or_next_on (first_on inner ts)
-
--- an answer, or this refusal in front of the others
-abbrev pub with_refusal : {X : Type 0} → X → Result Resolution (List X) → Result Resolution (List X)
-with_refusal x (Ok r) = Ok r
-with_refusal x (Err xs) = Err (x ∷ xs)
 
 -- an answer ends the search; behind a refusal come the next targets, whose refusals follow it
 abbrev pub or_more_on : {X : Type 0} → Told (Result Resolution (List X)) → Result Resolution X → Told (Result Resolution (List X))
@@ -92,8 +87,21 @@ pub record IsFirstAnswer {X : Type 0} (inner : Tells X) (tries : List Try) (r : 
   pub made_of : r ≡ by.answer (masked by.base by.specifier answer)
   pub same_file : r.found ≡ answer.found
 
--- What a mapping answers tells no file, or is made of its first inner answer.
+-- the answer of a mapped request that nothing checks, where it has one
+abbrev pub unchecked_in : Mapped → Option Resolution
+unchecked_in (Passed ts) = None
+unchecked_in (Unchecked r) = Some r
+unchecked_in (OrUnchecked ts r) = Some r
+unchecked_in (OrFault pattern targets) = None
+
+-- An answer is the one that nothing checks: each try was refused, and it tells no file.
+pub record IsUncheckedAnswer {X : Type 0} (inner : Tells X) (m : Mapped) (r : Resolution) : Type 0 where
+  pub is : unchecked_in m ≡ Some r
+  pub failed : AllByRecursion (Fails inner) (tries_in m)
+  pub no_file : r.found ≡ None
+
+-- Each answer of a mapping is its unchecked one, or is made of its first inner answer, also where that tells no file.
 pub record FirstAnswerDecides (X : Type 0) : Type 0 where
   pub decides : (inner : Tells X) (m : Mapping) (base : FileName) (s : List ℕ) (r : Resolution) →
       (mapped_on inner (mapped m base s)).result ≡ Ok r →
-      (r.found ≡ None) ⊎ IsFirstAnswer inner (tries_in (mapped m base s)) r
+      IsUncheckedAnswer inner (mapped m base s) r ⊎ IsFirstAnswer inner (tries_in (mapped m base s)) r

@@ -1,11 +1,14 @@
--- The patterns of a mapping, as TypeScript's `paths` has them: which settings are accepted, in which order patterns are tested, and which one decides. The `do` here is over results.
-use Rattle.std.specs.Prelude.{◌≡◌, ℕ, ◌+◌, ◌==◌, Bool, true, false, nat_eq, nat_lt, bytes_eq, length, take, drop, List, [], ◌∷◌, Option, Some, None, option_map, Result, Ok, Err, position, find}
-use Rattle.std.specs.List.{starts_with}
+-- The patterns of a mapping, as TypeScript's `paths` has them: which settings are accepted, which patterns match a specifier, and which one decides. The `do` here is over results.
+use Rattle.std.specs.Prelude.{◌≡◌, ℕ, ◌+◌, Bool, false, nat_le, bytes_eq, length, List, [], ◌∷◌, ◌++◌, filter, Option, Some, None, Result, Ok, Err, find}
+use Rattle.std.specs.List.{list_all}
+use Rattle.std.specs.Option.{option_or}
 use Rattle.sugar_path.specs.Results.{◌>>=◌}
-use Rattle.star_texts.specs.Star.{around_star}
-use Rattle.resolver_core.specs.Sorting.{sorted_by}
+use Rattle.star_texts.specs.Star.{around_star, without_ends}
+use Rattle.swc_loader.specs.declared.ts_version.TsVersion.{TsVersion}
+use Rattle.swc_loader.specs.declared.ts_version.TsVersion.TheVariants.{V1, V2}
 use Rattle.resolver_core.specs.declared.pattern.Pattern.{Pattern}
-use Rattle.resolver_core.specs.declared.pattern.Pattern.TheVariants.{Exact, Wildcard}
+use Rattle.resolver_core.specs.declared.pattern.Pattern.TheVariants.{Exact, Starred}
+use Rattle.resolver_core.specs.declared.pattern.Wildcard.{Wildcard}
 use Rattle.resolver_core.specs.declared.pattern.TsError.{TsError}
 use Rattle.resolver_core.specs.declared.pattern.TsError.TheVariants.{EmptyTargets, TwoWildcards, ExactNeedsOne, NoMemory}
 
@@ -22,16 +25,16 @@ abbrev pub pattern_without_star : ℕ → List ℕ → List (List ℕ) → Resul
 pattern_without_star at text [] = Err (EmptyTargets at)
 pattern_without_star at text (target ∷ more) = exact at text target more
 
--- a wildcard holds no second `*`. What stands behind the first is ignored
-abbrev pub wildcard : ℕ → List ℕ → List ℕ → List (List ℕ) → Option (List ℕ × List ℕ) → Result Pattern TsError
-wildcard at text prefix targets None = Ok (Wildcard text prefix targets)
-wildcard at text prefix targets (Some parts) = Err (TwoWildcards at)
+-- a wildcard by its text, the parts around its first `*`, its targets, and what stands around another `*` behind it: it holds no second one
+abbrev pub wildcard : ℕ → List ℕ → List ℕ × List ℕ → List (List ℕ) → Option (List ℕ × List ℕ) → Result Pattern TsError
+wildcard at text parts targets None =
+    Ok (Starred (record { text = text; prefix = parts.0; suffix = parts.1; targets = targets }))
+wildcard at text parts targets (Some others) = Err (TwoWildcards at)
 
 -- a pattern that has targets, by what stands around its `*`
 abbrev pub by_star : ℕ → List ℕ → List ℕ → List (List ℕ) → Option (List ℕ × List ℕ) → Result Pattern TsError
 by_star at text target more None = exact at text target more
-by_star at text target more (Some parts) =
-    wildcard at text parts.0 (target ∷ more) (around_star parts.1)
+by_star at text target more (Some parts) = wildcard at text parts (target ∷ more) (around_star parts.1)
 
 -- the pattern at a place of the settings, or the first cause for which it is refused
 abbrev pub pattern_of : ℕ → List ℕ → List (List ℕ) → Result Pattern TsError
@@ -46,30 +49,49 @@ patterns_from at (p ∷ ps) = do
   rest ← patterns_from (at + 1) ps
   Ok (pattern ∷ rest)
 
--- Exact patterns are tested before wildcards, and these by the length of what stands before the `*`, the longest first.
-abbrev pub comes_before : Pattern → Pattern → Bool
-comes_before (Exact text target) (Exact other_text other) = false
-comes_before (Exact text target) (Wildcard other_text other others) = true
-comes_before (Wildcard text prefix targets) (Exact other_text other) = false
-comes_before (Wildcard text prefix targets) (Wildcard other_text other others) =
-    nat_lt (length other) (length prefix)
+-- the patterns of settings in the order given, or the first cause for which the settings are refused
+abbrev pub patterns_of : Paths → Result (List Pattern) TsError
+patterns_of paths = patterns_from 0 paths
 
--- patterns in the order in which they are tested
-abbrev pub in_order : List Pattern → List Pattern
-in_order ps = sorted_by comes_before ps
+-- what a specifier must end in for a wildcard: under version 1 what stands behind the `*` is ignored
+abbrev pub ending : TsVersion → Wildcard → List ℕ
+ending V1 w = []
+ending V2 w = w.suffix
 
--- the patterns of settings in that order, or the first cause for which the settings are refused
-abbrev pub sorted_patterns : Paths → Result (List Pattern) TsError
-sorted_patterns paths = patterns_from 0 paths >>= λ patterns. Ok (in_order patterns)
+-- what of a specifier the `*` of a wildcard stands for: what is left between the text before the `*` and the ending
+abbrev pub rest_of : TsVersion → List ℕ → Wildcard → List ℕ
+rest_of version s w = without_ends s w.prefix (ending version w)
 
--- An exact pattern matches its own text, and a wildcard each specifier that begins with what stands before the `*`. Nothing need follow.
-abbrev pub matches : List ℕ → Pattern → Bool
-matches specifier (Exact text target) = bytes_eq text specifier
-matches specifier (Wildcard text prefix targets) = starts_with nat_eq specifier prefix
+-- A wildcard matches a specifier that is the text before its `*`, a rest, which may be empty, and the ending.
+abbrev pub matches_wildcard : TsVersion → List ℕ → Wildcard → Bool
+matches_wildcard version s w = bytes_eq s (w.prefix ++ (rest_of version s w ++ ending version w))
 
--- the first pattern that matches decides alone
-abbrev pub deciding : List Pattern → List ℕ → Option Pattern
-deciding patterns specifier = find (matches specifier) patterns
+-- the pattern is a wildcard that matches
+abbrev pub fits : TsVersion → List ℕ → Pattern → Bool
+fits version s (Exact text target) = false
+fits version s (Starred w) = matches_wildcard version s w
+
+-- the pattern is an exact one that matches: its own text alone
+abbrev pub is_exactly : List ℕ → Pattern → Bool
+is_exactly s (Exact text target) = bytes_eq s text
+is_exactly s (Starred w) = false
+
+-- how long the text before a pattern's `*` is
+abbrev pub length_before : Pattern → ℕ
+length_before (Exact text target) = 0
+length_before (Starred w) = length w.prefix
+
+-- no pattern of these has a longer text before its `*`
+abbrev pub is_longest : List Pattern → Pattern → Bool
+is_longest ps p = list_all (λ q. nat_le (length_before q) (length_before p)) ps
+
+-- the first of patterns with the longest text before its `*`
+abbrev pub first_longest : List Pattern → Option Pattern
+first_longest ps = find (is_longest ps) ps
+
+-- The pattern that decides alone: the first exact one that matches, else of the wildcards that match the first with the longest text before its `*`.
+abbrev pub deciding : TsVersion → List Pattern → List ℕ → Option Pattern
+deciding version ps s = option_or (find (is_exactly s) ps) (first_longest (filter (fits version s) ps))
 
 -- the settings are read as this says, unless memory is wanting
 abbrev pub IsReadAs : {A : Type 0} → Result A TsError → Result A TsError → Type 0

@@ -1,5 +1,5 @@
 // The law of every resolver, and what a mapping comes to on each tree. The resolvers have it by their contracts.
-ghost use Rattle.resolver_core.specs.Laws.{PatternsInOrder};
+ghost use Rattle.resolver_core.specs.Laws.{VersionsAlike};
 ghost use Rattle.resolver_core.specs.MappingOnTree.{FirstAnswerDecides, MappingOnTree};
 ghost use Rattle.resolver_core.specs.Resolving.{TrailsSuffice};
 
@@ -16,12 +16,13 @@ pub fn mapping_on_tree<X>()
     ensures { MappingOnTree X }
 {}
 
-/// What a mapping answers is made of the first inner request that is answered, and tells its file; or it tells none.
+/// What a mapping answers is made of the first inner request that is answered, or is an answer that nothing checks,
+/// where each was refused.
 pub fn first_answer_decides<X>()
     ensures { FirstAnswerDecides X }
 {}
 
-/// The patterns of settings are tested in the order that a stable sort gives them.
-pub fn patterns_in_order()
-    ensures { PatternsInOrder }
+/// Where no pattern has text behind its `*`, both versions of settings map each request to the same tries.
+pub fn versions_alike()
+    ensures { VersionsAlike }
 {}

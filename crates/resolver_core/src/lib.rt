@@ -4,9 +4,11 @@
 
 mod cache;
 pub mod laws;
+mod lookups;
 mod mapping;
 mod node;
 mod pattern;
+mod places;
 mod refusal;
 mod requests;
 mod resolve;
@@ -16,6 +18,6 @@ mod tries;
 
 pub use cache::{CachedRequest, CachingResolver, DEFAULT_CAP};
 pub use mapping::{Mapping, TsConfigResolver};
-pub use pattern::{Pattern, TsError};
+pub use pattern::{Pattern, TsError, Wildcard};
 pub use refusal::TsRefusal;
 pub use resolve::Resolve;

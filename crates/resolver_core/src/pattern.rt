@@ -1,14 +1,13 @@
-// The patterns of a mapping: their reading, their order, and which one decides.
-ghost use Rattle.std.specs.Prelude.{◌≡◌, ◌≢◌, [], IfOk, option_map};
-ghost use Rattle.std.specs.Option.{option_copied};
-ghost use Rattle.std.specs.Ordering.{is_lt};
-ghost use Rattle.resolver_core.specs.Pattern.{IsReadAs, pattern_of, pattern_without_star, patterns_from};
-ghost use Rattle.resolver_core.specs.Pattern.{sorted_patterns, comes_before, in_order, matches, deciding};
+// The patterns of a mapping: their reading, and which specifiers they match.
+ghost use Rattle.std.specs.Prelude.{◌≡◌, ◌≢◌, [], IsTrue, option_map};
+ghost use Rattle.star_texts.specs.Star.{rest_between};
+ghost use Rattle.resolver_core.specs.Pattern.{IsReadAs, pattern_of, pattern_without_star, patterns_of};
+ghost use Rattle.resolver_core.specs.Pattern.{ending, fits, matches_wildcard, rest_of};
 
-use star_texts::around_star;
+use star_texts::{around_star, rest_between};
 use std::alloc::{AllocError, Global};
-use std::cmp::Ordering;
 use sugar_path::{List, Text};
+use swc_loader::TsVersion;
 use thiserror::Error;
 
 /// Why the settings of a mapping are refused: the first cause, in the order of the patterns.
@@ -42,65 +41,69 @@ impl From<AllocError> for TsError {
 #[derive(Drop)]
 pub enum Pattern {
     /// A text without `*`, and its target.
-    Exact {
-        text: Text,
-        target: Text,
-    },
-    /// A text with a `*`, what stands before that, and the targets.
-    Wildcard {
-        text: Text,
-        prefix: Text,
-        targets: List<Text>,
-    },
+    Exact { text: Text, target: Text },
+    /// A text with a `*`.
+    Starred(Wildcard),
+}
+
+/// A pattern with a `*`: its text, what stands before the `*` and behind it, and the targets.
+#[derive(Drop)]
+pub struct Wildcard {
+    pub text: Text,
+    pub prefix: Text,
+    pub suffix: Text,
+    pub targets: List<Text>,
 }
 
 impl Pattern {
-    // How it stands to another pattern in the order in which they are tested.
-    fn order(&self, other: &Pattern) -> Ordering
-        ensures { is_lt result ≡ comes_before self.now other.now }
-    {
-        match (self, other) {
-            (Pattern::Exact { .. }, Pattern::Exact { .. }) => Ordering::Equal,
-            (Pattern::Exact { .. }, Pattern::Wildcard { .. }) => Ordering::Less,
-            (Pattern::Wildcard { .. }, Pattern::Exact { .. }) => Ordering::Greater,
-            (Pattern::Wildcard { prefix, .. }, Pattern::Wildcard { prefix: other, .. }) => {
-                other.as_str().len().cmp(&prefix.as_str().len())
-            }
-        }
-    }
-
-    // Whether it stands for a specifier.
-    fn matches(&self, specifier: &str) -> bool
-        ensures { result ≡ matches specifier.now self.now }
+    // Whether it is a wildcard that stands for a specifier.
+    pub(crate) fn fits(&self, version: TsVersion, specifier: &str) -> bool
+        ensures { result ≡ fits version specifier.now self.now }
     {
         match self {
-            Pattern::Exact { text, .. } => text.as_str() == specifier,
-            Pattern::Wildcard { prefix, .. } => specifier.starts_with(prefix.as_str()),
+            Pattern::Exact { .. } => false,
+            Pattern::Starred(wildcard) => wildcard.rest(version, specifier).is_some(),
         }
     }
 }
 
-// The first pattern that stands for a specifier.
-pub(crate) fn deciding<'p>(patterns: &'p [Pattern], specifier: &str) -> Option<&'p Pattern>
-    ensures { option_copied result ≡ deciding patterns.now specifier.now }
-{
-    patterns.iter().find(|pattern| pattern.matches(specifier))
-}
+impl Wildcard {
+    // What of a specifier the `*` stands for, where this stands for it.
+    pub(crate) fn rest<'s>(&self, version: TsVersion, specifier: &'s str) -> Option<&'s str>
+        ensures { option_map (λ rest. rest.now) result
+            ≡ rest_between specifier.now self.now.prefix (ending version self.now) }
+    {
+        rest_between(specifier, self.prefix.as_str(), self.ending(version))
+    }
 
-// The patterns of settings, in the order in which they are tested.
-pub(crate) fn sorted_patterns(
-    alloc: Global,
-    paths: List<(Text, List<Text>)>,
-) -> Result<List<Pattern>, TsError>
-    ensures { IsReadAs result (sorted_patterns paths) }
-{
-    let patterns = read_patterns(alloc, paths)?;
-    Ok(in_order(patterns)?)
+    // What of a specifier the `*` stands for, since this stands for it.
+    pub(crate) fn rest_of<'s>(&self, version: TsVersion, specifier: &'s str) -> &'s str
+        requires { IsTrue (matches_wildcard version specifier.now self.now) }
+        ensures { result.now ≡ rest_of version specifier.now self.now }
+    {
+        match self.rest(version, specifier) {
+            Some(rest) => rest,
+            None => unreachable!(),
+        }
+    }
+
+    // What a specifier must end in.
+    fn ending(&self, version: TsVersion) -> &str
+        ensures { result.now ≡ ending version self.now }
+    {
+        match version {
+            TsVersion::V1 => "",
+            TsVersion::V2 => self.suffix.as_str(),
+        }
+    }
 }
 
 // The patterns of settings as given, or the first cause for which one is refused.
-fn read_patterns(alloc: Global, paths: List<(Text, List<Text>)>) -> Result<List<Pattern>, TsError>
-    ensures { IsReadAs result (patterns_from 0 paths) }
+pub(crate) fn read_patterns(
+    alloc: Global,
+    paths: List<(Text, List<Text>)>,
+) -> Result<List<Pattern>, TsError>
+    ensures { IsReadAs result (patterns_of paths) }
 {
     let mut patterns = Vec::new(alloc);
     for (text, targets) in Vec::from(paths) {
@@ -131,11 +134,13 @@ fn read_pattern(
         return Err(TsError::TwoWildcards { at });
     }
     let prefix = Text::of(alloc, prefix)?;
-    Ok(Pattern::Wildcard {
+    let suffix = Text::of(alloc, behind)?;
+    Ok(Pattern::Starred(Wildcard {
         text,
         prefix,
+        suffix,
         targets,
-    })
+    }))
 }
 
 // A pattern without `*`, which has one target.
@@ -148,13 +153,4 @@ fn exact(at: usize, text: Text, targets: List<Text>) -> Result<Pattern, TsError>
         Some(target) if targets.is_empty() => Ok(Pattern::Exact { text, target }),
         _ => Err(TsError::ExactNeedsOne { at }),
     }
-}
-
-// Patterns in the order in which they are tested.
-fn in_order(patterns: List<Pattern>) -> Result<List<Pattern>, AllocError>
-    ensures { IfOk result (λ sorted. sorted ≡ in_order patterns) }
-{
-    let mut patterns = Vec::from(patterns);
-    patterns.sort_by(|a, b| a.order(b))?;
-    Ok(List::from(patterns))
 }

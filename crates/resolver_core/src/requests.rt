@@ -1,6 +1,5 @@
 // How requests are mapped: by which inner requests, and how each ends.
-ghost use Rattle.std.specs.Prelude.{◌≡◌, IfOk, OnErr, IsTrue, nat_eq, map, length, drop};
-ghost use Rattle.std.specs.List.{starts_with};
+ghost use Rattle.std.specs.Prelude.{◌≡◌, IfOk, OnErr, IsTrue, map};
 ghost use Rattle.std.specs.Option.{option_copied};
 ghost use Rattle.tree_core.specs.Asks.{Asks};
 ghost use Rattle.tree_core.specs.RecorderView.{asking_of};
@@ -8,30 +7,23 @@ ghost use Rattle.swc_loader.specs.declared.resolution.FileName.TheVariants.{Real
 ghost use Rattle.resolver_core.specs.Mapping.{Last, Passed, OrFault, plain, by_mapped, by_exact, by_wildcard};
 ghost use Rattle.resolver_core.specs.Mapping.{by_only_target, by_base_folder, tries_of, with_rest};
 ghost use Rattle.resolver_core.specs.Mapping.{mapping_order, passed, unchecked};
+ghost use Rattle.resolver_core.specs.Pattern.{matches_wildcard};
 
-use crate::pattern::deciding;
+use crate::lookups::Patterns;
 use crate::texts::{here, is_passed, joined, last_part, slug_of, with_rest};
 use crate::tries::{MappedRequest, by_target, each_target, inner_request};
-use crate::{Pattern, Resolve, TsRefusal};
+use crate::{Pattern, Resolve, TsRefusal, Wildcard};
 use std::alloc::{AllocError, Global};
-use sugar_path::{List, Text};
+use sugar_path::Text;
 use swc_loader::{FileName, Resolution};
 use tree_core::{ReadError, Recorder, Tree};
-
-// The wildcard that decides: its text, what stands before its `*`, and its targets.
-#[derive(Clone, Copy)]
-struct DecidingWildcard<'p> {
-    text: &'p Text,
-    prefix: &'p str,
-    targets: &'p [Text],
-}
 
 // What a request comes to by a mapping.
 pub(crate) fn map_request<R: Resolve, T: Tree>(
     alloc: Global,
     tree: &mut Recorder<'_, T>,
     inner: &mut R,
-    patterns: &[Pattern],
+    patterns: &Patterns,
     request: &MappedRequest<'_>,
 ) -> Result<Result<Resolution, TsRefusal<R::Refusal>>, ReadError>
 where
@@ -39,31 +31,18 @@ where
     requires { request.now.folder.now ≡ Real request.now.base_url.now }
     ensures asks { Asks (asking_of tree.old) (asking_of tree.new) result
         (mapping_order (R.order (R.view inner.old))
-        (record { base_url = request.now.base_url.now; patterns = patterns.now })
+        (record { base_url = request.now.base_url.now; version = request.now.version; patterns = patterns.now })
         request.now.base.now request.now.specifier.now) }
     ensures refused { IfOk result (λ r. OnErr r (R.view inner.new ≡ R.view inner.old)) }
 {
     if is_passed(request.base, request.specifier) {
         return as_it_is(alloc, tree, inner, request);
     }
-    match deciding(patterns, request.specifier) {
+    match patterns.deciding(request.version, request.specifier) {
         Some(Pattern::Exact { target, .. }) => {
             by_exact(alloc, tree, inner, request, target.as_str())
         }
-        Some(
-            Pattern::Wildcard {
-                text,
-                prefix,
-                targets,
-            },
-        ) => {
-            let wildcard = DecidingWildcard {
-                text,
-                prefix: prefix.as_str(),
-                targets: targets.as_slice(),
-            };
-            by_wildcard(alloc, tree, inner, request, &wildcard)
-        }
+        Some(Pattern::Starred(wildcard)) => by_wildcard(alloc, tree, inner, request, wildcard),
         None => by_base_folder(alloc, tree, inner, request),
     }
 }
@@ -99,25 +78,25 @@ where
     }
 }
 
-// A wildcard: each `*` of its targets is replaced by what of the specifier stands behind the prefix.
+// A wildcard: each `*` of its targets is replaced by the specifier's rest.
 fn by_wildcard<R: Resolve, T: Tree>(
     alloc: Global,
     tree: &mut Recorder<'_, T>,
     inner: &mut R,
     request: &MappedRequest<'_>,
-    wildcard: &DecidingWildcard<'_>,
+    wildcard: &Wildcard,
 ) -> Result<Result<Resolution, TsRefusal<R::Refusal>>, ReadError>
 where
     R::Refusal: Drop,
-    requires { IsTrue (starts_with nat_eq request.now.specifier.now wildcard.now.prefix.now) }
+    requires { IsTrue (matches_wildcard request.now.version request.now.specifier.now wildcard.now) }
     ensures asks { Asks (asking_of tree.old) (asking_of tree.new) result
-        (by_mapped (R.order (R.view inner.old)) (by_wildcard request.now.folder.now request.now.base.now
-        request.now.specifier.now wildcard.now.text.now wildcard.now.prefix.now wildcard.now.targets.now)) }
+        (by_mapped (R.order (R.view inner.old)) (by_wildcard request.now.version request.now.folder.now
+        request.now.base.now request.now.specifier.now wildcard.now)) }
     ensures refused { IfOk result (λ r. OnErr r (R.view inner.new ≡ R.view inner.old)) }
 {
-    let rest = behind(request.specifier, wildcard.prefix);
-    match wildcard.targets {
-        [target] if !wildcard.prefix.is_empty() => {
+    let rest = wildcard.rest_of(request.version, request.specifier);
+    match wildcard.targets.as_slice() {
+        [target] if !wildcard.prefix.as_str().is_empty() => {
             by_only_target(alloc, tree, inner, request, rest, target.as_str())
         }
         _ => by_each_target(alloc, tree, inner, request, rest, wildcard),
@@ -158,17 +137,24 @@ fn by_each_target<R: Resolve, T: Tree>(
     inner: &mut R,
     request: &MappedRequest<'_>,
     rest: &str,
-    wildcard: &DecidingWildcard<'_>,
+    wildcard: &Wildcard,
 ) -> Result<Result<Resolution, TsRefusal<R::Refusal>>, ReadError>
 where
     R::Refusal: Drop,
     ensures asks { Asks (asking_of tree.old) (asking_of tree.new) result
-        (by_mapped (R.order (R.view inner.old)) (OrFault wildcard.now.text.now (map (tries_of
+        (by_mapped (R.order (R.view inner.old)) (OrFault wildcard.now.text (map (tries_of
         request.now.folder.now request.now.base.now request.now.specifier.now)
-        (map (with_rest rest.now) wildcard.now.targets.now)))) }
+        (map (with_rest rest.now) wildcard.now.targets)))) }
     ensures refused { IfOk result (λ r. OnErr r (R.view inner.new ≡ R.view inner.old)) }
 {
-    let tried = each_target(alloc, tree, inner, request, rest, wildcard.targets)?;
+    let tried = each_target(
+        alloc,
+        tree,
+        inner,
+        request,
+        rest,
+        wildcard.targets.as_slice(),
+    )?;
     match tried {
         Ok(found) => Ok(Ok(found)),
         Err(refusals) => {
@@ -241,17 +227,6 @@ fn unchecked(path: Text, slug: Option<Text>) -> Resolution
         filename: FileName::Real(path),
         slug,
         found: None,
-    }
-}
-
-// What of a specifier stands behind the prefix that it begins with.
-fn behind<'s>(specifier: &'s str, prefix: &str) -> &'s str
-    requires { IsTrue (starts_with nat_eq specifier.now prefix.now) }
-    ensures { result.now ≡ drop (length prefix.now) specifier.now }
-{
-    match specifier.strip_prefix(prefix) {
-        Some(rest) => rest,
-        None => unreachable!(),
     }
 }
 

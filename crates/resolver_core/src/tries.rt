@@ -9,14 +9,15 @@ use crate::Resolve;
 use crate::texts::{here, is_in_modules, with_rest};
 use std::alloc::{AllocError, Global};
 use sugar_path::{List, Text};
-use swc_loader::{FileName, Resolution};
+use swc_loader::{FileName, Resolution, TsVersion};
 use tree_core::{ReadError, Recorder, ResolveError, Tree};
 
-// A request to a mapping, and its base folder, as a text and as a base.
+// A request to a mapping, the version of its settings, and its base folder, as a text and as a base.
 #[derive(Clone, Copy)]
 pub(crate) struct MappedRequest<'r> {
     pub base: &'r FileName,
     pub specifier: &'r str,
+    pub version: TsVersion,
     pub base_url: &'r str,
     pub folder: &'r FileName,
 }
@@ -108,7 +109,7 @@ where
     R::Refusal: Drop,
     ensures asks { Asks (asking_of tree.old) (asking_of tree.new) result
         (each_target (R.order (R.view inner.old)) (map (tries_of request.now.folder.now
-        request.now.base.now request.now.specifier.now) (map (with_rest rest.now) targets.now)) []) }
+        request.now.base.now request.now.specifier.now) (map (with_rest rest.now) targets.now))) }
     ensures refused { IfOk result (λ r. OnErr r (R.view inner.new ≡ R.view inner.old)) }
 {
     let mut refusals = List::new(alloc);

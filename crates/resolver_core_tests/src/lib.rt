@@ -7,3 +7,5 @@ mod caching;
 mod mappings;
 #[cfg(test)]
 mod table;
+#[cfg(test)]
+mod versions;

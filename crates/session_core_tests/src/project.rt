@@ -1,6 +1,6 @@
 // Projects, requests and files for the tests.
 use indexmap::IndexMap;
-use resolve_stack::{FileName, Project, Settings, TargetEnv, TsSettings};
+use resolve_stack::{FileName, Project, Settings, TargetEnv, TsSettings, TsVersion};
 use session_core::{Keys, Session};
 use std::alloc::{AllocError, Global};
 use std::test::Fail;
@@ -49,7 +49,12 @@ fn mapping_of(alloc: Global, kind: Kind) -> Result<Option<TsSettings>, AllocErro
     };
     let base_url = Text::of(alloc, "/w")?;
     let paths = paths_of(alloc)?;
-    Ok(Some(TsSettings { base_url, paths }))
+    let version = TsVersion::V1;
+    Ok(Some(TsSettings {
+        base_url,
+        paths,
+        version,
+    }))
 }
 
 // `@app` lies in two folders.

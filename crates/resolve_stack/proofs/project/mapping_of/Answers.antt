@@ -12,4 +12,4 @@ returns-in_err-new-clause-fault c =
 
 pub returns-clause-ok : goal.returns-clause-ok
 returns-clause-ok c =
-    mapping_made c.args.ts _ _ c.in_ok-new.field-0 c.as_str.ensures c.in_ok-check_setting.ensures.ok c.in_ok-new.ensures.patterns c.in_ok-new.ensures.base
+    mapping_made c.args.ts _ _ c.in_ok-new.field-0 c.as_str.ensures c.in_ok-check_setting.ensures.ok c.in_ok-new.ensures.patterns c.in_ok-new.ensures.base c.in_ok-new.ensures.version
