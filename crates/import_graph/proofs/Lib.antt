@@ -2,3 +2,13 @@ pub mod Marks
 pub mod Texts
 pub mod MarkLaws
 pub mod LineLaws
+pub mod Repeats
+pub mod Levels
+pub mod Queues
+pub mod Walks
+pub mod Runs
+pub mod Graphs
+pub mod Asked
+pub mod Scans
+pub mod Walking
+pub mod Loans

@@ -1,2 +1,10 @@
 pub mod Lines
 pub mod Laws
+pub mod Levels
+pub mod Graph
+pub mod GraphState
+pub mod GraphView
+pub mod Scans
+pub mod Walked
+pub mod GraphLoans
+pub mod GraphLaws

@@ -1,5 +1,6 @@
 // Laws, each proved for all bytes. The calls have them by their contracts.
 ghost use Rattle.import_graph.specs.Laws.{BetweenLastMarks, LineImports, LinesImportInTurn};
+ghost use Rattle.import_graph.specs.GraphLaws.{LevelsEnd, ReachedByWalks, ReachedOnce};
 
 /// What a line is taken to name stands in it between two marks of one kind, and no such mark stands
 /// in it or behind the second; each text that stands so is taken.
@@ -16,4 +17,19 @@ pub fn line_imports()
 /// Two texts with a line feed between them import what each imports, in turn.
 pub fn lines_import_in_turn()
     ensures { LinesImportInTurn }
+{}
+
+/// A file is reached exactly where a walk along answered edges leads to it from an entry that is a file.
+pub fn reached_by_walks()
+    ensures { ReachedByWalks }
+{}
+
+/// No file is reached twice.
+pub fn reached_once()
+    ensures { ReachedOnce }
+{}
+
+/// No level is beyond the count of the tree's files, so the graph has all levels.
+pub fn levels_end()
+    ensures { LevelsEnd }
 {}

@@ -1,9 +1,18 @@
-//! What the files of a project import.
+//! What the files of a project import, and the graph of all files that are reached so.
 #![tactic(auto)]
 
+mod graph;
+mod graph_error;
+mod graph_session;
+mod imports;
 pub mod laws;
 mod lines;
 mod scan;
+mod sources;
+mod walk;
 
+pub use graph::{Edge, Graph, Node};
+pub use graph_error::GraphError;
+pub use graph_session::GraphSession;
 pub use lines::scan_lines;
 pub use scan::{LineScan, Scan};
