@@ -1,0 +1,18 @@
+use Rattle.std.proofs.Common.{refl}
+use Rattle.document_core.proofs.Causes.{meets_raised, meets_stops, meets_then, ok_then}
+use Rattle.audit_report.specs.Given.{fields_of}
+use Rattle.audit_report.proofs.document.read_fields.Goals as goal
+
+pub returns-in_err-project-clause-fields : goal.returns-in_err-project-clause-fields
+unfolding fields_of
+returns-in_err-project-clause-fields c = meets_raised _ _ _ c.from_residual.ensures.1 (meets_stops _ _ _ c.in_err-project.ensures)
+
+pub returns-in_err-manifest-clause-fields : goal.returns-in_err-manifest-clause-fields
+unfolding fields_of
+returns-in_err-manifest-clause-fields c =
+    meets_then _ _ _ _ c.in_ok-project.ensures
+    (meets_raised _ _ _ c.from_residual-in_err-manifest.ensures.1 (meets_stops _ _ _ c.in_err-manifest.ensures.manifest))
+
+pub returns-clause-fields : goal.returns-clause-fields
+unfolding fields_of
+returns-clause-fields c = ok_then _ _ c.in_ok-project.ensures (ok_then _ _ c.in_ok-manifest.ensures.manifest refl)
