@@ -1,0 +1,14 @@
+pub mod Counts
+pub mod CountLines
+pub mod ReadLines
+pub mod LineEnds
+pub mod FirstLines
+pub mod Orders
+pub mod Prefixes
+pub mod Readings
+pub mod Splits
+pub mod Wrong
+pub mod LineCauses
+pub mod Decodings
+pub mod Sorted
+pub mod Keeping

@@ -1,0 +1,14 @@
+pub mod QuestionOrder
+pub mod Bundle
+pub mod Counts
+pub mod CountParts
+pub mod Lines
+pub mod BundleText
+pub mod LineReading
+pub mod Decoding
+pub mod Parts
+pub mod Steps
+pub mod BundleView
+pub mod Keeping
+pub mod Adding
+pub mod Laws

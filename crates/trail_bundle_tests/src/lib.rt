@@ -1,0 +1,7 @@
+//! The tests of `trail_bundle`.
+#![tactic(auto)]
+
+#[cfg(test)]
+mod adding;
+#[cfg(test)]
+mod texts;

@@ -1,0 +1,2 @@
+pub mod WithoutFloats
+pub mod Items

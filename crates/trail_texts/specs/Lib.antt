@@ -1,0 +1,2 @@
+pub mod TrailTexts
+pub mod Reading
