@@ -4,7 +4,7 @@ pub use Rattle.sugar_path.specs.Results.{◌>>=◌}
 use Rattle.resolve_stack.specs.declared.project.ProjectError.{ProjectError}
 use Rattle.resolve_stack.specs.declared.project.ProjectError.TheVariants as project
 use Rattle.document_core.specs.declared.cause.Field.{Field}
-use Rattle.document_core.specs.declared.cause.Field.TheVariants.{Cwd, Target, PreserveSymlinks, NodeModules, Alias, Ts, Lock, Conditions, Files, Requests, Capacity, Steps}
+use Rattle.document_core.specs.declared.cause.Field.TheVariants.{Cwd, Target, PreserveSymlinks, NodeModules, Alias, Ts, Lock, Conditions, Files, Requests, Capacity, Steps, Manifest}
 use Rattle.document_core.specs.declared.cause.Cause.{Cause}
 use Rattle.document_core.specs.declared.cause.Cause.TheVariants.{BadProject}
 use Rattle.document_core.specs.declared.cause.DocumentError.{DocumentError}
@@ -24,6 +24,7 @@ name_of Files = codes "files"
 name_of Requests = codes "requests"
 name_of Capacity = codes "capacity"
 name_of Steps = codes "steps"
+name_of Manifest = codes "manifest"
 
 -- a call meets what is wanted of it: it answers that, or want of memory
 abbrev pub Meets : {A : Type 0} → Result A DocumentError → Result A Cause → Type 0

@@ -3,6 +3,7 @@ use Rattle.std.specs.Prelude.{ℕ, List, [], ◌∷◌, ◌++◌, codes, decimal
 use Rattle.json.specs.Print.{quoted}
 use Rattle.resolve_stack.specs.declared.project.ProjectError.{ProjectError}
 use Rattle.resolve_stack.specs.declared.project.ProjectError.TheVariants.{SettingsFault, EmptyTargets, TwoWildcards, ExactNeedsOne, LockParser, NoMemory}
+use Rattle.report_core.specs.Verdicts.{cause_name}
 use Rattle.document_core.specs.Cause.{name_of}
 use Rattle.document_core.specs.declared.cause.Cause.{Cause}
 use Rattle.document_core.specs.declared.cause.Cause.TheVariants as cause
@@ -23,6 +24,8 @@ cause_text (cause.BadField field) = codes "bad-field " ++ name_of field
 cause_text (cause.BadTree path None) = codes "bad-tree " ++ quoted path
 cause_text (cause.BadTree path (Some other)) = codes "bad-tree " ++ quoted path ++ 32 ∷ quoted other
 cause_text (cause.BadProject e) = codes "bad-project " ++ project_cause e
+cause_text cause.NoLock = codes "no-lock"
+cause_text (cause.Hydration why) = codes "hydration " ++ cause_name why
 
 -- the line of a refused document
 unfoldable pub cause_line : Cause → List ℕ

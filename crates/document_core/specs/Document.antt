@@ -1,12 +1,11 @@
 -- What a document gives, or the first cause against it.
 -- A `do` here is over results: it goes on with what a step gives, and ends by the first error.
-use Rattle.std.specs.Prelude.{ℕ, List, [], ◌∷◌, Option, Some, None, option_map, Result, Ok, Err}
+use Rattle.std.specs.Prelude.{ℕ, List, [], ◌∷◌, Option, Some, None, Result, Ok, Err}
 use Rattle.std.specs.FinMap as finite
 use Rattle.tree_core.specs.Asks.{widened}
 use Rattle.tree_core.specs.Tree.{Files}
 use Rattle.tree_core.specs.Memory.{refusal, with_file}
 use Rattle.resolve_stack.specs.Settings.{GivenSettings, ProjectSettings, project_of}
-use Rattle.resolve_stack.specs.declared.project.TsSettings.{TsSettings}
 use Rattle.tree_core.specs.declared.memory.PutError.{PutError}
 use Rattle.tree_core.specs.declared.memory.PutError.TheVariants.{Unclean, Conflict, NoMemory}
 use Rattle.document_core.specs.Cause.{◌>>=◌}
@@ -17,7 +16,6 @@ use Rattle.document_core.specs.declared.cause.Cause.TheVariants.{BadProject, Bad
 use Rattle.document_core.specs.declared.fields.Document.{Document}
 use Rattle.document_core.specs.declared.fields.GivenSettings.{GivenSettings as Fields}
 use Rattle.document_core.specs.declared.given.GivenFile.{GivenFile}
-use Rattle.document_core.specs.declared.given.GivenMapping.{GivenMapping}
 use Rattle.document_core.specs.declared.given.GivenRequest.{GivenRequest}
 
 -- the other path of a conflict
@@ -42,10 +40,6 @@ put_files t (file ∷ files) = do
   more ← put_file t file
   put_files more files
 
--- the settings of a mapping
-abbrev pub mapping_settings : GivenMapping → TsSettings
-mapping_settings m = record { base_url = m.base_url; paths = m.paths }
-
 -- the settings of a document, with its lock
 abbrev pub settings_in : Fields → Option (List ℕ) → GivenSettings
 settings_in fields lock = record {
@@ -54,7 +48,7 @@ settings_in fields lock = record {
   preserve_symlinks = fields.preserve_symlinks;
   node_modules = fields.node_modules;
   alias = fields.alias;
-  ts = option_map mapping_settings fields.ts;
+  ts = fields.ts;
   lock = lock;
   conditions = fields.conditions;
 }

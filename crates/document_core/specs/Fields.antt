@@ -7,7 +7,8 @@ use Rattle.json_reading.specs.Reading.{field_by, field_or, list_by, nullable_by,
 use Rattle.swc_loader.specs.declared.target.TargetEnv.{TargetEnv}
 use Rattle.swc_loader.specs.declared.target.TargetEnv.TheVariants.{Browser, Node}
 use Rattle.document_core.specs.Cause.{◌>>=◌}
-use Rattle.document_core.specs.Given.{file_of, mapping_of, request_of}
+use Rattle.document_core.specs.Given.{file_of, request_of}
+use Rattle.document_core.specs.Mapping.{mapping_of}
 use Rattle.document_core.specs.declared.cause.Cause.{Cause}
 use Rattle.document_core.specs.declared.cause.Cause.TheVariants.{BadField}
 use Rattle.document_core.specs.declared.cause.Field.{Field}

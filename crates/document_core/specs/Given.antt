@@ -6,11 +6,10 @@ use Rattle.std.specs.Result.{result_ok}
 use Rattle.hex.specs.Hex.{decode_of}
 use Rattle.serde_json.specs.Data.{Data, null, boolean, number, string, array, object}
 use Rattle.serde_json.specs.Find.{get, as_str}
-use Rattle.json_reading.specs.Reading.{◌>>=◌, field_by, list_by, pair_by, present_or}
+use Rattle.json_reading.specs.Reading.{◌>>=◌, field_by, present_or}
 use Rattle.swc_loader.specs.declared.resolution.FileName.{FileName}
 use Rattle.swc_loader.specs.declared.resolution.FileName.TheVariants.{Real, Custom, Anon}
 use Rattle.document_core.specs.declared.given.GivenFile.{GivenFile}
-use Rattle.document_core.specs.declared.given.GivenMapping.{GivenMapping}
 use Rattle.document_core.specs.declared.given.GivenRequest.{GivenRequest}
 
 -- a digit of hex in lower case
@@ -51,10 +50,3 @@ request_of d = do
   importer ← field_by (codes "from") importer_of d
   specifier ← field_by (codes "specifier") as_str d
   Some (record { importer = importer; specifier = specifier })
-
--- a mapping: its base folder, and its patterns, each with its targets
-unfoldable pub mapping_of : Data → Option GivenMapping
-mapping_of d = do
-  base_url ← field_by (codes "base_url") as_str d
-  paths ← field_by (codes "paths") (list_by (pair_by as_str (list_by as_str))) d
-  Some (record { base_url = base_url; paths = paths })

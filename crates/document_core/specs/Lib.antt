@@ -6,4 +6,5 @@ pub mod Document
 pub mod Fields
 pub mod Given
 pub mod Json
+pub mod Mapping
 pub mod Outcomes

@@ -2,6 +2,7 @@
 ghost use Rattle.std.specs.Prelude.{◌≡◌};
 ghost use Rattle.document_core.specs.Cause.{name_of};
 
+use pnp_core::HydrationCause;
 use resolve_stack::ProjectError;
 use std::alloc::AllocError;
 use sugar_path::Text;
@@ -21,6 +22,7 @@ pub enum Field {
     Requests,
     Capacity,
     Steps,
+    Manifest,
 }
 
 impl Field {
@@ -41,6 +43,7 @@ impl Field {
             Field::Requests => "requests",
             Field::Capacity => "capacity",
             Field::Steps => "steps",
+            Field::Manifest => "manifest",
         }
     }
 }
@@ -56,6 +59,10 @@ pub enum Cause {
     BadTree { path: Text, other: Option<Text> },
     /// Why the settings make no project.
     BadProject(ProjectError),
+    /// The project has no lock to be audited by.
+    NoLock,
+    /// Why the file that is to be audited is no manifest.
+    Hydration(HydrationCause),
 }
 
 /// Why a document gives nothing.

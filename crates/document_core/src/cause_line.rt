@@ -4,6 +4,7 @@ ghost use Rattle.json.specs.Print.{quoted};
 ghost use Rattle.document_core.specs.CauseLine.{cause_line, cause_text, project_cause};
 
 use crate::cause::Cause;
+use report_core::name_of_cause;
 use resolve_stack::ProjectError;
 use serde_json::Value;
 use std::alloc::{AllocError, Global};
@@ -37,6 +38,8 @@ fn text_of_cause(alloc: Global, cause: &Cause) -> Result<String, AllocError>
             format!(in alloc; "bad-tree {path} {other}")
         }
         Cause::BadProject(e) => text_of_project_error(alloc, e),
+        Cause::NoLock => String::from_str(alloc, "no-lock"),
+        Cause::Hydration(cause) => format!(in alloc; "hydration {}", name_of_cause(*cause)),
     }
 }
 

@@ -9,10 +9,11 @@ ghost use Rattle.document_core.specs.Document.{fields_in, project_in, put_file, 
 use crate::cause::{Cause, DocumentError};
 use crate::fields::{Document, GivenSettings, read_fields};
 use crate::given::GivenFile;
-use crate::json_text::read_bytes;
+use crate::json_text::{read_bytes, read_json};
+use crate::mapping::{gives_version, version_in};
 use json::Scratch;
 use json_reading::ReadJson;
-use resolve_stack::{Project, Settings};
+use resolve_stack::{Project, Settings, TsVersion};
 use std::alloc::Global;
 use sugar_path::Text;
 use tree_core::{MemoryTree, PutError};
@@ -24,12 +25,28 @@ pub fn read_document(alloc: Global, bytes: &[u8]) -> Result<Document, DocumentEr
 {
     let mut scratch = Scratch::new(alloc);
     match read_bytes(alloc, bytes, &mut scratch)? {
-        ReadJson::Borrowed(value) => read_fields(alloc, &value),
-        ReadJson::Owned(value) => read_fields(alloc, &value),
+        ReadJson::Borrowed(value) => {
+            // It holds no number, so what stands there is no version, and the document is refused.
+            if gives_version(&value) {
+                drop(value);
+                return read_owned(alloc, bytes);
+            }
+            read_fields(alloc, &value, Some(TsVersion::V1))
+        }
+        ReadJson::Owned(value) => read_fields(alloc, &value, version_in(&value)),
     }
 }
 
-// The text that is there, lent.
+// The fields of a document's bytes, by a value that owns its texts.
+#[tactic(auto, unfolding(crate::specs::Document::fields_in))]
+fn read_owned(alloc: Global, bytes: &[u8]) -> Result<Document, DocumentError>
+    ensures { Meets result (fields_in bytes.now) }
+{
+    let value = read_json(alloc, bytes)?;
+    read_fields(alloc, &value, version_in(&value))
+}
+
+// The text that is there, borrowed.
 fn text_in(text: &Option<Text>) -> Option<&str>
     ensures { option_map (λ t. t.now) result ≡ text.now }
 {

@@ -1,18 +1,22 @@
 // Reads the fields of a document from its JSON value.
 ghost use Rattle.std.specs.Prelude.{◌≡◌, codes, option_map};
+ghost use Rattle.serde_json.specs.View.{view};
 ghost use Rattle.json_reading.specs.Reading.{field_by};
 ghost use Rattle.json_reading.specs.Reading as reading;
 ghost use Rattle.resolve_stack.specs.Settings.{given};
 ghost use Rattle.document_core.specs.Cause.{Meets, name_of};
 ghost use Rattle.document_core.specs.Document.{settings_in};
 ghost use Rattle.document_core.specs.Fields.{fields_of, project_fields_of, required, settings_of, target_of};
+ghost use Rattle.document_core.specs.Mapping.{version_in};
 ghost use Rattle.document_core.specs.declared.cause.Field.TheVariants.{Target};
 ghost use Rattle.swc_loader.specs.declared.target.TargetEnv.TheVariants.{Browser};
 
 use crate::cause::{Cause, DocumentError, Field};
-use crate::given::{GivenFile, GivenMapping, GivenRequest};
+use crate::given::{GivenFile, GivenRequest};
+use crate::mapping::{mapping_in, version_in};
 use json_reading::{FromJson, FromJsonError, JsonValue, Object};
-use resolve_stack::{Settings, TargetEnv, TsSettings};
+use resolve_stack::{Settings, TargetEnv, TsSettings, TsVersion};
+use serde_json::Value;
 use std::alloc::Global;
 use sugar_path::{List, Text};
 
@@ -40,7 +44,7 @@ pub struct GivenSettings {
     pub preserve_symlinks: bool,
     pub node_modules: bool,
     pub alias: Object<Text>,
-    pub ts: Option<GivenMapping>,
+    pub ts: Option<TsSettings>,
     pub conditions: Option<List<Text>>,
 }
 
@@ -79,22 +83,27 @@ impl GivenSettings {
             preserve_symlinks,
             node_modules,
             alias: alias.map,
-            ts: ts.map(TsSettings::from),
+            ts,
             lock,
             conditions,
         }
     }
 }
 
-// The document that a JSON value gives.
-pub(crate) fn read_fields<J: JsonValue>(alloc: Global, value: &J) -> Result<Document, DocumentError>
+// The document that a JSON value gives, the version of its mapping being read.
+pub(crate) fn read_fields<J: JsonValue>(
+    alloc: Global,
+    value: &J,
+    version: Option<TsVersion>,
+) -> Result<Document, DocumentError>
+    requires { version ≡ version_in (J.stands_for value.now) }
     ensures { Meets result (fields_of (J.stands_for value.now)) }
 {
     let GivenProject {
         settings,
         lock,
         files,
-    } = read_project(alloc, value)?;
+    } = project_of(alloc, value, version)?;
     let requests: List<GivenRequest> = required_field(alloc, value, Field::Requests)?;
     Ok(Document {
         settings,
@@ -105,10 +114,22 @@ pub(crate) fn read_fields<J: JsonValue>(alloc: Global, value: &J) -> Result<Docu
 }
 
 /// The project that a JSON value gives, or the first cause against its fields.
-pub fn read_project<J: JsonValue>(alloc: Global, value: &J) -> Result<GivenProject, DocumentError>
+pub fn read_project(alloc: Global, value: &Value) -> Result<GivenProject, DocumentError>
+    ensures { Meets result (project_fields_of (view value.now)) }
+{
+    project_of(alloc, value, version_in(value))
+}
+
+// The project that a JSON value gives, the version of its mapping being read.
+fn project_of<J: JsonValue>(
+    alloc: Global,
+    value: &J,
+    version: Option<TsVersion>,
+) -> Result<GivenProject, DocumentError>
+    requires { version ≡ version_in (J.stands_for value.now) }
     ensures { Meets result (project_fields_of (J.stands_for value.now)) }
 {
-    let (settings, lock) = read_settings(alloc, value)?;
+    let (settings, lock) = read_settings(alloc, value, version)?;
     let files: List<GivenFile> = required_field(alloc, value, Field::Files)?;
     Ok(GivenProject {
         settings,
@@ -117,12 +138,14 @@ pub fn read_project<J: JsonValue>(alloc: Global, value: &J) -> Result<GivenProje
     })
 }
 
-// The settings that a JSON value gives, and the text of the lock.
+// The settings that a JSON value gives, and the text of the lock, the version of the mapping being read.
 #[tactic(auto, unfolding(crate::specs::Fields::settings_of))]
 fn read_settings<J: JsonValue>(
     alloc: Global,
     value: &J,
+    version: Option<TsVersion>,
 ) -> Result<(GivenSettings, Option<Text>), DocumentError>
+    requires { version ≡ version_in (J.stands_for value.now) }
     ensures { Meets result (settings_of (J.stands_for value.now)) }
 {
     let cwd: Text = required_field(alloc, value, Field::Cwd)?;
@@ -130,7 +153,7 @@ fn read_settings<J: JsonValue>(
     let preserve_symlinks = field_or(alloc, value, Field::PreserveSymlinks, false)?;
     let node_modules = field_or(alloc, value, Field::NodeModules, true)?;
     let alias = field_or(alloc, value, Field::Alias, Object::<Text>::new(alloc))?;
-    let ts: Option<GivenMapping> = field_or(alloc, value, Field::Ts, None)?;
+    let ts = mapping_in(alloc, value, version)?;
     let lock: Option<Text> = field_or(alloc, value, Field::Lock, None)?;
     let conditions: Option<List<Text>> = field_or(alloc, value, Field::Conditions, None)?;
     let settings = GivenSettings {

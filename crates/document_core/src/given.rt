@@ -1,4 +1,4 @@
-// Reads the files, the mapping and the requests of a document from their JSON values.
+// Reads the files and the requests of a document from their JSON values.
 ghost use Rattle.std.specs.Prelude.{◌≡◌, codes, option_and_then, option_map};
 ghost use Rattle.std.specs.List.{list_all};
 ghost use Rattle.serde_json.specs.Find.{as_str};
@@ -6,9 +6,9 @@ ghost use Rattle.json_reading.specs.Reading.{ReadsAs, field_by, present_or};
 ghost use Rattle.document_core.specs.Given.{content_of, hex_bytes, importer_of, is_lower_hex_digit};
 
 use json_reading::{FromJson, FromJsonError, JsonValue, field};
-use resolve_stack::{FileName, TsSettings};
+use resolve_stack::FileName;
 use std::alloc::Global;
-use sugar_path::{Bytes, List, Text};
+use sugar_path::{Bytes, Text};
 
 /// A file as a document gives it.
 #[derive(Drop)]
@@ -23,13 +23,6 @@ pub struct GivenFile {
 pub struct GivenRequest {
     pub importer: FileName,
     pub specifier: Text,
-}
-
-/// The mapping of a document: its base folder, and its patterns with their targets.
-#[derive(Drop)]
-pub struct GivenMapping {
-    pub base_url: Text,
-    pub paths: List<(Text, List<Text>)>,
 }
 
 impl FromJson for GivenFile {
@@ -158,27 +151,4 @@ fn importer<J: JsonValue>(alloc: Global, value: &J) -> Result<FileName, FromJson
         return Ok(FileName::Real(Text::of(alloc, name)?));
     }
     Ok(FileName::Custom(field(alloc, value, "custom")?))
-}
-
-impl FromJson for GivenMapping {
-    ghost use Rattle.document_core.specs.Given.{mapping_of};
-
-    ghost reads = { mapping_of };
-
-    fn from_json<J: JsonValue>(alloc: Global, value: &J) -> Result<Self, FromJsonError> {
-        let base_url: Text = field(alloc, value, "base_url")?;
-        let paths: List<(Text, List<Text>)> = field(alloc, value, "paths")?;
-        Ok(GivenMapping { base_url, paths })
-    }
-}
-
-impl From<GivenMapping> for TsSettings {
-    ghost use Rattle.document_core.specs.Document.{mapping_settings};
-
-    ghost from_gives = { λ given settings. settings ≡ mapping_settings given };
-
-    fn from(given: GivenMapping) -> Self {
-        let GivenMapping { base_url, paths } = given;
-        TsSettings { base_url, paths }
-    }
 }

@@ -1,6 +1,6 @@
 // Trees that refuse one question of a request: there is no verdict then, and the same call made again has the answer.
 use crate::requests::{node_project, outcome_of, settings, told, tree_of};
-use resolve_stack::{Project, TargetEnv, TsSettings};
+use resolve_stack::{Project, TargetEnv, TsSettings, TsVersion};
 use std::alloc::{AllocError, Global};
 use std::process::Abort;
 use std::test::Fail;
@@ -102,6 +102,7 @@ fn its_mapping(alloc: Global) -> Result<TsSettings, AllocError> {
     Ok(TsSettings {
         base_url: Text::of(alloc, "/w")?,
         paths: List::from(vec![in alloc; path]?),
+        version: TsVersion::V2,
     })
 }
 

@@ -2,7 +2,7 @@
 use indexmap::IndexMap;
 use resolve_stack::{
     FileName, ImportError, JoinRefusal, Outcome, Project, ProjectError, Settings, TargetEnv,
-    TsRefusal, TsSettings, Verdict, resolve_import,
+    TsRefusal, TsSettings, TsVersion, Verdict, resolve_import,
 };
 use std::alloc::{AllocError, Global};
 use std::test::Fail;
@@ -37,6 +37,7 @@ pub fn no_patterns(alloc: Global) -> Result<TsSettings, AllocError> {
     Ok(TsSettings {
         base_url: Text::of(alloc, "/w")?,
         paths: List::new(alloc),
+        version: TsVersion::V1,
     })
 }
 

@@ -56,16 +56,17 @@ cause_name BadJson = codes "BadJson"
 cause_name BadPattern = codes "BadPattern"
 cause_name NoTopLevel = codes "NoTopLevel"
 
-abbrev pub issuer_value : PackageLocator → Data
-issuer_value issuer = object
-    (member (codes "name") (string issuer.name)
-    (member (codes "reference") (string issuer.reference) no_members))
+-- a package, by its name and its reference
+abbrev pub locator_value : PackageLocator → Data
+locator_value l = object
+    (member (codes "name") (string l.name)
+    (member (codes "reference") (string l.reference) no_members))
 
 -- a dependency that its issuer doesn't bind, by its kind
 abbrev pub dependency_value : List ℕ → List ℕ → PackageLocator → List ℕ → List ℕ → List ℕ → Data
 dependency_value kind name issuer message path request = object
     (member (codes "dependency") (string name)
-    (member (codes "issuer") (issuer_value issuer)
+    (member (codes "issuer") (locator_value issuer)
     (member (codes "kind") (string kind)
     (member (codes "message") (string message)
     (member (codes "path") (string path)

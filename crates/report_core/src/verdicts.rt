@@ -2,7 +2,7 @@
 ghost use Rattle.std.specs.Prelude.{◌≡◌, IfOk, codes, map};
 ghost use Rattle.serde_json.specs.Data.{array, member, no_members};
 ghost use Rattle.serde_json.specs.View.{items_of, view};
-ghost use Rattle.report_core.specs.Verdicts.{answer_value, cause_name, found_value, issuer_value, name_value};
+ghost use Rattle.report_core.specs.Verdicts.{answer_value, cause_name, found_value, locator_value, name_value};
 ghost use Rattle.report_core.specs.Verdicts.{package_value, refusal_value, refused_value, text_or_null};
 ghost use Rattle.report_core.specs.Verdicts.{verdict_value, via_value};
 ghost use Rattle.resolve_stack.specs.declared.verdict.JoinRefusal.TheVariants as refusal;
@@ -184,7 +184,7 @@ fn value_of_undeclared(alloc: Global, told: &UndeclaredDependency) -> Result<Val
     ensures { IfOk result (λ value.
         view value ≡ refusal_value (refusal.UndeclaredDependency told.now)) }
 {
-    let issuer = value_of_issuer(alloc, &told.issuer_locator)?;
+    let issuer = value_of_locator(alloc, &told.issuer_locator)?;
     json!(in alloc; {
         "dependency": told.dependency_name.as_str(),
         "issuer": issuer,
@@ -199,7 +199,7 @@ fn value_of_missing_peer(alloc: Global, told: &MissingPeerDependency) -> Result<
     ensures { IfOk result (λ value.
         view value ≡ refusal_value (refusal.MissingPeerDependency told.now)) }
 {
-    let issuer = value_of_issuer(alloc, &told.issuer_locator)?;
+    let issuer = value_of_locator(alloc, &told.issuer_locator)?;
     json!(in alloc; {
         "dependency": told.dependency_name.as_str(),
         "issuer": issuer,
@@ -223,7 +223,12 @@ fn value_of_package(
     json!(in alloc; {"kind": kind, "name": name.as_str(), "reference": reference.as_str()})
 }
 
-fn value_of_out_of_range(alloc: Global, range: &Text, version: &Text) -> Result<Value, AllocError>
+/// The object of a version that isn't within a range.
+pub fn value_of_out_of_range(
+    alloc: Global,
+    range: &Text,
+    version: &Text,
+) -> Result<Value, AllocError>
     ensures { IfOk result (λ value.
         view value ≡ refusal_value (refusal.OutOfRange range.now version.now)) }
 {
@@ -234,7 +239,8 @@ fn value_of_out_of_range(alloc: Global, range: &Text, version: &Text) -> Result<
     })
 }
 
-fn value_of_malformed(alloc: Global, path: &Text) -> Result<Value, AllocError>
+/// The object of a package.json that can't be read.
+pub fn value_of_malformed(alloc: Global, path: &Text) -> Result<Value, AllocError>
     ensures { IfOk result (λ value.
         view value ≡ refusal_value (refusal.MalformedPackage path.now)) }
 {
@@ -275,13 +281,15 @@ fn value_of_unfound(alloc: Global, text: &Text) -> Result<Value, AllocError>
     json!(in alloc; {"kind": "NotFound", "text": text.as_str()})
 }
 
-fn value_of_issuer(alloc: Global, issuer: &PackageLocator) -> Result<Value, AllocError>
-    ensures { IfOk result (λ value. view value ≡ issuer_value issuer.now) }
+/// The object of a package, by its name and its reference.
+pub fn value_of_locator(alloc: Global, locator: &PackageLocator) -> Result<Value, AllocError>
+    ensures { IfOk result (λ value. view value ≡ locator_value locator.now) }
 {
-    json!(in alloc; {"name": issuer.name.as_str(), "reference": issuer.reference.as_str()})
+    json!(in alloc; {"name": locator.name.as_str(), "reference": locator.reference.as_str()})
 }
 
-fn name_of_cause(cause: HydrationCause) -> &'static str
+/// The name of why a file is no manifest.
+pub fn name_of_cause(cause: HydrationCause) -> &'static str
     ensures { result.now ≡ cause_name cause }
 {
     match cause {

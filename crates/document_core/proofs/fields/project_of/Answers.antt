@@ -1,7 +1,7 @@
 use Rattle.std.proofs.Common.{refl}
 use Rattle.document_core.specs.Fields.{project_fields_of}
 use Rattle.document_core.proofs.Causes.{meets_raised, meets_stops, meets_then, ok_then}
-use Rattle.document_core.proofs.fields.read_project.Goals as goal
+use Rattle.document_core.proofs.fields.project_of.Goals as goal
 
 pub returns-in_err-settings : goal.returns-in_err-settings
 unfolding project_fields_of
