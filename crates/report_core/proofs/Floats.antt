@@ -17,10 +17,15 @@ use Rattle.swc_loader.specs.declared.resolution.Via.{Via}
 use Rattle.resolver_core.specs.declared.refusal.TsRefusal.{TsRefusal}
 use Rattle.resolver_core.specs.declared.refusal.TsRefusal.TheVariants.{Inner, TsFault}
 use Rattle.resolve_stack.specs.declared.verdict.JoinRefusal.{JoinRefusal}
-use Rattle.resolve_stack.specs.declared.verdict.JoinRefusal.TheVariants.{BadSpecifier, FailedManifestHydration, UndeclaredDependency, MissingPeerDependency, NotInRegistry, NotLocked, MalformedPackage, OutOfRange, Archive, NotExported, Outside, NotFound, BaseNotAFile}
+use Rattle.resolve_stack.specs.declared.verdict.JoinRefusal.TheVariants.{BadSpecifier, FailedManifestHydration}
+use Rattle.resolve_stack.specs.declared.verdict.JoinRefusal.TheVariants.{UndeclaredDependency, MissingPeerDependency}
+use Rattle.resolve_stack.specs.declared.verdict.JoinRefusal.TheVariants.{NotInRegistry, NotLocked, MalformedPackage}
+use Rattle.resolve_stack.specs.declared.verdict.JoinRefusal.TheVariants.{OutOfRange, Archive, NotExported, Outside}
+use Rattle.resolve_stack.specs.declared.verdict.JoinRefusal.TheVariants.{NotFound, BaseNotAFile}
 use Rattle.resolve_stack.specs.declared.verdict.Verdict.{Verdict}
 use Rattle.resolve_stack.specs.declared.verdict.Verdict.TheVariants.{Answered, Refused}
-use Rattle.report_core.specs.Verdicts.{name_value, text_or_null, via_value, found_value, answer_value, refusal_value, refused_value, verdict_value}
+use Rattle.report_core.specs.Verdicts.{name_value, text_or_null, via_value, found_value, answer_value, refusal_value}
+use Rattle.report_core.specs.Verdicts.{refused_value, verdict_value}
 
 name_without : (name : FileName) → has_float (name_value name) ≡ false
 name_without (Real t) = refl
@@ -39,8 +44,10 @@ found_without : (o : Option Found) → has_float (found_value o) ≡ false
 found_without None = refl
 found_without (Some found) = rw (via_without found.via) refl
 
-answer_without : (last : Members) (answer : Resolution) → members_have_float last ≡ false → has_float (answer_value last answer) ≡ false
-answer_without last answer without = rw (name_without answer.filename, found_without answer.found, text_without answer.slug) without
+answer_without : (last : Members) (answer : Resolution) → members_have_float last ≡ false →
+    has_float (answer_value last answer) ≡ false
+answer_without last answer without =
+    rw (name_without answer.filename, found_without answer.found, text_without answer.slug) without
 
 refusal_without : (refusal : JoinRefusal) → has_float (refusal_value refusal) ≡ false
 refusal_without (BadSpecifier specifier) = refl
@@ -66,7 +73,8 @@ refused_without (Inner refusal) = refusal_without refusal
 refused_without (TsFault pattern inner) = rw (refusals_without inner) refl
 
 -- a verdict, with members behind its own that hold none
-pub verdict_without : (last : Members) (verdict : Verdict) → members_have_float last ≡ false → has_float (verdict_value last verdict) ≡ false
+pub verdict_without : (last : Members) (verdict : Verdict) → members_have_float last ≡ false →
+    has_float (verdict_value last verdict) ≡ false
 verdict_without last (Answered answer) without = answer_without last answer without
 verdict_without last (Refused refusal) without = rw (refused_without refusal) without
 

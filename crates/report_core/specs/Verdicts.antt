@@ -6,9 +6,14 @@ use Rattle.swc_loader.specs.declared.resolution.FileName.{FileName}
 use Rattle.swc_loader.specs.declared.resolution.FileName.TheVariants.{Real, Custom, Anon}
 use Rattle.swc_loader.specs.declared.resolution.Found.{Found}
 use Rattle.pnp_core.specs.declared.error.HydrationCause.{HydrationCause}
-use Rattle.pnp_core.specs.declared.error.HydrationCause.TheVariants.{NotText, NoPayload, BadJson, BadPattern, NoTopLevel}
+use Rattle.pnp_core.specs.declared.error.HydrationCause.TheVariants.{NotText, NoPayload, BadJson, BadPattern}
+use Rattle.pnp_core.specs.declared.error.HydrationCause.TheVariants.{NoTopLevel}
 use Rattle.resolve_stack.specs.declared.verdict.JoinRefusal.{JoinRefusal}
-use Rattle.resolve_stack.specs.declared.verdict.JoinRefusal.TheVariants.{BadSpecifier, FailedManifestHydration, UndeclaredDependency, MissingPeerDependency, NotInRegistry, NotLocked, MalformedPackage, OutOfRange, Archive, NotExported, Outside, NotFound, BaseNotAFile}
+use Rattle.resolve_stack.specs.declared.verdict.JoinRefusal.TheVariants.{BadSpecifier, FailedManifestHydration}
+use Rattle.resolve_stack.specs.declared.verdict.JoinRefusal.TheVariants.{UndeclaredDependency, MissingPeerDependency}
+use Rattle.resolve_stack.specs.declared.verdict.JoinRefusal.TheVariants.{NotInRegistry, NotLocked, MalformedPackage}
+use Rattle.resolve_stack.specs.declared.verdict.JoinRefusal.TheVariants.{OutOfRange, Archive, NotExported, Outside}
+use Rattle.resolve_stack.specs.declared.verdict.JoinRefusal.TheVariants.{NotFound, BaseNotAFile}
 use Rattle.resolver_core.specs.declared.refusal.TsRefusal.{TsRefusal}
 use Rattle.resolver_core.specs.declared.refusal.TsRefusal.TheVariants.{Inner, TsFault}
 use Rattle.pnp_core.specs.declared.manifest.PackageLocator.{PackageLocator}
@@ -93,9 +98,11 @@ refusal_value (FailedManifestHydration cause manifest) = object
     (member (codes "kind") (string (codes "FailedManifestHydration"))
     (member (codes "manifest") (string manifest) no_members)))
 refusal_value (UndeclaredDependency told) =
-    dependency_value (codes "UndeclaredDependency") told.dependency_name told.issuer_locator told.message told.issuer_path told.request
+    dependency_value (codes "UndeclaredDependency") told.dependency_name told.issuer_locator told.message
+    told.issuer_path told.request
 refusal_value (MissingPeerDependency told) =
-    dependency_value (codes "MissingPeerDependency") told.dependency_name told.issuer_locator told.message told.issuer_path told.request
+    dependency_value (codes "MissingPeerDependency") told.dependency_name told.issuer_locator told.message
+    told.issuer_path told.request
 refusal_value (NotInRegistry name reference) = package_value (codes "NotInRegistry") name reference
 refusal_value (NotLocked name reference) = package_value (codes "NotLocked") name reference
 refusal_value (OutOfRange range version) = object
@@ -121,7 +128,8 @@ refusal_value (NotFound text) = object
     (member (codes "text") (string text) no_members))
 refusal_value BaseNotAFile = kind_value (codes "BaseNotAFile")
 
--- the refusal of a request: that of an inner request, or of a pattern whose targets all failed, with the refusal of each one's last try
+-- the refusal of a request: that of an inner request, or of a pattern whose targets all failed, with the refusal of
+-- each one's last try
 abbrev pub refused_value : TsRefusal JoinRefusal → Data
 refused_value (Inner refusal) = refusal_value refusal
 refused_value (TsFault pattern inner) = object

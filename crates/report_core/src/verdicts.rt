@@ -13,8 +13,8 @@ use serde_json::{Value, json};
 use std::alloc::{AllocError, Global};
 use sugar_path::Text;
 
-// A verdict without a trail.
-pub(crate) fn value_of_verdict(alloc: Global, verdict: &Verdict) -> Result<Value, AllocError>
+/// The object of a verdict, without a trail.
+pub fn value_of_verdict(alloc: Global, verdict: &Verdict) -> Result<Value, AllocError>
     ensures { IfOk result (λ value. view value ≡ verdict_value no_members verdict.now) }
 {
     match verdict {

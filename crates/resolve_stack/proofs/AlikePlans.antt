@@ -19,7 +19,8 @@ pub alike_self : {A : Type 0} {t : Files} {p : Plan A} → Alike t p p
 alike_self = record { answers = refl; asks = refl }
 
 -- Plans that begin alike and go on alike.
-pub alike_then : {A B : Type 0} {t : Files} {p q : Plan A} (k l : A → Plan B) → Alike t p q → ((a : A) → Alike t (k a) (l a)) → Alike t (p >>= k) (q >>= l)
+pub alike_then : {A B : Type 0} {t : Files} {p q : Plan A} (k l : A → Plan B) → Alike t p q →
+    ((a : A) → Alike t (k a) (l a)) → Alike t (p >>= k) (q >>= l)
 alike_then {t = t} {p = p} {q = q} k l first rest = record {
   answers =
       answer-then t p k
@@ -34,7 +35,8 @@ alike_then {t = t} {p = p} {q = q} k l first rest = record {
 }
 
 -- The same of plans that may refuse.
-pub alike_on_ok : {A B X : Type 0} {t : Files} {p q : Plan (Result A X)} (k l : A → Plan (Result B X)) → Alike t p q → ((a : A) → Alike t (k a) (l a)) → Alike t (p >>=? k) (q >>=? l)
+pub alike_on_ok : {A B X : Type 0} {t : Files} {p q : Plan (Result A X)} (k l : A → Plan (Result B X)) → Alike t p q →
+    ((a : A) → Alike t (k a) (l a)) → Alike t (p >>=? k) (q >>=? l)
 alike_on_ok {A = A} {B = B} {X = X} {t = t} k l first rest = alike_then (on_ok k) (on_ok l) first by_result
   where
     by_result : (r : Result A X) → Alike t (on_ok k r) (on_ok l r)
@@ -42,7 +44,8 @@ alike_on_ok {A = A} {B = B} {X = X} {t = t} k l first rest = alike_then (on_ok k
     by_result (Err x) = alike_self
 
 -- what is recorded hangs on the replies alone
-recorded_alike : (t u : Files) (trail : List (Question × Reply)) (qs : List Question) → AgreeOn t u qs → recorded u trail qs ≡ recorded t trail qs
+recorded_alike : (t u : Files) (trail : List (Question × Reply)) (qs : List Question) → AgreeOn t u qs →
+    recorded u trail qs ≡ recorded t trail qs
 recorded_alike t u trail [] h = refl
 recorded_alike t u trail (q ∷ qs) h =
     ap (λ r. recorded u (noted_as trail q r) qs) h.0
@@ -53,7 +56,8 @@ record Front {A : Type 0} (u : Files) (p : Plan A) (put : List Question) : Type 
   pub left : List Question
   pub in_order : asked u p ≡ put ++ left
 
-front : {A : Type 0} (t u : Files) (p : Plan A) (put left : List Question) → asked t p ≡ put ++ left → AgreeOn t u put → Front u p put
+front : {A : Type 0} (t u : Files) (p : Plan A) (put left : List Question) → asked t p ≡ put ++ left →
+    AgreeOn t u put → Front u p put
 unfolding asked
 front t u p [] left is h = record { left = asked u p; in_order = refl }
 front t u (Done a) (x ∷ put) left is h = cc
@@ -71,7 +75,8 @@ record FrontAt {A : Type 0} (u : Files) (p : Plan A) (put : List Question) (next
   pub left : List Question
   pub in_order : asked u p ≡ put ++ next ∷ left
 
-front_at : {A : Type 0} (t u : Files) (p : Plan A) (put left : List Question) (next : Question) → asked t p ≡ put ++ next ∷ left → AgreeOn t u put → FrontAt u p put next
+front_at : {A : Type 0} (t u : Files) (p : Plan A) (put left : List Question) (next : Question) →
+    asked t p ≡ put ++ next ∷ left → AgreeOn t u put → FrontAt u p put next
 unfolding asked
 front_at t u (Done a) [] left next is h = cc
 front_at t u (Ask q n) [] left next is h =
@@ -85,13 +90,16 @@ front_at t u (Ask q n) (x ∷ put) left next is h =
     let f = front_at t u (n (reply t q)) put left next rest h.1 in
     record {
       left = f.left;
-      in_order = ap (λ r. q ∷ asked u (n r)) replies ∙ ap (λ qs. q ∷ qs) f.in_order ∙ ap (λ x. x ∷ put ++ next ∷ f.left) same;
+      in_order = ap (λ r. q ∷ asked u (n r)) replies ∙ ap (λ qs. q ∷ qs) f.in_order
+          ∙ ap (λ x. x ∷ put ++ next ∷ f.left) same;
     }
 
 -- what a call answers and leaves, on each tree that agrees with its trail, where two plans are alike on one of those
-answers_alike : {A : Type 0} (t u : Files) (old new : Asking) (r : Result A ReadError) (p q : Plan A) → Alike t p q → Agrees u new.trail → Answers t old new r p → Answers u old new r p → Agrees t old.trail → Answers u old new r q
+answers_alike : {A : Type 0} (t u : Files) (old new : Asking) (r : Result A ReadError) (p q : Plan A) → Alike t p q →
+    Agrees u new.trail → Answers t old new r p → Answers u old new r p → Agrees t old.trail → Answers u old new r q
 answers_alike t u old new (Ok a) p q alike agrees on_t on_u before =
-    let same_q = decided t u q (agree_on-recorded t u old.trail (asked t q) before (agrees_now (asked t q) (on_t.1 ∙ ap (λ qs. recorded t old.trail qs) alike.asks))) in
+    let same_q = decided t u q (agree_on-recorded t u old.trail (asked t q) before
+    (agrees_now (asked t q) (on_t.1 ∙ ap (λ qs. recorded t old.trail qs) alike.asks))) in
     let same_p = decided t u p (agree_on-recorded t u old.trail (asked t p) before (agrees_now (asked t p) on_t.1)) in (
       on_t.0 ∙ alike.answers ∙ sym same_q.0,
       on_u.1 ∙ ap (λ qs. recorded u old.trail qs) (same_p.1 ∙ alike.asks ∙ sym same_q.1),
@@ -100,7 +108,8 @@ answers_alike t u old new (Ok a) p q alike agrees on_t on_u before =
     agrees_now : (qs : List Question) → new.trail ≡ recorded t old.trail qs → Agrees u (recorded t old.trail qs)
     agrees_now qs is = λ x y known. agrees x y (ap (λ trail. reply_in trail x) is ∙ known)
 answers_alike t u old new (Err Fault) p q alike agrees on_t on_u before =
-    let same = agree_on-recorded t u old.trail on_t.put before (λ x y known. agrees x y (ap (λ trail. reply_in trail x) on_t.trail ∙ known)) in
+    let same = agree_on-recorded t u old.trail on_t.put before
+    (λ x y known. agrees x y (ap (λ trail. reply_in trail x) on_t.trail ∙ known)) in
     let f = front_at t u q on_t.put on_t.left on_t.next (sym alike.asks ∙ on_t.in_order) same in
     record {
       put = on_t.put;
@@ -112,7 +121,8 @@ answers_alike t u old new (Err Fault) p q alike agrees on_t on_u before =
       told = on_t.told;
     }
 answers_alike t u old new (Err NoMemory) p q alike agrees on_t on_u before =
-    let same = agree_on-recorded t u old.trail on_t.put before (λ x y known. agrees x y (ap (λ trail. reply_in trail x) on_t.trail ∙ known)) in
+    let same = agree_on-recorded t u old.trail on_t.put before
+    (λ x y known. agrees x y (ap (λ trail. reply_in trail x) on_t.trail ∙ known)) in
     let f = front t u q on_t.put on_t.left (sym alike.asks ∙ on_t.in_order) same in
     record {
       put = on_t.put;
@@ -122,7 +132,8 @@ answers_alike t u old new (Err NoMemory) p q alike agrees on_t on_u before =
     }
 
 -- A call by a plan is one by another that is alike on a tree that agrees with the trail which the call leaves.
-pub asks_alike : {A : Type 0} {old new : Asking} {r : Result A ReadError} {p q : Plan A} (t : Files) → Agrees t old.trail → Agrees t new.trail → Alike t p q → Asks old new r p → Asks old new r q
+pub asks_alike : {A : Type 0} {old new : Asking} {r : Result A ReadError} {p q : Plan A} (t : Files) →
+    Agrees t old.trail → Agrees t new.trail → Alike t p q → Asks old new r p → Asks old new r q
 asks_alike {old = old} {new = new} {r = r} {p = p} {q = q} t before now alike h = record {
   same = h.same;
   stands = h.stands;

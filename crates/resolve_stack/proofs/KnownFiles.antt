@@ -1,5 +1,6 @@
 -- What is known of the files of a tree, as files are put and removed, and as requests read more.
-use Rattle.std.proofs.Common.{◌≡◌, ℕ, Bool, true, false, cond, ◌||◌, bytes_eq, List, [], ◌∷◌, ◌++◌, Some, None, Ok, refl, sym, ap, ◌∙◌, option_map, ◌<◌, ◌-◌, length, slice_get, arith, length-append}
+use Rattle.std.proofs.Common.{◌≡◌, ℕ, Bool, true, false, cond, ◌||◌, bytes_eq, List, [], ◌∷◌, ◌++◌, Some, None, Ok}
+use Rattle.std.proofs.Common.{refl, sym, ap, ◌∙◌, option_map, ◌<◌, ◌-◌, length, slice_get, arith, length-append}
 use Rattle.std.proofs.Math.Seq.{get_or-append_seam}
 use Rattle.std.proofs.lemmas.Option.{slice_get-get_or}
 use Rattle.std.specs.FinMap as finite
@@ -33,12 +34,17 @@ beside-remove t path = λ p other.
     ∙ ap (λ b. cond b None (finite.get t p)) (sym (is_at path p) ∙ other)
 
 -- What is known of other files stays known.
-pub known-beside : (t u : Files) (path : List ℕ) (known : List ReadManifest) → list_any (λ k. bytes_eq path (text_of k.path)) known ≡ false → IsSameBeside t u path → AreKnownOn t known → AreKnownOn u known
+pub known-beside : (t u : Files) (path : List ℕ) (known : List ReadManifest) →
+    list_any (λ k. bytes_eq path (text_of k.path)) known ≡ false → IsSameBeside t u path → AreKnownOn t known →
+    AreKnownOn u known
 known-beside t u path [] none same h = tt
 known-beside t u path (k ∷ known) none same h =
     by_test (bytes_eq path (text_of k.path)) refl (known-beside t u path known) none
   where
-    by_test : (b : Bool) → bytes_eq path (text_of k.path) ≡ b → (list_any (λ k. bytes_eq path (text_of k.path)) known ≡ false → IsSameBeside t u path → AreKnownOn t known → AreKnownOn u known) → b || list_any (λ k. bytes_eq path (text_of k.path)) known ≡ false → AreKnownOn u (k ∷ known)
+    by_test : (b : Bool) → bytes_eq path (text_of k.path) ≡ b →
+        (list_any (λ k. bytes_eq path (text_of k.path)) known ≡ false → IsSameBeside t u path → AreKnownOn t known →
+        AreKnownOn u known) → b || list_any (λ k. bytes_eq path (text_of k.path)) known ≡ false →
+        AreKnownOn u (k ∷ known)
     by_test true is rest none = cc
     by_test false is rest none = (
       ap (λ o. reading (option_map (λ (f : TreeFile). f.content) o) k.path) (same (text_of k.path) is) ∙ h.0,
@@ -46,12 +52,15 @@ known-beside t u path (k ∷ known) none same h =
     )
 
 -- One more is known.
-pub known-push : (t : Files) (known : List ReadManifest) (k : ReadManifest) → AreKnownOn t known → (loaded_on t k.path).result ≡ Ok k.manifest → AreKnownOn t (known ++ k ∷ [])
+pub known-push : (t : Files) (known : List ReadManifest) (k : ReadManifest) → AreKnownOn t known →
+    (loaded_on t k.path).result ≡ Ok k.manifest → AreKnownOn t (known ++ k ∷ [])
 known-push t [] k h is = (is, tt)
 known-push t (x ∷ known) k h is = (h.0, known-push t known k h.1 is)
 
 -- The same of a push that may be refused.
-pub known-pushed : (t : Files) (known now : List ReadManifest) (k : ReadManifest) (pushed : Bool) → now ≡ cond pushed (known ++ k ∷ []) known → AreKnownOn t known → (loaded_on t k.path).result ≡ Ok k.manifest → AreKnownOn t now
+pub known-pushed : (t : Files) (known now : List ReadManifest) (k : ReadManifest) (pushed : Bool) →
+    now ≡ cond pushed (known ++ k ∷ []) known → AreKnownOn t known → (loaded_on t k.path).result ≡ Ok k.manifest →
+    AreKnownOn t now
 known-pushed t known now k true is h loaded = rw is (known-push t known k h loaded)
 known-pushed t known now k false is h loaded = rw is h
 

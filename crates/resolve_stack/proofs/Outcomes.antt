@@ -11,7 +11,9 @@ use Rattle.resolve_stack.specs.Settings.{ProjectSettings}
 use Rattle.resolve_stack.specs.Verdict.{verdict}
 
 -- An outcome whose trail settles its verdict is that of a tree in memory that agrees with the trail.
-pub settled_here : (t : Files) (project : ProjectSettings) (request : Request) (o : Outcome) → Settles o.verdict o.trail (verdict project request) → AgreeWith (same_files t) o.trail → o ≡ request_outcome t project request
+pub settled_here : (t : Files) (project : ProjectSettings) (request : Request) (o : Outcome) →
+    Settles o.verdict o.trail (verdict project request) → AgreeWith (same_files t) o.trail →
+    o ≡ request_outcome t project request
 unfolding request_outcome
 settled_here t project request o settled agree =
     let here = agree t (same_files-refl t) in

@@ -12,7 +12,8 @@ use Rattle.resolve_stack.specs.Through.{IsFound}
 use Rattle.resolve_stack.specs.Verdict.{verdict}
 
 -- A call decides a request of a project over a tree.
-pub record Decides (project : ProjectSettings) (request : Request) (old new : TreeState) (result : Result Outcome ImportError) : Type 0 where
+pub record Decides (project : ProjectSettings) (request : Request) (old new : TreeState)
+    (result : Result Outcome ImportError) : Type 0 where
   -- The verdict and the trail are those of the order on each tree that agrees with the trail.
   pub settled : IfOk result (λ o. Settles o.verdict o.trail (verdict project request))
   -- Each tree that is stood for agrees with the trail.
@@ -25,7 +26,10 @@ pub record Decides (project : ProjectSettings) (request : Request) (old new : Tr
   pub cause : HasCause old.faults new.faults (as_read result)
   -- The tree was asked once for each question of the trail.
   pub put : IfOk result (λ o. new.questions ≡ put_times (length o.trail) old.questions)
-  -- A fault refused one of the order's questions: the tree was asked once for each question before it and once for that one, and where the tree tells a question, it is that one.
-  pub fails : IsErrOf result TreeFault → EndsInFault old.stands_for old.questions new.questions new.told (verdict project request)
+  -- A fault refused one of the order's questions: the tree was asked once for each question before it and once for
+  -- that one, and where the tree tells a question, it is that one.
+  pub fails : IsErrOf result TreeFault →
+      EndsInFault old.stands_for old.questions new.questions new.told (verdict project request)
   -- Where memory was wanting, the tree was asked as often as there are different questions before, or once more.
-  pub starves : IsErrOf result NoMemory → EndsStarved old.stands_for old.questions new.questions (verdict project request)
+  pub starves : IsErrOf result NoMemory →
+      EndsStarved old.stands_for old.questions new.questions (verdict project request)

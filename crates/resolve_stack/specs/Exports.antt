@@ -1,6 +1,8 @@
--- The exports of a bound package: which file of it a subpath means, where the project gives conditions (after "Package entry points" of Node).
+-- The exports of a bound package: which file of it a subpath means, where the project gives conditions (after "Package
+-- entry points" of Node).
 -- A `do` here is over plans: a plan puts its questions, and the next one goes on by what it came to.
-use Rattle.std.specs.Prelude.{ℕ, Bool, if◌then◌else◌, List, [], ◌++◌, Option, Some, None, option_and_then, unwrap_or, Result, Ok, Err, codes}
+use Rattle.std.specs.Prelude.{ℕ, Bool, if◌then◌else◌, List, [], ◌++◌, Option, Some, None, option_and_then, unwrap_or}
+use Rattle.std.specs.Prelude.{Result, Ok, Err, codes}
 use Rattle.std.specs.Str.Lossy.{utf8_lossy}
 use Rattle.serde_json.specs.Data.{Members}
 use Rattle.std.specs.Borrow.{Bor}

@@ -1,5 +1,6 @@
 -- How the tree's errors become those of the top call, and back; and where a request breaks off.
-use Rattle.std.specs.Prelude.{◌≡◌, ℕ, suc, Bool, IsTrue, List, [], ◌∷◌, ◌++◌, length, Option, None, IfSome, Result, Ok, Err}
+use Rattle.std.specs.Prelude.{◌≡◌, ℕ, suc, Bool, IsTrue, List, [], ◌∷◌, ◌++◌, length, Option, None, IfSome, Result, Ok}
+use Rattle.std.specs.Prelude.{Err}
 use Rattle.tree_core.specs.declared.question.Question.{Question}
 use Rattle.tree_core.specs.Question.{reply_in}
 use Rattle.tree_core.specs.Tree.{Files, recorded, put_times}
@@ -23,7 +24,8 @@ abbrev pub as_read : {A : Type 0} → Result A ImportError → Result A ReadErro
 as_read (Ok a) = Ok a
 as_read (Err e) = Err (read_error e)
 
--- Where a fault stands, on a tree: the refused question is one of the plan's, which those before it do not have. The tree was asked once for each of those, and once for this one; and where it tells a question, it is this one.
+-- Where a fault stands, on a tree: the refused question is one of the plan's, which those before it do not have. The
+-- tree was asked once for each of those, and once for this one; and where it tells a question, it is this one.
 pub record FaultAt {A : Type 0} (t : Files) (before now : ℕ) (told : Option Question) (plan : Plan A) : Type 0 where
   pub put : List Question
   pub next : Question
@@ -34,10 +36,12 @@ pub record FaultAt {A : Type 0} (t : Files) (before now : ℕ) (told : Option Qu
   pub told_is : IfSome told (λ q. q ≡ next)
 
 -- A fault stands so on each tree that is stood for.
-pub record EndsInFault {A : Type 0} (stands_for : Files → Bool) (before now : ℕ) (told : Option Question) (plan : Plan A) : Type 0 where
+pub record EndsInFault {A : Type 0} (stands_for : Files → Bool) (before now : ℕ) (told : Option Question)
+    (plan : Plan A) : Type 0 where
   pub on : (t : Files) → IsTrue (stands_for t) → FaultAt t before now told plan
 
--- Where want of memory ended the plan, on a tree: behind some of its questions. The tree was asked once for each different one of those, and at most once more.
+-- Where want of memory ended the plan, on a tree: behind some of its questions. The tree was asked once for each
+-- different one of those, and at most once more.
 pub record StarvedAt {A : Type 0} (t : Files) (before now : ℕ) (plan : Plan A) : Type 0 where
   pub put : List Question
   pub left : List Question

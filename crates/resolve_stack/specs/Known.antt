@@ -1,6 +1,9 @@
--- The order where manifests are known beforehand. No public clause of a free call names it: it comes to what the order comes to.
--- A `do` here is over plans: a plan puts its questions, and the next one goes on by what it came to. By `>>=?` a refusal ends them all.
-use Rattle.std.specs.Prelude.{◌≡◌, ℕ, Bool, false, IsTrue, if◌then◌else◌, bytes_eq, List, [], ◌∷◌, Option, Some, None, Result, Ok}
+-- The order where manifests are known beforehand. No public clause of a free call names it: it comes to what the order
+-- comes to.
+-- A `do` here is over plans: a plan puts its questions, and the next one goes on by what it came to. By `>>=?` a
+-- refusal ends them all.
+use Rattle.std.specs.Prelude.{◌≡◌, ℕ, Bool, false, IsTrue, if◌then◌else◌, bytes_eq, List, [], ◌∷◌, Option, Some, None}
+use Rattle.std.specs.Prelude.{Result, Ok}
 use Rattle.std.specs.FinMap.{get}
 use Rattle.std.specs.List.{AllByRecursion}
 use Rattle.sugar_path.specs.Path.{Path, path_eq}
@@ -50,12 +53,14 @@ read_by known file = do
   content ← read file
   Done (known_or_read (known_at known file) file content)
 
-abbrev pub manifest_in_by : List ReadManifest → ProjectSettings → Request → Option Path → Row Contents Resolution JoinRefusal
+abbrev pub manifest_in_by : List ReadManifest → ProjectSettings → Request → Option Path →
+    Row Contents Resolution JoinRefusal
 manifest_in_by known project request None = ends_by (node_rows_of project request)
 manifest_in_by known project request (Some file) = refuses_by (read_by known file)
 
 -- the manifest that is nearest to the importer
-unfoldable pub nearest_manifest_by : List ReadManifest → ProjectSettings → Request → List ℕ → Row Contents Resolution JoinRefusal
+unfoldable pub nearest_manifest_by : List ReadManifest → ProjectSettings → Request → List ℕ →
+    Row Contents Resolution JoinRefusal
 nearest_manifest_by known project request base = do
   found ← nearest (path_of project base)
   manifest_in_by known project request found
@@ -71,7 +76,8 @@ abbrev pub join_order_by : List ReadManifest → ProjectSettings → Order JoinR
 join_order_by known project base specifier = join_by known project (asked_for base specifier)
 
 -- the order of a project
-abbrev pub project_order_by : List ReadManifest → ProjectSettings → Request → Plan (Result Resolution (TsRefusal JoinRefusal))
+abbrev pub project_order_by : List ReadManifest → ProjectSettings → Request →
+    Plan (Result Resolution (TsRefusal JoinRefusal))
 project_order_by known project request =
     behind_mapping project.mapping (join_order_by known project) request.importer request.specifier
 
@@ -82,7 +88,7 @@ verdict_by known project request = do
   Done (verdict_of result)
 
 -- what the join hangs on where manifests are known
-pub record KnownProject : Type 0 where
+pub record KnownSettings : Type 0 where
   pub project : ProjectSettings
   pub known : List ReadManifest
 

@@ -1,5 +1,7 @@
--- What the order comes to on a tree, and which questions it puts, as plain functions of the tree: the laws by which a reader checks the plans.
--- A `do` here is over what is told of rows: it goes on with what a row gives, and ends by the first that ends the order.
+-- What the order comes to on a tree, and which questions it puts, as plain functions of the tree: the laws by which a
+-- reader checks the plans.
+-- A `do` here is over what is told of rows: it goes on with what a row gives, and ends by the first that ends the
+-- order.
 use Rattle.std.specs.Prelude.{◌≡◌, if◌then◌else◌, ℕ, Bool, true, false, List, [], Option, Some, None, Result, Ok, Err}
 use Rattle.serde_json.specs.Data.{Members}
 use Rattle.sugar_path.specs.Path.{Path, clean, text_of}
@@ -38,7 +40,8 @@ use Rattle.resolve_stack.specs.declared.verdict.Verdict.{Verdict}
 use Rattle.resolve_stack.specs.Exports.{export_key, exports_in_content, file_or_not_found, target_text}
 use Rattle.resolve_stack.specs.Settings.{ProjectSettings, path_of}
 use Rattle.resolve_stack.specs.Request.{Request, asked_for}
-use Rattle.resolve_stack.specs.Rows.{of_node, bare_base, readable, identifier_of, bound_of, of_fault, folder_of, exported_file, contained, via_of, is_told_relative}
+use Rattle.resolve_stack.specs.Rows.{of_node, bare_base, readable, identifier_of, bound_of, of_fault, folder_of}
+use Rattle.resolve_stack.specs.Rows.{exported_file, contained, via_of, is_told_relative}
 use Rattle.resolve_stack.specs.Order.{join}
 use Rattle.resolve_stack.specs.Verdict.{verdict_of, verdict}
 
@@ -90,7 +93,8 @@ bare_target_on t project base target =
     else ends_on (made (widened of_node) (search_on t project.node base target))
 
 -- the location of the bound package, or the first check that refuses the binding
-abbrev pub checked_on : Files → ProjectSettings → Contents → PackageLocator → List ℕ → PackageLocator → Told (Result (List ℕ) JoinRefusal)
+abbrev pub checked_on : Files → ProjectSettings → Contents → PackageLocator → List ℕ → PackageLocator →
+    Told (Result (List ℕ) JoinRefusal)
 checked_on t project manifest asking name bound =
     made (widened (of_fault bound)) (location_on t project.lock manifest asking name bound)
 
@@ -117,7 +121,8 @@ target_file_on t location key None = unasked (Err (NotExported (text_of location
 target_file_on t location key (Some target) = closed_file_on t (target_text location target)
 
 -- the file that exports mean by a key
-abbrev pub file_by_exports_on : Files → List (List ℕ) → Path → List ℕ → Option Members → Told (Result (Option Path) JoinRefusal)
+abbrev pub file_by_exports_on : Files → List (List ℕ) → Path → List ℕ → Option Members →
+    Told (Result (Option Path) JoinRefusal)
 file_by_exports_on t conditions location key None = unasked (Ok None)
 file_by_exports_on t conditions location key (Some exports) =
     target_file_on t location key (exported exports key conditions)
@@ -182,7 +187,8 @@ abbrev pub join_tells : Files → ProjectSettings → Tells JoinRefusal
 join_tells t project base s = join_on t project (asked_for base s)
 
 -- what an order tells behind a mapping
-abbrev pub behind_mapping_on : {X : Type 0} → Option Mapping → Tells X → FileName → List ℕ → Told (Result Resolution (TsRefusal X))
+abbrev pub behind_mapping_on : {X : Type 0} → Option Mapping → Tells X → FileName → List ℕ →
+    Told (Result Resolution (TsRefusal X))
 behind_mapping_on None inner base s = made (widened Inner) (inner base s)
 behind_mapping_on (Some mapping) inner base s = mapped_on inner (mapped mapping base s)
 

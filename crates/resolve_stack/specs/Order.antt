@@ -1,5 +1,7 @@
--- The order of search: how a request ends on a tree, as a plan of questions. `join_rows` is one text over the join rows of docs/ORDER.md, in their order; the rows stand in Rows.antt.
--- A `do` here is over rows, which are plans of results: the next row goes on with what a row gives, and a row's error ends them all.
+-- The order of search: how a request ends on a tree, as a plan of questions. `join_rows` is one text over the join
+-- rows of docs/ORDER.md, in their order; the rows stand in Rows.antt.
+-- A `do` here is over rows, which are plans of results: the next row goes on with what a row gives, and a row's error
+-- ends them all.
 use Rattle.std.specs.Prelude.{Result}
 use Rattle.tree_core.specs.Plan.{Plan}
 use Rattle.tree_core.specs.Rows.{Row, order, decided, refuses_by}
@@ -10,7 +12,9 @@ use Rattle.resolver_core.specs.Mapping.{Order}
 use Rattle.resolve_stack.specs.declared.verdict.JoinRefusal.{JoinRefusal}
 use Rattle.resolve_stack.specs.Settings.{ProjectSettings, path_of}
 use Rattle.resolve_stack.specs.Request.{Request, asked_for}
-use Rattle.resolve_stack.specs.Rows.{or_node_rows, bare_base, nearest_manifest, owner_of, bare_target, identifier_of, bound_of, checked_row, folder_of, exported_file, found_at, unless_ignored, contained, via_of, answered_through}
+use Rattle.resolve_stack.specs.Rows.{or_node_rows, bare_base, nearest_manifest, owner_of, bare_target, identifier_of}
+use Rattle.resolve_stack.specs.Rows.{bound_of, checked_row, folder_of, exported_file, found_at, unless_ignored}
+use Rattle.resolve_stack.specs.Rows.{contained, via_of, answered_through}
 
 abbrev pub join_rows : ProjectSettings → Request → Row Resolution Resolution JoinRefusal
 join_rows project request = do

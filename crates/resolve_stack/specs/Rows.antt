@@ -1,4 +1,5 @@
--- The rows of the order of search, as docs/ORDER.md lists the join rows. A row gives what the next one goes on with, or ends the order.
+-- The rows of the order of search, as docs/ORDER.md lists the join rows. A row gives what the next one goes on with,
+-- or ends the order.
 -- A `do` here is over plans: a plan puts its questions, and the next one goes on by what it came to.
 use Rattle.std.specs.Prelude.{ℕ, Bool, ◌&&◌, if◌then◌else◌, List, Option, Some, None, ok_or, Result, Ok, Err}
 use Rattle.sugar_path.specs.Path.{Path, text_of, below}
@@ -35,7 +36,11 @@ use Rattle.lock_checks.specs.declared.fault.EdgeFault.{EdgeFault}
 use Rattle.lock_checks.specs.declared.fault.EdgeFault.TheVariants as edge_fault
 use Rattle.lock_checks.specs.Checks.{checked_location}
 use Rattle.resolve_stack.specs.declared.verdict.JoinRefusal.{JoinRefusal}
-use Rattle.resolve_stack.specs.declared.verdict.JoinRefusal.TheVariants.{BadSpecifier, FailedManifestHydration, UndeclaredDependency, MissingPeerDependency, NotInRegistry, NotLocked, MalformedPackage, OutOfRange, Archive, Outside, NotFound, BaseNotAFile}
+use Rattle.resolve_stack.specs.declared.verdict.JoinRefusal.TheVariants.{BadSpecifier, FailedManifestHydration}
+use Rattle.resolve_stack.specs.declared.verdict.JoinRefusal.TheVariants.{UndeclaredDependency, MissingPeerDependency}
+use Rattle.resolve_stack.specs.declared.verdict.JoinRefusal.TheVariants.{NotInRegistry, NotLocked, MalformedPackage}
+use Rattle.resolve_stack.specs.declared.verdict.JoinRefusal.TheVariants.{OutOfRange, Archive, Outside, NotFound}
+use Rattle.resolve_stack.specs.declared.verdict.JoinRefusal.TheVariants.{BaseNotAFile}
 use Rattle.resolve_stack.specs.Settings.{ProjectSettings, path_of}
 use Rattle.resolve_stack.specs.Request.{Request}
 use Rattle.resolve_stack.specs.Exports.{export_key, file_under}
@@ -102,7 +107,8 @@ abbrev pub identifier_of : List ℕ → Result (List ℕ × Option (List ℕ)) J
 identifier_of target = ok_or (split_bare target) (BadSpecifier target)
 
 -- what the name is bound to; where nothing binds it, whether it is a peer that nobody provides, or isn't declared
-abbrev pub bound_or_refused : Contents → PackageLocator → Path → List ℕ → List ℕ → Binding → Result PackageLocator JoinRefusal
+abbrev pub bound_or_refused : Contents → PackageLocator → Path → List ℕ → List ℕ → Binding →
+    Result PackageLocator JoinRefusal
 bound_or_refused manifest asking importer target name (Bound locator) = Ok locator
 bound_or_refused manifest asking importer target name MissingPeer =
     Err (MissingPeerDependency (missing_peer manifest asking target name (text_of importer)))
@@ -121,20 +127,25 @@ of_fault bound edge_fault.NotLocked = NotLocked bound.name bound.reference
 of_fault bound (edge_fault.MalformedPackage path) = MalformedPackage path
 of_fault bound (edge_fault.OutOfRange range version) = OutOfRange range version
 
--- Join rows 7 and 8: the location of the bound package's row, where the lock, if there is one, allows the binding of the name
-abbrev pub checked_row : ProjectSettings → Contents → PackageLocator → List ℕ → PackageLocator → Plan (Result (List ℕ) JoinRefusal)
-checked_row project manifest asking name bound = raised (of_fault bound) (checked_location project.lock manifest asking name bound)
+-- Join rows 7 and 8: the location of the bound package's row, where the lock, if there is one, allows the binding of
+-- the name
+abbrev pub checked_row : ProjectSettings → Contents → PackageLocator → List ℕ → PackageLocator →
+    Plan (Result (List ℕ) JoinRefusal)
+checked_row project manifest asking name bound =
+    raised (of_fault bound) (checked_location project.lock manifest asking name bound)
 
 -- Join row 9: the physical place of the location; one inside an archive is refused as the row says it.
 abbrev pub folder_of : List ℕ → Result Path JoinRefusal
 folder_of location = ok_or (physical_place location) (Archive location)
 
--- The end of join row 11: a file, and whether a rule for browsers led to it. One that a rule hides ends the order by its name.
+-- The end of join row 11: a file, and whether a rule for browsers led to it. One that a rule hides ends the order by
+-- its name.
 abbrev pub unless_ignored : Placed → Row (Path × Bool) Resolution JoinRefusal
 unless_ignored (File f rewritten) = Done (Ok (f, rewritten))
 unless_ignored (Ignored name) = Done (Err (Ok (custom name)))
 
--- Join row 10, where conditions are given: the file that the package's exports mean by the subpath, and none where it has no exports
+-- Join row 10, where conditions are given: the file that the package's exports mean by the subpath, and none where it
+-- has no exports
 abbrev pub exported_file : ProjectSettings → Path → Option (List ℕ) → Plan (Result (Option Path) JoinRefusal)
 exported_file project folder subpath = file_under project.conditions folder (export_key folder subpath)
 

@@ -17,7 +17,8 @@ use Rattle.resolver_core.specs.Pattern.{patterns_of}
 use Rattle.resolve_stack.specs.declared.project.Settings.{Settings}
 use Rattle.resolve_stack.specs.declared.project.TsSettings.{TsSettings}
 use Rattle.resolve_stack.specs.declared.project.ProjectError.{ProjectError}
-use Rattle.resolve_stack.specs.declared.project.ProjectError.TheVariants.{SettingsFault, EmptyTargets, TwoWildcards, ExactNeedsOne, LockParser, NoMemory}
+use Rattle.resolve_stack.specs.declared.project.ProjectError.TheVariants.{SettingsFault, EmptyTargets, TwoWildcards}
+use Rattle.resolve_stack.specs.declared.project.ProjectError.TheVariants.{ExactNeedsOne, LockParser, NoMemory}
 
 -- settings as they are given, with the aliases as pairs
 pub record GivenSettings : Type 0 where

@@ -40,27 +40,30 @@ IsHeldBy t None contents asking name bound = Unit {0}
 IsHeldBy t (Some lock) contents asking name bound =
     is_workspace bound.reference ≡ false → IsLocked t lock contents asking name bound
 
--- The importer is a path. The manifest nearest to it says who owns it, and the owner's row, or an allowed fallback, binds the name asked for (that of the specifier's alias, where it has one) to the package whose row has a location with this physical place. The file lies below it.
-pub record ThroughRow (t : Files) (project : ProjectSettings) (request : Request) (file : List ℕ) (v : Via) : Type 0 where
-  pub importer : List ℕ
-  pub manifest : Path
-  pub contents : Contents
-  pub asking : PackageLocator
-  pub name : List ℕ
-  pub subpath : Option (List ℕ)
-  pub location : List ℕ
-  pub folder : Path
-  pub from : request.importer ≡ Real importer
-  pub nearest : (nearest_on t (clean project.node.cwd importer)).result ≡ Some manifest
-  pub reads : (loaded_on t manifest).result ≡ Ok contents
-  pub owns : owner contents (clean project.node.cwd importer) ≡ Some asking
-  pub names : split_bare (alias_of project.node request.specifier) ≡ Some (name, subpath)
-  pub binds : bind contents asking name ≡ Bound (locator v.name v.reference)
-  pub row : location_of contents (locator v.name v.reference) ≡ Some location
-  pub locked : IsHeldBy t project.lock contents asking name (locator v.name v.reference)
-  pub place : physical_place location ≡ Some folder
-  pub told : v.location ≡ text_of folder
-  pub lies : LiesBelow file v.location
+-- The importer is a path. The manifest nearest to it says who owns it, and the owner's row, or an allowed fallback,
+-- binds the name asked for (that of the specifier's alias, where it has one) to the package whose row has a location
+-- with this physical place. The file lies below it.
+pub record ThroughRow (t : Files) (project : ProjectSettings) (request : Request) (file : List ℕ) (v : Via) : Type 0
+  where
+    pub importer : List ℕ
+    pub manifest : Path
+    pub contents : Contents
+    pub asking : PackageLocator
+    pub name : List ℕ
+    pub subpath : Option (List ℕ)
+    pub location : List ℕ
+    pub folder : Path
+    pub from : request.importer ≡ Real importer
+    pub nearest : (nearest_on t (clean project.node.cwd importer)).result ≡ Some manifest
+    pub reads : (loaded_on t manifest).result ≡ Ok contents
+    pub owns : owner contents (clean project.node.cwd importer) ≡ Some asking
+    pub names : split_bare (alias_of project.node request.specifier) ≡ Some (name, subpath)
+    pub binds : bind contents asking name ≡ Bound (locator v.name v.reference)
+    pub row : location_of contents (locator v.name v.reference) ≡ Some location
+    pub locked : IsHeldBy t project.lock contents asking name (locator v.name v.reference)
+    pub place : physical_place location ≡ Some folder
+    pub told : v.location ≡ text_of folder
+    pub lies : LiesBelow file v.location
 
 abbrev pub IsFoundVia : Files → ProjectSettings → Request → List ℕ → Option Via → Type 0
 IsFoundVia t project request file None = Unit {0}
@@ -71,12 +74,14 @@ IsFoundFrom t project request None = Unit {0}
 IsFoundFrom t project request (Some found) = IsFoundVia t project request found.file found.via
 
 -- What is made of the first inner request of a mapping that the join answers was found by that request.
-pub record IsFoundByTry (t : Files) (project : ProjectSettings) (mapping : Mapping) (request : Request) (r : Resolution) : Type 0 where
+pub record IsFoundByTry (t : Files) (project : ProjectSettings) (mapping : Mapping) (request : Request)
+    (r : Resolution) : Type 0 where
   pub first : IsFirstAnswer (tells_on t (join_order project))
       (tries_in (mapped mapping request.importer request.specifier)) r
   pub found : IsFoundFrom t project (asked_for first.by.base first.by.specifier) r.found
 
--- Behind a mapping the inner request that decides says by what, and for what, it was found, or no file is told. Without one it is the request itself.
+-- Behind a mapping the inner request that decides says by what, and for what, it was found, or no file is told.
+-- Without one it is the request itself.
 abbrev pub IsFoundBehind : Files → ProjectSettings → Option Mapping → Request → Resolution → Type 0
 IsFoundBehind t project None request r = IsFoundFrom t project request r.found
 IsFoundBehind t project (Some mapping) request r =

@@ -4,7 +4,8 @@ ghost use Rattle.std.specs.Option.{option_copied};
 ghost use Rattle.tree_core.specs.Resolving.{Resolves, IsDecided};
 ghost use Rattle.deno_package_json.specs.Package.{package_of};
 ghost use Rattle.sugar_path.specs.Path.{Path};
-ghost use Rattle.resolve_stack.specs.Exports.{export_key, exports_at, exports_in_content, exports_seen, file_by_exports, file_under, closed_file, target_text, without_dot_slash};
+ghost use Rattle.resolve_stack.specs.Exports.{export_key, exports_at, exports_in_content, exports_seen};
+ghost use Rattle.resolve_stack.specs.Exports.{file_by_exports, file_under, closed_file, target_text, without_dot_slash};
 ghost use Rattle.resolve_stack.specs.Rows.{exported_file};
 ghost use Rattle.resolve_stack.specs.declared.verdict.JoinRefusal.TheVariants.{NotFound};
 
@@ -16,8 +17,8 @@ use sugar_path::{Bytes, CleanPath, Text};
 use swc_loader::{is_closed, text_behind};
 use tree_core::{Asker, ResolveError};
 
-// The file that the exports of the package at a location mean by a subpath, under the project's conditions. None where the
-// project has no conditions or the package no exports.
+// The file that the exports of the package at a location mean by a subpath, under the project's conditions. None where
+// the project has no conditions or the package no exports.
 pub(crate) fn exported_file<R: Asker>(
     alloc: Global,
     tree: &mut R,

@@ -11,8 +11,7 @@ ghost use Rattle.resolve_stack.specs.Request.{asked_for, request_of};
 ghost use Rattle.resolver_core.specs.declared.refusal.TsRefusal.TheVariants.{Inner};
 
 use crate::join::join;
-use crate::kept::KeptManifest;
-use crate::pnp_resolver::KnownJoin;
+use crate::pnp_resolver::{KnownJoin, KnownProject};
 use crate::request::Request;
 use crate::{JoinRefusal, KeptReadings, Outcome, Project, Refusal, Resolver, Verdict};
 use resolver_core::TsRefusal;
@@ -46,7 +45,8 @@ impl From<ReadError> for ImportError {
     }
 }
 
-/// Which file a specifier means, asked from an importer of the project: the verdict of the order of search, with the trail that decides it.
+/// Which file a specifier means, asked from an importer of the project: the verdict of the order of search, with the
+/// trail that decides it.
 pub fn resolve_import<T: Tree>(
     alloc: Global,
     tree: &mut T,
@@ -60,7 +60,8 @@ pub fn resolve_import<T: Tree>(
     Resolver::new(alloc, project).resolve_import(alloc, tree, importer, specifier)
 }
 
-/// The same, with what earlier requests, of any project over any tree, have read. It changes no answer and no trail.
+/// The outcome of a request, with what earlier requests, of any project over any tree, have read. That changes no
+/// answer and no trail.
 pub fn resolve_import_with<T: Tree>(
     alloc: Global,
     tree: &mut T,
@@ -73,28 +74,31 @@ pub fn resolve_import_with<T: Tree>(
         (T.state tree.old) (T.state tree.new) result }
 {
     let nothing = Vec::new(alloc);
+    let known = KnownProject {
+        project,
+        known: nothing.as_slice(),
+    };
     let request = Request {
         importer,
         specifier,
     };
-    import_by(alloc, tree, project, nothing.as_slice(), kept, &request)
+    import_by(alloc, tree, &known, kept, &request)
 }
 
-// The same, where manifests are known of a tree that is stood for.
+// The outcome of a request, where manifests are known of a tree that is stood for.
 pub(crate) fn import_by<T: Tree>(
     alloc: Global,
     tree: &mut T,
-    project: &Project<'_>,
-    known: &[KeptManifest],
+    known: &KnownProject<'_, '_, '_>,
     kept: &mut KeptReadings,
     request: &Request<'_>,
 ) -> Result<Outcome, ImportError>
-    requires { AreRight (T.state tree.old).stands_for known.now }
-    ensures { Decides project.now (request_of request.now)
+    requires { AreRight (T.state tree.old).stands_for known.now.known.now }
+    ensures { Decides known.now.project.now (request_of request.now)
         (T.state tree.old) (T.state tree.new) result }
 {
     let mut recorder = Recorder::new(alloc, tree);
-    let decided = decide_with(alloc, &mut recorder, project, known, kept, request);
+    let decided = decide_with(alloc, &mut recorder, known, kept, request);
     let (trail, tree) = recorder.into_parts();
     let _end = tree;
     Ok(Outcome {
@@ -114,43 +118,42 @@ pub(crate) fn decide<T: Tree>(
         (verdict project.now (request_of request.now)) }
 {
     let nothing = Vec::new(alloc);
-    let mut kept = KeptReadings::new(alloc);
-    decide_by(alloc, tree, project, nothing.as_slice(), &mut kept, request)
+    let known = KnownProject {
+        project,
+        known: nothing.as_slice(),
+    };
+    decide_by(alloc, tree, &known, &mut KeptReadings::new(alloc), request)
 }
 
 // How the request ends, which known manifests of a tree that is stood for don't change.
 fn decide_with<T: Tree>(
     alloc: Global,
     tree: &mut Recorder<'_, T>,
-    project: &Project<'_>,
-    known: &[KeptManifest],
+    known: &KnownProject<'_, '_, '_>,
     kept: &mut KeptReadings,
     request: &Request<'_>,
 ) -> Result<Verdict, ReadError>
-    requires { AreRight (asking_of tree.old).tree.stands_for known.now }
+    requires { AreRight (asking_of tree.old).tree.stands_for known.now.known.now }
     ensures { Asks (asking_of tree.old) (asking_of tree.new) result
-        (verdict project.now (request_of request.now)) }
+        (verdict known.now.project.now (request_of request.now)) }
 {
-    decide_by(alloc, tree, project, known, kept, request)
+    decide_by(alloc, tree, known, kept, request)
 }
 
 // How the request ends: a refusal of the order is a verdict too.
 fn decide_by<T: Tree>(
     alloc: Global,
     tree: &mut Recorder<'_, T>,
-    project: &Project<'_>,
-    known: &[KeptManifest],
+    known: &KnownProject<'_, '_, '_>,
     kept: &mut KeptReadings,
     request: &Request<'_>,
 ) -> Result<Verdict, ReadError>
     ensures { Asks (asking_of tree.old) (asking_of tree.new) result
-        (verdict_by known.now project.now (request_of request.now)) }
+        (verdict_by known.now.known.now known.now.project.now (request_of request.now)) }
 {
-    match by_order(alloc, tree, project, known, kept, request) {
+    match by_order(alloc, tree, known, kept, request) {
         Ok(resolution) => Ok(Verdict::Answered(resolution)),
-        Err(ResolveError::Refused(refusal)) => Ok(Verdict::Refused(refusal)),
-        Err(ResolveError::TreeFault) => Err(ReadError::Fault),
-        Err(ResolveError::NoMemory) => Err(ReadError::NoMemory),
+        Err(error) => Ok(Verdict::Refused(error.refusal()?)),
     }
 }
 
@@ -158,20 +161,19 @@ fn decide_by<T: Tree>(
 fn by_order<T: Tree>(
     alloc: Global,
     tree: &mut Recorder<'_, T>,
-    project: &Project<'_>,
-    known: &[KeptManifest],
+    known: &KnownProject<'_, '_, '_>,
     kept: &mut KeptReadings,
     request: &Request<'_>,
 ) -> Result<Resolution, ResolveError<Refusal>>
     ensures { Resolves (asking_of tree.old) (asking_of tree.new) result
-        (project_order_by known.now project.now (request_of request.now)) }
+        (project_order_by known.now.known.now known.now.project.now (request_of request.now)) }
 {
-    match project.mapping() {
+    match known.project.mapping() {
         Some(mapping) => {
-            let mut inner = KnownJoin::of(project, known, kept);
+            let mut inner = KnownJoin::of(*known, kept);
             mapping.resolve(alloc, tree, &mut inner, request.importer, request.specifier)
         }
-        None => inner_refusal(join(alloc, tree, project, known, kept, request)),
+        None => inner_refusal(join(alloc, tree, known, kept, request)),
     }
 }
 
@@ -183,10 +185,13 @@ fn inner_refusal(
 {
     match found {
         Ok(resolution) => Ok(resolution),
-        Err(ResolveError::Refused(refusal)) => {
-            Err(ResolveError::Refused(TsRefusal::Inner(refusal)))
-        }
-        Err(ResolveError::TreeFault) => Err(ResolveError::TreeFault),
-        Err(ResolveError::NoMemory) => Err(ResolveError::NoMemory),
+        Err(error) => Err(error.map_refused(of_inner)),
     }
+}
+
+// A refusal of the join, as that of an inner request.
+fn of_inner(refusal: JoinRefusal) -> Refusal
+    ensures { result ≡ Inner refusal }
+{
+    TsRefusal::Inner(refusal)
 }

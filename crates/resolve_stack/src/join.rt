@@ -1,5 +1,5 @@
-// The join: a bare specifier from a file, bound by the row of the package that owns the file. Where a row has nothing to go on
-// with, the node rows answer.
+// The join: a bare specifier from a file, bound by the row of the package that owns the file. Where a row has nothing
+// to go on with, the node rows answer.
 ghost use Rattle.std.specs.Prelude.{◌≡◌};
 ghost use Rattle.std.specs.Option.{option_copied};
 ghost use Rattle.tree_core.specs.Resolving.{Resolves};
@@ -13,10 +13,10 @@ ghost use Rattle.resolve_stack.specs.Rows.{node_rows_of};
 
 use crate::exports::exported_file;
 use crate::join_rows::{
-    Asking, bare_base, bound_of, checked_row, contained, folder_of, found_at, identifier_of,
-    raised, read_manifest,
+    Asking, Sought, bare_base, bound_of, checked_row, contained, folder_of, found_at,
+    identifier_of, raised, read_manifest,
 };
-use crate::kept::KeptManifest;
+use crate::pnp_resolver::KnownProject;
 use crate::request::Request;
 use crate::{JoinRefusal, KeptReadings, Project};
 use lock_checks::Edge;
@@ -31,14 +31,14 @@ use tree_core::{Asker, ResolveError};
 pub(crate) fn join<R: Asker>(
     alloc: Global,
     tree: &mut R,
-    project: &Project<'_>,
-    known: &[KeptManifest],
+    known: &KnownProject<'_, '_, '_>,
     kept: &mut KeptReadings,
     request: &Request<'_>,
 ) -> Result<Resolution, ResolveError<JoinRefusal>>
     ensures { Resolves (R.asking tree.old) (R.asking tree.new) result
-        (join_by known.now project.now (request_of request.now)) }
+        (join_by known.now.known.now known.now.project.now (request_of request.now)) }
 {
+    let KnownProject { project, known } = *known;
     let KeptReadings {
         manifests,
         packages,
@@ -168,8 +168,11 @@ fn join_bare<R: Asker>(
     };
     let location = checked_row(alloc, tree, packages, project, &edge)?;
     let folder = folder_of(alloc, asking.manifest, &locator, location)?;
-    let subpath = text_in(&subpath);
-    join_in_folder(alloc, tree, packages, project, locator, folder, subpath)
+    let sought = Sought {
+        folder,
+        subpath: text_in(&subpath),
+    };
+    join_in_folder(alloc, tree, packages, project, locator, &sought)
 }
 
 // A text that may be there, borrowed.
@@ -189,15 +192,15 @@ fn join_in_folder<R: Asker>(
     packages: &mut PackageReadings,
     project: &Project<'_>,
     locator: PackageLocator,
-    folder: &CleanPath,
-    subpath: Option<&str>,
+    sought: &Sought<'_, '_>,
 ) -> Result<Resolution, ResolveError<JoinRefusal>>
     ensures { Resolves (R.asking tree.old) (R.asking tree.new) result
-        (order (folder_rows project.now locator folder.now (option_copied subpath.entry))) }
+        (order (folder_rows project.now locator sought.now.folder.now (option_copied sought.now.subpath))) }
 {
+    let Sought { folder, subpath } = *sought;
     let exported = exported_file(alloc, tree, packages, project, folder, subpath)?;
     let readings = &mut packages.values;
-    let placed = found_at(alloc, tree, readings, project, folder, subpath, exported)?;
+    let placed = found_at(alloc, tree, readings, project, sought, exported)?;
     let (file, rewritten) = match placed {
         Placed::File { path, rewritten } => (path, rewritten),
         Placed::Ignored(name) => return Ok(Resolution::custom(name)),

@@ -25,14 +25,21 @@ use sugar_path::{CleanPath, Text};
 use swc_loader::{FileName, NodeRefusal, Placed, Readings, is_bare};
 use tree_core::{Asker, ResolveError};
 
-// An importer that asks for a bare specifier, as text and as path, the manifest nearest to it, and the package that owns it
-// there.
+// An importer that asks for a bare specifier, as text and as path, the manifest nearest to it, and the package that
+// owns it there.
 #[derive(Clone, Copy)]
 pub(crate) struct Asking<'a> {
     pub text: &'a str,
     pub path: &'a CleanPath,
     pub manifest: &'a Manifest,
     pub owner: &'a PackageLocator,
+}
+
+// What is sought in the folder of a package: the package itself, or a subpath of it.
+#[derive(Clone, Copy)]
+pub(crate) struct Sought<'f, 's> {
+    pub folder: &'f CleanPath,
+    pub subpath: Option<&'s str>,
 }
 
 // The path that a bare specifier is asked from, as it was written.
@@ -155,9 +162,7 @@ pub(crate) fn checked_row<'m, R: Asker>(
 {
     match checked_location(alloc, tree, packages, project.lock(), edge) {
         Ok(location) => Ok(location),
-        Err(ResolveError::Refused(fault)) => Err(refused_binding(alloc, edge.bound, fault)),
-        Err(ResolveError::TreeFault) => Err(ResolveError::TreeFault),
-        Err(ResolveError::NoMemory) => Err(ResolveError::NoMemory),
+        Err(error) => Err(refused_binding(alloc, edge.bound, error.refusal()?)),
     }
 }
 
@@ -221,14 +226,14 @@ pub(crate) fn found_at<R: Asker>(
     tree: &mut R,
     readings: &mut Readings,
     project: &Project<'_>,
-    folder: &CleanPath,
-    subpath: Option<&str>,
+    sought: &Sought<'_, '_>,
     exported: Option<CleanPath>,
 ) -> Result<Placed, ResolveError<JoinRefusal>>
     ensures { Resolves (R.asking tree.old) (R.asking tree.new) result
-        (rows.found_at project.now folder.now (option_copied subpath.entry) exported) }
+        (rows.found_at project.now sought.now.folder.now (option_copied sought.now.subpath) exported) }
 {
     let node = project.node();
+    let Sought { folder, subpath } = *sought;
     match exported {
         Some(file) => Ok(node.rewrite_at_with(alloc, tree, readings, file)?),
         None => raised(node.resolve_at_with(alloc, tree, readings, folder, subpath)),

@@ -1,5 +1,6 @@
 // What requests keep of what they have read.
-ghost use Rattle.std.specs.Prelude.{◌≡◌, ◌-◌, ◌&&◌, IsTrue, IfOk, OnOk, IfErr, IfSome, Some, Ok, Err, length, slice_get, bytes_eq};
+ghost use Rattle.std.specs.Prelude.{◌≡◌, ◌-◌, ◌&&◌, IsTrue, IfOk, OnOk, IfErr, IfSome, Some, Ok, Err, length};
+ghost use Rattle.std.specs.Prelude.{slice_get, bytes_eq};
 ghost use Rattle.std.specs.Option.{option_copied};
 ghost use Rattle.tree_core.specs.Tree.{Files, Agrees};
 ghost use Rattle.tree_core.specs.Resolving.{IsDecided, IsDecidedTo};
@@ -8,7 +9,7 @@ ghost use Rattle.pnp_core.specs.ManifestReading.{reading};
 ghost use Rattle.pnp_core.specs.Manifest.{Contents};
 ghost use Rattle.pnp_core.specs.Owner.{IsReady};
 ghost use Rattle.sugar_path.specs.Path.{path_eq, text_of};
-ghost use Rattle.resolve_stack.specs.Known.{IsReadFrom, StaysKnown, known_at};
+ghost use Rattle.resolve_stack.specs.Known.{AreKnownOn, IsReadFrom, StaysKnown, known_at};
 ghost use Rattle.resolve_stack.specs.Rows.{readable};
 
 use crate::JoinRefusal;
@@ -20,11 +21,14 @@ use std::mem;
 use sugar_path::{Bytes, CleanPath};
 use tree_core::{Question, Reply, ResolveError, Trail};
 
-// How many manifests are kept.
-const MOST: usize = 4;
+// How many bytes of manifests are kept where nothing else is said: 64 MiB.
+const MOST_BYTES: usize = 64 * 1024 * 1024;
 
-/// What requests have read: the last few manifests, and what package.jsons were read to. It changes no answer, so that requests
-/// of any projects over any trees can share it: each is used only where the bytes are those that were read.
+// How many manifests are kept at most: a look-up goes through their paths.
+const MOST: usize = 256;
+
+/// What requests have read: the latest manifests, and what package.jsons were read to. It changes no answer, so that
+/// requests of any projects over any trees can share it: each is used only where the bytes are those that were read.
 #[derive(Drop)]
 pub struct KeptReadings {
     pub(crate) manifests: KeptManifests,
@@ -32,10 +36,19 @@ pub struct KeptReadings {
 }
 
 impl KeptReadings {
-    /// Nothing is kept yet. It takes no memory.
+    /// Nothing is kept yet. It takes no memory. Of the manifests that will be read it keeps 64 MiB.
     pub fn new(alloc: Global) -> KeptReadings {
+        KeptReadings::within(alloc, MOST_BYTES)
+    }
+
+    /// Nothing is kept yet. It takes no memory. Of the manifests that will be read it keeps the latest, whose files
+    /// have at most so many bytes together; the very latest is kept whatever its size.
+    pub fn within(alloc: Global, most_bytes: usize) -> KeptReadings {
         KeptReadings {
-            manifests: KeptManifests::new(alloc),
+            manifests: KeptManifests {
+                latest: Vec::new(alloc),
+                most_bytes,
+            },
             packages: PackageReadings::new(alloc),
         }
     }
@@ -80,9 +93,7 @@ impl KeptManifest {
                 bytes,
                 manifest,
             }),
-            Err(ResolveError::Refused(cause)) => Err(failed_hydration(path, cause)),
-            Err(ResolveError::TreeFault) => Err(ResolveError::TreeFault),
-            Err(ResolveError::NoMemory) => Err(ResolveError::NoMemory),
+            Err(error) => Err(failed_hydration(path, error.refusal()?)),
         }
     }
 
@@ -122,6 +133,11 @@ impl KeptManifest {
         }
     }
 
+    // How many bytes its file has.
+    fn size(&self) -> usize {
+        self.bytes.as_slice().len()
+    }
+
     fn manifest(&self) -> &Manifest
         ensures same { result.now ≡ self.now.manifest }
         ensures read { IsReadFrom self.now }
@@ -134,6 +150,8 @@ impl KeptManifest {
 #[derive(Drop)]
 pub(crate) struct KeptManifests {
     latest: Vec<KeptManifest>,
+    // how many bytes their files have together at most
+    most_bytes: usize,
 }
 
 impl Model for KeptManifests {
@@ -143,10 +161,9 @@ impl Model for KeptManifests {
 }
 
 impl KeptManifests {
-    fn new(alloc: Global) -> KeptManifests {
-        KeptManifests {
-            latest: Vec::new(alloc),
-        }
+    // How many bytes their files have together at most.
+    pub(crate) fn most_bytes(&self) -> usize {
+        self.most_bytes
     }
 
     // Takes out all of them.
@@ -154,7 +171,8 @@ impl KeptManifests {
         mem::replace(&mut self.latest, Vec::new(alloc))
     }
 
-    // The manifest that a file with this content is. Only bytes that aren't kept for this path are parsed, and then kept.
+    // The manifest that a file with this content is. Only bytes that aren't kept for this path are parsed, and then
+    // kept.
     pub(crate) fn manifest_of(
         &mut self,
         alloc: Global,
@@ -171,7 +189,7 @@ impl KeptManifests {
             Some(read) => read,
             None => KeptManifest::read(alloc, file, bytes)?,
         };
-        put_last(&mut self.latest, read)?;
+        put_last(&mut self.latest, read, self.most_bytes)?;
         match self.latest.last() {
             Some(read) => Ok(read.manifest()),
             None => unreachable!(),
@@ -191,23 +209,57 @@ fn taken(latest: &mut Vec<KeptManifest>, path: &CleanPath, bytes: &Bytes) -> Opt
     None
 }
 
-// Makes room for a manifest: where there are as many as are kept, the first goes.
-pub(crate) fn make_room(latest: &mut Vec<KeptManifest>)
+// Makes room for a manifest of so many bytes: the first ones go, until the others and it are within the bounds.
+fn make_room(latest: &mut Vec<KeptManifest>, bytes: usize, most_bytes: usize)
     ensures { StaysKnown latest.old.items latest.new.items }
 {
-    if latest.len() >= MOST {
+    for _ in 0..surplus(latest.as_slice(), bytes, most_bytes) {
+        drop_first(latest);
+    }
+}
+
+// Takes out the first one, if there is one.
+fn drop_first(latest: &mut Vec<KeptManifest>)
+    ensures { StaysKnown latest.old.items latest.new.items }
+{
+    if latest.len() > 0 {
         let _first = latest.remove(0);
     }
 }
 
+// How many of the first have no room beside the later ones and a manifest of so many bytes.
+fn surplus(latest: &[KeptManifest], bytes: usize, most_bytes: usize) -> usize {
+    let mut held = bytes;
+    for later in 0..latest.len() {
+        held = held.saturating_add(latest[latest.len() - 1 - later].size());
+        if held > most_bytes || later >= MOST {
+            return latest.len() - later;
+        }
+    }
+    0
+}
+
 // Puts a manifest at the end.
-fn put_last(latest: &mut Vec<KeptManifest>, read: KeptManifest) -> Result<(), AllocError>
+fn put_last(
+    latest: &mut Vec<KeptManifest>,
+    read: KeptManifest,
+    most_bytes: usize,
+) -> Result<(), AllocError>
     ensures { OnOk result
         (slice_get latest.new.items (length latest.new.items - 1) ≡ Some read) }
 {
-    make_room(latest);
+    make_room(latest, read.size(), most_bytes);
     latest.push(read)?;
     Ok(())
+}
+
+// Puts a manifest that is known at the end; where memory is wanting, it isn't put.
+pub(crate) fn put_known(known: &mut Vec<KeptManifest>, read: KeptManifest, most_bytes: usize)
+    ensures { (t : Files) → (loaded_on t read.path).result ≡ Ok read.manifest
+        → AreKnownOn t known.old.items → AreKnownOn t known.new.items }
+{
+    make_room(known, read.size(), most_bytes);
+    let _put = known.push(read);
 }
 
 // The manifest that is known at a path.

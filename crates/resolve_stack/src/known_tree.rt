@@ -13,15 +13,16 @@ ghost use Rattle.resolve_stack.specs.Request.{asked_for};
 ghost use Rattle.resolve_stack.specs.declared.import.ImportError.TheVariants.{NoMemory};
 
 use crate::import::import_by;
-use crate::kept::{KeptManifest, make_room};
+use crate::kept::{KeptManifest, put_known};
+use crate::pnp_resolver::KnownProject;
 use crate::request::Request;
 use crate::{FileName, ImportError, KeptReadings, Outcome, Project};
 use std::alloc::Global;
 use std::marker::Model;
 use tree_core::{MemoryTree, PutError, Trail};
 
-/// A tree in memory that keeps what requests over it have read. Until the file of a manifest is put or removed, a further request over it
-/// neither reads nor compares the manifest's bytes.
+/// A tree in memory that keeps what requests over it have read. Until the file of a manifest is put or removed, a
+/// further request over it neither reads nor compares the manifest's bytes.
 #[derive(Drop)]
 pub struct KnownTree {
     tree: MemoryTree,
@@ -51,7 +52,7 @@ impl KnownTree {
         KnownTree::of(alloc, MemoryTree::new(alloc))
     }
 
-    /// The same tree, of which nothing is known yet.
+    /// A tree in memory as it is, of which nothing is known yet.
     pub fn of(alloc: Global, tree: MemoryTree) -> KnownTree
         ensures { result ≡ tree }
     {
@@ -95,8 +96,8 @@ impl KnownTree {
         was
     }
 
-    /// Which file a specifier means, asked from an importer of a project: the verdict of the order of search, with the trail that
-    /// decides it. The files stay as they are.
+    /// Which file a specifier means, asked from an importer of a project: the verdict of the order of search, with the
+    /// trail that decides it. The files stay as they are.
     pub fn resolve_import(
         &mut self,
         alloc: Global,
@@ -116,14 +117,11 @@ impl KnownTree {
             importer,
             specifier,
         };
-        let outcome = import_by(
-            alloc,
-            &mut self.tree,
+        let known = KnownProject {
             project,
-            self.known.as_slice(),
-            &mut self.kept,
-            &request,
-        )?;
+            known: self.known.as_slice(),
+        };
+        let outcome = import_by(alloc, &mut self.tree, &known, &mut self.kept, &request)?;
         learn(alloc, &mut self.known, &mut self.kept, &outcome.trail);
         Ok(outcome)
     }
@@ -158,18 +156,24 @@ fn learn(alloc: Global, known: &mut Vec<KeptManifest>, kept: &mut KeptReadings, 
     ensures { (t : Files) → Agrees t trail.now
         → AreKnownOn t known.old.items → AreKnownOn t known.new.items }
 {
+    let most_bytes = kept.manifests.most_bytes();
     for read in kept.manifests.take_all(alloc) {
-        note(alloc, known, read, trail);
+        note(alloc, known, read, trail, most_bytes);
     }
 }
 
-// The same of one manifest. Where as many are known as are kept, the first is forgotten; where memory is wanting, the one is.
-fn note(alloc: Global, known: &mut Vec<KeptManifest>, read: KeptManifest, trail: &Trail)
+// A manifest that was read is known where a trail has it.
+fn note(
+    alloc: Global,
+    known: &mut Vec<KeptManifest>,
+    read: KeptManifest,
+    trail: &Trail,
+    most_bytes: usize,
+)
     ensures { (t : Files) → Agrees t trail.now
         → AreKnownOn t known.old.items → AreKnownOn t known.new.items }
 {
     if read.is_replied(alloc, trail) {
-        make_room(known);
-        let _noted = known.push(read);
+        put_known(known, read, most_bytes);
     }
 }

@@ -3,9 +3,9 @@ ghost use Rattle.std.specs.Prelude.{◌≡◌};
 ghost use Rattle.tree_core.specs.Resolving.{Resolves};
 ghost use Rattle.tree_core.specs.RecorderView.{asking_of};
 ghost use Rattle.resolver_core.specs.Resolving.{IsRefused};
-ghost use Rattle.resolve_stack.specs.Known.{KnownProject, join_order_by};
+ghost use Rattle.resolve_stack.specs.Known.{KnownSettings, join_order_by};
 ghost use Rattle.resolve_stack.specs.Order.{join_order};
-ghost use Rattle.resolve_stack.specs.ResolverView.{joined_project, known_project};
+ghost use Rattle.resolve_stack.specs.ResolverView.{joined_known, joined_project};
 ghost use Rattle.resolve_stack.specs.Settings.{ProjectSettings};
 
 use crate::join::join;
@@ -57,52 +57,50 @@ impl<'p, 'l> Resolve for PnpResolver<'p, 'l> {
         ensures same { joined_project self.new ≡ joined_project self.old }
     {
         let nothing = Vec::new(alloc);
+        let known = KnownProject {
+            project: self.project,
+            known: nothing.as_slice(),
+        };
         let request = Request {
             importer: base,
             specifier,
         };
-        join(
-            alloc,
-            tree,
-            self.project,
-            nothing.as_slice(),
-            &mut self.kept,
-            &request,
-        )
+        join(alloc, tree, &known, &mut self.kept, &request)
     }
+}
+
+// A project, and the manifests that are known beforehand.
+#[derive(Clone, Copy)]
+pub(crate) struct KnownProject<'k, 'p, 'l> {
+    pub project: &'p Project<'l>,
+    pub known: &'k [KeptManifest],
 }
 
 // The join of a project where manifests are known, with what is kept.
 #[derive(Drop)]
-pub(crate) struct KnownJoin<'k, 'p, 'l> {
-    project: &'p Project<'l>,
-    known: &'k [KeptManifest],
-    kept: &'k mut KeptReadings,
+pub(crate) struct KnownJoin<'r, 'k, 'p, 'l> {
+    known: KnownProject<'k, 'p, 'l>,
+    kept: &'r mut KeptReadings,
 }
 
-impl<'k, 'p, 'l> KnownJoin<'k, 'p, 'l> {
+impl<'r, 'k, 'p, 'l> KnownJoin<'r, 'k, 'p, 'l> {
     pub(crate) fn of(
-        project: &'p Project<'l>,
-        known: &'k [KeptManifest],
-        kept: &'k mut KeptReadings,
-    ) -> KnownJoin<'k, 'p, 'l>
-        ensures project { (known_project result).project ≡ project.now }
-        ensures known { (known_project result).known ≡ known.now }
+        known: KnownProject<'k, 'p, 'l>,
+        kept: &'r mut KeptReadings,
+    ) -> KnownJoin<'r, 'k, 'p, 'l>
+        ensures project { (joined_known result).project ≡ known.entry.project.now }
+        ensures known { (joined_known result).known ≡ known.entry.known.now }
     {
-        KnownJoin {
-            project,
-            known,
-            kept,
-        }
+        KnownJoin { known, kept }
     }
 }
 
-impl<'k, 'p, 'l> Resolve for KnownJoin<'k, 'p, 'l> {
+impl<'r, 'k, 'p, 'l> Resolve for KnownJoin<'r, 'k, 'p, 'l> {
     type Refusal = JoinRefusal;
 
-    ghost View = { KnownProject };
+    ghost View = { KnownSettings };
 
-    ghost view = { known_project };
+    ghost view = { joined_known };
 
     ghost order = { λ v. join_order_by v.known v.project };
 
@@ -117,6 +115,6 @@ impl<'k, 'p, 'l> Resolve for KnownJoin<'k, 'p, 'l> {
             importer: base,
             specifier,
         };
-        join(alloc, tree, self.project, self.known, self.kept, &request)
+        join(alloc, tree, &self.known, self.kept, &request)
     }
 }

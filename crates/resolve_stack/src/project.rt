@@ -31,8 +31,8 @@ pub struct Settings<'l> {
     pub ts: Option<TsSettings>,
     /// The text of a lock file: what it doesn't hold is refused.
     pub lock: Option<&'l str>,
-    /// The conditions under which the `exports` of a package that a manifest binds say which file a subpath means, in the
-    /// order in which they count. Without them `exports` are passed over.
+    /// The conditions under which the `exports` of a package that a manifest binds say which file a subpath means, in
+    /// the order in which they count. Without them `exports` are passed over.
     pub conditions: Option<List<Text>>,
 }
 

@@ -19,7 +19,8 @@ pub fn replay(
     specifier: &str,
     trail: &Trail,
 ) -> Result<Verdict, ReplayError>
-    // The trail has all questions that the order puts to a tree that agrees with it, or the question told is the first that it lacks.
+    // The trail has all questions that the order puts to a tree that agrees with it, or the question told is the first
+    // that it lacks.
     ensures replays { Replays result trail.now
         (verdict project.now (asked_for importer.now specifier.now)) }
     // The trail of an outcome gives its verdict again.

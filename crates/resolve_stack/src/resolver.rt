@@ -8,8 +8,8 @@ use std::alloc::Global;
 use std::marker::Model;
 use tree_core::Tree;
 
-/// A resolver of a project's requests. It keeps what its requests have read, so that a further one over the same manifest doesn't
-/// read it again; each answer and trail is that of a resolver that keeps nothing.
+/// A resolver of a project's requests. It keeps what its requests have read, so that a further one over the same
+/// manifest doesn't read it again; each answer and trail is that of a resolver that keeps nothing.
 #[derive(Drop)]
 pub struct Resolver<'p, 'l> {
     project: &'p Project<'l>,
@@ -29,14 +29,18 @@ impl<'p, 'l> Resolver<'p, 'l> {
     pub fn new(alloc: Global, project: &'p Project<'l>) -> Resolver<'p, 'l>
         ensures { result ≡ project.now }
     {
-        Resolver {
-            project,
-            kept: KeptReadings::new(alloc),
-        }
+        Resolver::keeping(project, KeptReadings::new(alloc))
     }
 
-    /// Which file a specifier means, asked from an importer of the project: the verdict of the order of search, with the trail that
-    /// decides it. After any call the resolver is fit for the next.
+    /// A resolver of this project over what earlier requests have read, which also says how much is kept.
+    pub fn keeping(project: &'p Project<'l>, kept: KeptReadings) -> Resolver<'p, 'l>
+        ensures { result ≡ project.now }
+    {
+        Resolver { project, kept }
+    }
+
+    /// Which file a specifier means, asked from an importer of the project: the verdict of the order of search, with
+    /// the trail that decides it. After any call the resolver is fit for the next.
     pub fn resolve_import<T: Tree>(
         &mut self,
         alloc: Global,

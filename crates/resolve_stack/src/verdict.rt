@@ -40,7 +40,8 @@ pub enum JoinRefusal {
         name: Text,
         reference: Text,
     },
-    /// A package.json that is needed, of the package that asks, or of one that is searched or whose exports count, isn't one.
+    /// A package.json that is needed, of the package that asks, or of one that is searched or whose exports count,
+    /// isn't one.
     #[error("{path} is malformed")]
     MalformedPackage {
         /// The clean path of the package.json.
@@ -79,8 +80,8 @@ pub enum JoinRefusal {
     /// The search found no file.
     #[error("nothing is found at {text}")]
     NotFound {
-        /// The text that was searched: the target, or the text behind a package's location that the subpath or the package's
-        /// exports give, and for the whole package that location's clean path.
+        /// The text that was searched: the target, or the text behind a package's location that the subpath or the
+        /// package's exports give, and for the whole package that location's clean path.
         text: Text,
     },
     /// What asks is no path, and the specifier needs one.

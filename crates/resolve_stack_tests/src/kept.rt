@@ -1,13 +1,13 @@
 // Requests that share what was read: an edited manifest is read anew, and so is one that is kept no longer.
 use crate::project::{found, importer, manifest, project_of, put_project, tree_of};
-use resolve_stack::{FileName, KnownTree, Project, Resolver};
+use resolve_stack::{FileName, KeptReadings, KnownTree, Project, Resolver};
 use std::alloc::Global;
 use std::test::Fail;
 use sugar_path::Text;
 use tree_core::MemoryTree;
 
-// Which project asks, step by step, and the package that its manifest binds then. More projects take turns than
-// manifests are kept. Those that bind one package are alike byte for byte, and say a location from their own folders.
+// Which project asks, step by step, and the package that its manifest binds then. The manifests of two or three projects
+// are kept. Those that bind one package are alike byte for byte, and say a location from their own folders.
 fn steps() -> &'static str {
     "/p0 one
 /p5 one
@@ -75,7 +75,8 @@ fn steps_that_find(
 #[test]
 fn projects_take_turns_and_are_edited(rt: HostRuntime) -> Result<(), Fail> {
     let project = project_of(rt.alloc())?;
-    let mut resolver = Resolver::new(rt.alloc(), &project);
+    let kept = KeptReadings::within(rt.alloc(), 1000);
+    let mut resolver = Resolver::keeping(&project, kept);
     let mut tree = MemoryTree::new(rt.alloc());
     assert_eq!(rt; steps_that_find(rt.alloc(), &mut resolver, &mut tree)?, 12);
     Ok(())

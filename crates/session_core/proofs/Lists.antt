@@ -1,5 +1,6 @@
 -- Lists of entries: what is found, filtered and cut off.
-use Rattle.std.proofs.Common.{◌≡◌, ◌≤◌, ◌+◌, ℕ, zero, suc, Bool, true, false, not, cond, List, [], ◌∷◌, take, filter, count_by, length, Some, None, refl, sym, ap, ◌∙◌, subst, arith}
+use Rattle.std.proofs.Common.{◌≡◌, ◌≤◌, ◌+◌, ℕ, zero, suc, Bool, true, false, not, cond, List, [], ◌∷◌, take, filter}
+use Rattle.std.proofs.Common.{count_by, length, Some, None, refl, sym, ap, ◌∙◌, subst, arith}
 use Rattle.std.proofs.lemmas.List.Sums.{length-filter}
 use Rattle.std.specs.List.{find, AllByRecursion, IsDistinct}
 
@@ -8,7 +9,8 @@ module _ {X : Type 0} where
   find-passes p [] x h = cc
   find-passes p (y ∷ xs) x h = by_test (p y) refl h (find-passes p xs x)
     where
-      by_test : (b : Bool) → p y ≡ b → cond b (Some y) (find p xs) ≡ Some x → (find p xs ≡ Some x → p x ≡ true) → p x ≡ true
+      by_test : (b : Bool) → p y ≡ b → cond b (Some y) (find p xs) ≡ Some x → (find p xs ≡ Some x → p x ≡ true) →
+          p x ≡ true
       by_test true e h later = let same : y ≡ x = cc in ap p (sym same) ∙ e
       by_test false e h later = later h
 
@@ -24,7 +26,9 @@ module _ {X : Type 0} where
   find-none p [] h = tt
   find-none p (y ∷ xs) h = by_test (p y) refl h (find-none p xs)
     where
-      by_test : (b : Bool) → p y ≡ b → cond b (Some y) (find p xs) ≡ None → (find p xs ≡ None → AllByRecursion (λ x. p x ≡ false) xs) → (p y ≡ false) × AllByRecursion (λ x. p x ≡ false) xs
+      by_test : (b : Bool) → p y ≡ b → cond b (Some y) (find p xs) ≡ None →
+          (find p xs ≡ None → AllByRecursion (λ x. p x ≡ false) xs) →
+          (p y ≡ false) × AllByRecursion (λ x. p x ≡ false) xs
       by_test true e h later = cc
       by_test false e h later = (e, later h)
 
@@ -41,7 +45,8 @@ module _ {X : Type 0} where
   filter-fails p [] = tt
   filter-fails p (y ∷ xs) = by_test (p y) refl (filter-fails p xs)
     where
-      by_test : (b : Bool) → p y ≡ b → AllByRecursion (λ x. p x ≡ false) (filter (λ x. not (p x)) xs) → AllByRecursion (λ x. p x ≡ false) (cond (not b) (y ∷ filter (λ x. not (p x)) xs) (filter (λ x. not (p x)) xs))
+      by_test : (b : Bool) → p y ≡ b → AllByRecursion (λ x. p x ≡ false) (filter (λ x. not (p x)) xs) →
+          AllByRecursion (λ x. p x ≡ false) (cond (not b) (y ∷ filter (λ x. not (p x)) xs) (filter (λ x. not (p x)) xs))
       by_test true e rest = rest
       by_test false e rest = (e, rest)
 
@@ -59,7 +64,8 @@ module _ {X : Type 0} where
   all-map f [] all = tt
   all-map f (x ∷ xs) all = (f x all.0, all-map f xs all.1)
 
-  pub distinct-filter : (eq : X → X → Bool) (p : X → Bool) (xs : List X) → IsDistinct eq xs → IsDistinct eq (filter p xs)
+  pub distinct-filter : (eq : X → X → Bool) (p : X → Bool) (xs : List X) → IsDistinct eq xs →
+      IsDistinct eq (filter p xs)
   unfolding IsDistinct
   distinct-filter eq p [] d = tt
   distinct-filter eq p (y ∷ xs) d = by_test (p y) (distinct-filter eq p xs d.1)
@@ -78,16 +84,22 @@ module _ {X : Type 0} where
   length-filter-le p [] = omega arith
   length-filter-le p (y ∷ xs) = by_test (p y) (length-filter-le p xs)
     where
-      by_test : (b : Bool) → length (filter p xs) ≤ length xs → length (cond b (y ∷ filter p xs) (filter p xs)) ≤ length (y ∷ xs)
+      by_test : (b : Bool) → length (filter p xs) ≤ length xs →
+          length (cond b (y ∷ filter p xs) (filter p xs)) ≤ length (y ∷ xs)
       by_test true h = omega arith
       by_test false h = omega arith
 
   -- a list without the ones that pass, of which there is one
-  pub length-others : (p : X → Bool) (xs : List X) (x : X) → find p xs ≡ Some x → length (filter (λ y. not (p y)) xs) + 1 ≤ length xs
+  pub length-others : (p : X → Bool) (xs : List X) (x : X) → find p xs ≡ Some x →
+      length (filter (λ y. not (p y)) xs) + 1 ≤ length xs
   length-others p [] x h = cc
   length-others p (y ∷ xs) x h = by_test (p y) h (length-others p xs x) (length-filter-le (λ y. not (p y)) xs)
     where
-      by_test : (b : Bool) → cond b (Some y) (find p xs) ≡ Some x → (find p xs ≡ Some x → length (filter (λ y. not (p y)) xs) + 1 ≤ length xs) → length (filter (λ y. not (p y)) xs) ≤ length xs → length (cond (not b) (y ∷ filter (λ y. not (p y)) xs) (filter (λ y. not (p y)) xs)) + 1 ≤ length (y ∷ xs)
+      by_test : (b : Bool) → cond b (Some y) (find p xs) ≡ Some x →
+          (find p xs ≡ Some x → length (filter (λ y. not (p y)) xs) + 1 ≤ length xs) →
+          length (filter (λ y. not (p y)) xs) ≤ length xs →
+          length (cond (not b) (y ∷ filter (λ y. not (p y)) xs) (filter (λ y. not (p y)) xs)) + 1 ≤ length
+          (y ∷ xs)
       by_test true h later le = omega arith
       by_test false h later le = let more = later h in omega arith
 
@@ -95,7 +107,9 @@ module _ {X : Type 0} where
   both-filters p [] = omega arith
   both-filters p (y ∷ xs) = by_test (p y) (both-filters p xs)
     where
-      by_test : (b : Bool) → length (filter p xs) + length (filter (λ x. not (p x)) xs) ≡ length xs → length (cond b (y ∷ filter p xs) (filter p xs)) + length (cond (not b) (y ∷ filter (λ x. not (p x)) xs) (filter (λ x. not (p x)) xs)) ≡ length (y ∷ xs)
+      by_test : (b : Bool) → length (filter p xs) + length (filter (λ x. not (p x)) xs) ≡ length xs →
+          length (cond b (y ∷ filter p xs) (filter p xs)) + length
+          (cond (not b) (y ∷ filter (λ x. not (p x)) xs) (filter (λ x. not (p x)) xs)) ≡ length (y ∷ xs)
       by_test true h = omega (arith, h)
       by_test false h = omega (arith, h)
 
@@ -109,11 +123,15 @@ module _ {X : Type 0} where
   length-cut (suc n) (x ∷ xs) = let le = length-cut n xs in omega arith
 
   -- what a filter leaves out, another one needn't
-  pub filter-less : (p q : X → Bool) (xs : List X) → ((x : X) → q x ≡ true → p x ≡ true) → filter (λ x. not (p x)) (filter (λ x. not (q x)) xs) ≡ filter (λ x. not (p x)) xs
+  pub filter-less : (p q : X → Bool) (xs : List X) → ((x : X) → q x ≡ true → p x ≡ true) →
+      filter (λ x. not (p x)) (filter (λ x. not (q x)) xs) ≡ filter (λ x. not (p x)) xs
   filter-less p q [] less = refl
   filter-less p q (y ∷ xs) less = by_test (q y) refl (filter-less p q xs less)
     where
-      by_test : (b : Bool) → q y ≡ b → filter (λ x. not (p x)) (filter (λ x. not (q x)) xs) ≡ filter (λ x. not (p x)) xs → filter (λ x. not (p x)) (cond (not b) (y ∷ filter (λ x. not (q x)) xs) (filter (λ x. not (q x)) xs)) ≡ filter (λ x. not (p x)) (y ∷ xs)
+      by_test : (b : Bool) → q y ≡ b →
+          filter (λ x. not (p x)) (filter (λ x. not (q x)) xs) ≡ filter (λ x. not (p x)) xs →
+          filter (λ x. not (p x)) (cond (not b) (y ∷ filter (λ x. not (q x)) xs) (filter (λ x. not (q x)) xs))
+          ≡ filter (λ x. not (p x)) (y ∷ xs)
       by_test true e rest = rw (less y e) rest
       by_test false e rest = ap (λ ys. cond (not (p y)) (y ∷ ys) ys) rest
 

@@ -26,23 +26,31 @@ name_eq-refl (Custom a) = (bytes_eq-Decides a a).1 refl
 name_eq-refl Anon = refl
 
 -- an entry of a request has its importer and its specifier
-pub importer-is : (importer : FileName) (specifier : List ℕ) (e : Entry) → is_for importer specifier e ≡ true → e.importer ≡ importer
+pub importer-is : (importer : FileName) (specifier : List ℕ) (e : Entry) → is_for importer specifier e ≡ true →
+    e.importer ≡ importer
 importer-is importer specifier e h = name_eq-is e.importer importer (and_left _ _ h)
 
-pub specifier-is : (importer : FileName) (specifier : List ℕ) (e : Entry) → is_for importer specifier e ≡ true → e.specifier ≡ specifier
-specifier-is importer specifier e h = (bytes_eq-Decides e.specifier specifier).0 (and_right (name_eq e.importer importer) _ h)
+pub specifier-is : (importer : FileName) (specifier : List ℕ) (e : Entry) → is_for importer specifier e ≡ true →
+    e.specifier ≡ specifier
+specifier-is importer specifier e h =
+    (bytes_eq-Decides e.specifier specifier).0 (and_right (name_eq e.importer importer) _ h)
 
 -- of an entry of a request, another is of the same request just where it is of that one
-pub same_request-is : (importer : FileName) (specifier : List ℕ) (e f : Entry) → is_for importer specifier e ≡ true → same_request e f ≡ is_for importer specifier f
+pub same_request-is : (importer : FileName) (specifier : List ℕ) (e f : Entry) → is_for importer specifier e ≡ true →
+    same_request e f ≡ is_for importer specifier f
 same_request-is importer specifier e f h =
-    ap (λ i. is_for i e.specifier f) (importer-is importer specifier e h) ∙ ap (λ s. is_for importer s f) (specifier-is importer specifier e h)
+    ap (λ i. is_for i e.specifier f) (importer-is importer specifier e h)
+    ∙ ap (λ s. is_for importer s f) (specifier-is importer specifier e h)
 
 -- no other is of the same request
-pub apart-first : (importer : FileName) (specifier : List ℕ) (e : Entry) (es : List Entry) → is_for importer specifier e ≡ true → AllByRecursion (λ f. is_for importer specifier f ≡ false) es → IsDistinct same_request es → IsDistinct same_request (e ∷ es)
+pub apart-first : (importer : FileName) (specifier : List ℕ) (e : Entry) (es : List Entry) →
+    is_for importer specifier e ≡ true → AllByRecursion (λ f. is_for importer specifier f ≡ false) es →
+    IsDistinct same_request es → IsDistinct same_request (e ∷ es)
 unfolding IsDistinct
 apart-first importer specifier e es h others d = (all_of es others, d)
   where
-    all_of : (es : List Entry) → AllByRecursion (λ f. is_for importer specifier f ≡ false) es → AllByRecursion (λ f. same_request e f ≡ false) es
+    all_of : (es : List Entry) → AllByRecursion (λ f. is_for importer specifier f ≡ false) es →
+        AllByRecursion (λ f. same_request e f ≡ false) es
     all_of [] all = tt
     all_of (f ∷ es) all = (same_request-is importer specifier e f h ∙ all.0, all_of es all.1)
 

@@ -11,7 +11,8 @@ use Rattle.session_core.specs.declared.session.Session.{Session as Held}
 use Rattle.session_core.specs.contracts.session.Session.{the_row}
 use Rattle.session_core.specs.Session.{Session}
 
--- Out of memory, nothing but the count of questions changed. The tree was asked once for each different one of some first questions of the request, and at most once more.
+-- Out of memory, nothing but the count of questions changed. The tree was asked once for each different one of some
+-- first questions of the request, and at most once more.
 pub record IsStarved (importer : FileName) (specifier : List ℕ) (old new : Session) : Type 0 where
   pub questions : ℕ
   pub same : new ≡ record old { tree = record old.tree { questions = questions } }

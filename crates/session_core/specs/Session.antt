@@ -40,7 +40,8 @@ computed s e = record s {
   kept = put_first s.capacity e s.kept;
 }
 
--- what an ask leaves, by the entry that is kept for it: that moves to the front, and the tree isn't asked; else the outcome on the tree is computed
+-- what an ask leaves, by the entry that is kept for it: that moves to the front, and the tree isn't asked; else the
+-- outcome on the tree is computed
 abbrev pub asked_by : Session → FileName → List ℕ → Option Entry → Session
 asked_by s importer specifier (Some e) =
     record s { kept = moved_first importer specifier s.kept (Some e) }

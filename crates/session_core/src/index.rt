@@ -8,7 +8,8 @@ ghost use Rattle.tree_core.specs.declared.question.Reply.{Reply};
 ghost use Rattle.session_core.specs.declared.latest.Entry.{Entry as TheEntry};
 ghost use Rattle.session_core.specs.Entries.{is_for, asks};
 ghost use Rattle.session_core.specs.Numbered.{IsNumberOf};
-ghost use Rattle.session_core.specs.Index.{name_number, name_text, request_hash, path_hash, fits, hash_of, is_noted, noted_under, AreNoted, IsNotedEntry, StayNoted, OthersStayNoted, FailsAt};
+ghost use Rattle.session_core.specs.Index.{name_number, name_text, request_hash, path_hash, fits, hash_of, is_noted};
+ghost use Rattle.session_core.specs.Index.{noted_under, AreNoted, IsNotedEntry, StayNoted, OthersStayNoted, FailsAt};
 
 use crate::latest::Entry;
 use lru::LruCache;

@@ -1,8 +1,11 @@
 // The latest outcomes, the most recently used first.
-ghost use Rattle.std.specs.Prelude.{◌≡◌, ◌<◌, ◌≤◌, ◌-◌, ℕ, [], ◌∷◌, None, Some, true, false, bytes_eq, is_some, not, length, take, slice_get, count_by, filter, nat_eq, IfOk, OnOk, OnErr, IfNone, IfSome, option_copied};
+ghost use Rattle.std.specs.Prelude.{◌≡◌, ◌<◌, ◌≤◌, ◌-◌, ℕ, [], ◌∷◌, None, Some, true, false, bytes_eq, is_some, not};
+ghost use Rattle.std.specs.Prelude.{length, take, slice_get, count_by, filter, nat_eq, IfOk, OnOk, OnErr, IfNone};
+ghost use Rattle.std.specs.Prelude.{IfSome, option_copied};
 ghost use Rattle.std.specs.List.{IsDistinct, AllByRecursion};
 ghost use Rattle.std.specs.Map.{remove_entry};
-ghost use Rattle.session_core.specs.Entries.{is_for, kept_for, same_request, is_asking, is_touched, untouched, moved_first, put_first};
+ghost use Rattle.session_core.specs.Entries.{is_for, kept_for, same_request, is_asking, is_touched, untouched};
+ghost use Rattle.session_core.specs.Entries.{moved_first, put_first};
 ghost use Rattle.session_core.specs.Numbered.{kept_in, IsNumberOf};
 ghost use Rattle.session_core.specs.Index.{IsNotedEntry};
 ghost use Rattle.session_core.specs.declared.latest.Entry.{Entry as TheEntry};

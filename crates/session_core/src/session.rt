@@ -1,5 +1,6 @@
 // A session: a project with a tree of its own, and the latest outcomes on that tree.
-ghost use Rattle.std.specs.Prelude.{◌≡◌, ◌≢◌, ◌<◌, [], None, Some, is_some, IfOk, IfErr, IfNone, IfSome, IsOk, IsSome, MatchResult, OnOk, OnErr, OnSome, count_by, map, length, slice_get};
+ghost use Rattle.std.specs.Prelude.{◌≡◌, ◌≢◌, ◌<◌, [], None, Some, is_some, IfOk, IfErr, IfNone, IfSome, IsOk, IsSome};
+ghost use Rattle.std.specs.Prelude.{MatchResult, OnOk, OnErr, OnSome, count_by, map, length, slice_get};
 ghost use Rattle.std.specs.Borrow.{sem};
 ghost use Rattle.std.specs.FinMap as finite;
 ghost use Rattle.std.specs.Option.{option_copied};

@@ -9,8 +9,11 @@ use Rattle.report_core.proofs.lines.line_with_trail.Goals as goal
 pub returns : goal.returns
 unfolding line_with_trail
 returns c =
-    let told = ap (λ (d : Data). verdict_value (member (codes "trail") d no_members) c.args.outcome.now.verdict) c.in_ok-trail.ensures in
+    let told = ap (λ (d : Data). verdict_value (member (codes "trail") d no_members) c.args.outcome.now.verdict)
+    c.in_ok-trail.ensures in
     let same = c.in_ok-value.ensures ∙ told in
-    let without = verdict_without (trail_member c.args.outcome.now.trail) c.args.outcome.now.verdict (trail_without c.args.outcome.now.trail) in
+    let without =
+    verdict_without (trail_member c.args.outcome.now.trail) c.args.outcome.now.verdict
+    (trail_without c.args.outcome.now.trail) in
     let text = c.in_ok-line.ensures.text (ap has_float same ∙ without) in
     c.in_ok-push_str.ensures.bytes ∙ ap (λ b. b ++ 10 ∷ []) (text ∙ ap compact_text same)

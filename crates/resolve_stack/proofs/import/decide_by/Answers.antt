@@ -7,14 +7,12 @@ pub returns-in-Ok : goal.returns-in-Ok
 unfolding verdict_by
 returns-in-Ok g c = asks_then _ c.in-Ok.ensures (asks_done refl)
 
-pub returns-in-Err-Refused : goal.returns-in-Err-Refused
+pub returns-in_ok-refusal-in-Err : goal.returns-in_ok-refusal-in-Err
 unfolding verdict_by
-returns-in-Err-Refused g c = asks_then _ (rw c.in-Err-Refused.field-0-is at c.in-Err-Refused.ensures) (asks_done refl)
+returns-in_ok-refusal-in-Err g c =
+    asks_then _ (rw (← c.in_ok-refusal-in-Err.ensures) at c.in-Err.ensures) (asks_done refl)
 
-pub returns-in-Err-TreeFault : goal.returns-in-Err-TreeFault
+pub returns-in_err-refusal-in-Err : goal.returns-in_err-refusal-in-Err
 unfolding verdict_by
-returns-in-Err-TreeFault g c = asks_fails _ _ refl (rw c.in-Err-TreeFault.field-0-is at c.in-Err-TreeFault.ensures)
-
-pub returns-in-Err-NoMemory : goal.returns-in-Err-NoMemory
-unfolding verdict_by
-returns-in-Err-NoMemory g c = asks_fails _ _ refl (rw c.in-Err-NoMemory.field-0-is at c.in-Err-NoMemory.ensures)
+returns-in_err-refusal-in-Err g c =
+    asks_fails _ _ c.from_residual.ensures.1 (rw (← c.in_err-refusal-in-Err.ensures) at c.in-Err.ensures)

@@ -10,7 +10,8 @@ use Rattle.resolve_stack.proofs.join_rows.read_manifest.Goals as goal
 pub returns-in_err-content-clause-asks : goal.returns-in_err-content-clause-asks
 unfolding read_by
 returns-in_err-content-clause-asks g c =
-    asks_fails_in resolving _ (borrowed c.from_residual.result) (borrowed_err _ _ c.from_residual.ensures.1) c.in_err-content.ensures
+    asks_fails_in resolving _ (borrowed c.from_residual.result) (borrowed_err _ _ c.from_residual.ensures.1)
+    c.in_err-content.ensures
 
 pub returns-in-Some-clause-asks : goal.returns-in-Some-clause-asks
 unfolding read_by
@@ -18,4 +19,6 @@ returns-in-Some-clause-asks g c = asks_then _ c.in_ok-content.ensures (known_row
 
 pub returns-clause-asks : goal.returns-clause-asks
 unfolding read_by
-returns-clause-asks g c = asks_then _ c.in_ok-content.ensures (read_row c.manifest_of.result _ _ _ (sym c.in-None.ensures.known) c.manifest_of.ensures.decided)
+returns-clause-asks g c =
+    asks_then _ c.in_ok-content.ensures (read_row c.manifest_of.result _ _ _ (sym c.in-None.ensures.known)
+    c.manifest_of.ensures.decided)

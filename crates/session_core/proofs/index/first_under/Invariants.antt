@@ -6,4 +6,5 @@ use Rattle.session_core.proofs.index.first_under.Given as goal
 abbrev pub invariant-loop-noted : goal.invariant-loop-noted
 invariant-loop-noted l =
     AllByRecursion (λ x. FailsAt (fits l.sought) l.entries.entries x.number) l.noted-iterator
-    → AllByRecursion (λ x. FailsAt (fits l.sought) l.entries.entries x.number) (noted_under (hash_of l.sought) l.all.keys)
+    → AllByRecursion (λ x. FailsAt (fits l.sought) l.entries.entries x.number)
+    (noted_under (hash_of l.sought) l.all.keys)

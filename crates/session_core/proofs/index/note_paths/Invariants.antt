@@ -9,4 +9,5 @@ use Rattle.session_core.proofs.index.note_paths.Given as goal
 abbrev pub invariant-loop-step : goal.invariant-loop-step
 invariant-loop-step l =
     StayNoted l.initial.noted.keys l.noted.keys
-    × ((front : List (Question × Reply)) × (l.trail ≡ front ++ iter_rest l.step-iterator) × AreNoted l.noted.keys l.number front)
+    × ((front : List (Question × Reply)) × (l.trail ≡ front ++ iter_rest l.step-iterator)
+    × AreNoted l.noted.keys l.number front)

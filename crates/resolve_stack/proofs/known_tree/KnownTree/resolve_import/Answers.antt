@@ -13,7 +13,8 @@ pub invariant_of-self : goal.invariant_of-self
 invariant_of-self c = rw (same_files-same _ _ c.in_err-outcome.ensures.stands) c.self.invariant
 
 pub returns-in_err-outcome-clause-decides : goal.returns-in_err-outcome-clause-decides
-returns-in_err-outcome-clause-decides c = rw (raised_same _ _ c.from_residual.ensures.1) (rw c.self.view_is at c.in_err-outcome.ensures)
+returns-in_err-outcome-clause-decides c =
+    rw (raised_same _ _ c.from_residual.ensures.1) (rw c.self.view_is at c.in_err-outcome.ensures)
 
 pub returns-in_err-outcome-clause-files : goal.returns-in_err-outcome-clause-files
 returns-in_err-outcome-clause-files c =

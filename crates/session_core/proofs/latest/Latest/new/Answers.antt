@@ -4,4 +4,5 @@ use Rattle.session_core.proofs.latest.Latest.new.Goals as goal
 
 pub invariant_of-result : goal.invariant_of-result
 unfolding IsDistinct
-invariant_of-result c = rw c.in_ok-entries.ensures (record { apart = tt; numbers = tt; below = tt; fits = omega arith }, tt)
+invariant_of-result c =
+    rw c.in_ok-entries.ensures (record { apart = tt; numbers = tt; below = tt; fits = omega arith }, tt)

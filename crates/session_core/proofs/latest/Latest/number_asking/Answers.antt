@@ -10,4 +10,6 @@ first_of-requires-clause-small c =
     all-small c.self.inside.next c.self.inside.entries.entries (omega (arith, fits)) c.self.invariant.0.below
 
 pub returns-clause-none : goal.returns-clause-none
-returns-clause-none c = rw (← c.self.view_is) (none-entries (is_asking c.args.path.now) c.first_of.result c.self.inside.entries.entries c.first_of.ensures.none)
+returns-clause-none c =
+    rw (← c.self.view_is) (none-entries (is_asking c.args.path.now) c.first_of.result c.self.inside.entries.entries
+    c.first_of.ensures.none)

@@ -12,7 +12,9 @@ invariant_of-self c =
     let index = c.self.inside.index in
     rw c.pop.ensures.entries (
       numbered-removed c.self.inside.next n es c.self.invariant.0,
-      all-others n index c.forget.new.self (remove_entry (nat_eq n) es) c.forget.ensures.kept (others-removed n es c.self.invariant.0.numbers) (all-removed (λ e. IsNotedEntry index e.0 e.1) n es c.self.invariant.1),
+      all-others n index c.forget.new.self (remove_entry (nat_eq n) es) c.forget.ensures.kept
+          (others-removed n es c.self.invariant.0.numbers)
+          (all-removed (λ e. IsNotedEntry index e.0 e.1) n es c.self.invariant.1),
     )
 
 pub invariant_of-self-in_default : goal.invariant_of-self-in_default

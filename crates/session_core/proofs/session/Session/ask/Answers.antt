@@ -7,7 +7,8 @@ pub returns : goal.returns
 returns c = (
   (refl, λ _. tt, c.in_ok-bring_first.ensures.ok),
   (
-    asked-first (state_of c.args.self.now) (state_of c.bring_first.new.self) c.args.importer.now c.args.specifier.now c.first.result.now c.args.self.now.right c.in_ok-bring_first.ensures.ok c.first.ensures,
+    asked-first (state_of c.args.self.now) (state_of c.bring_first.new.self) c.args.importer.now c.args.specifier.now
+        c.first.result.now c.args.self.now.right c.in_ok-bring_first.ensures.ok c.first.ensures,
     λ _. refl,
   ),
 )
