@@ -4,7 +4,7 @@ pub use Rattle.sugar_path.specs.Results.{◌>>=◌}
 use Rattle.resolve_stack.specs.declared.project.ProjectError.{ProjectError}
 use Rattle.resolve_stack.specs.declared.project.ProjectError.TheVariants as project
 use Rattle.document_core.specs.declared.cause.Field.{Field}
-use Rattle.document_core.specs.declared.cause.Field.TheVariants.{Cwd, Target, PreserveSymlinks, NodeModules, Alias, Ts, Lock, Conditions, Files, Requests, Capacity, Steps, Manifest}
+use Rattle.document_core.specs.declared.cause.Field.TheVariants.{Cwd, Target, PreserveSymlinks, NodeModules, Alias, Ts, Lock, Conditions, Files, Requests, Entries, Capacity, Steps, Manifest}
 use Rattle.document_core.specs.declared.cause.Cause.{Cause}
 use Rattle.document_core.specs.declared.cause.Cause.TheVariants.{BadProject}
 use Rattle.document_core.specs.declared.cause.DocumentError.{DocumentError}
@@ -22,6 +22,7 @@ name_of Lock = codes "lock"
 name_of Conditions = codes "conditions"
 name_of Files = codes "files"
 name_of Requests = codes "requests"
+name_of Entries = codes "entries"
 name_of Capacity = codes "capacity"
 name_of Steps = codes "steps"
 name_of Manifest = codes "manifest"

@@ -7,8 +7,10 @@ pub mod Levels
 pub mod Queues
 pub mod Walks
 pub mod Runs
+pub mod Again
 pub mod Graphs
 pub mod Asked
+pub mod AfterSteps
 pub mod Scans
 pub mod Walking
 pub mod Loans

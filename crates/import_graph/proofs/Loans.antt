@@ -3,12 +3,12 @@ use Rattle.std.proofs.Common.{◌≡◌, ℕ, bytes_eq, List, [], ◌∷◌, map
 use Rattle.std.specs.List.{IsDistinct}
 use Rattle.tree_core.specs.Tree.{Files}
 use Rattle.resolve_stack.specs.Settings.{ProjectSettings}
-use Rattle.session_core.specs.Session.{Session}
+use Rattle.session_core.specs.Session.{Session, IsSession}
 use Rattle.import_graph.specs.declared.graph.Graph.{Graph}
 use Rattle.import_graph.specs.Graph.{files_reached, graph_on, node_on}
 use Rattle.import_graph.specs.GraphState.{GraphState, IsAsked, IsSameBut, LeavesAsked, graph_of}
 use Rattle.import_graph.specs.Scans.{IsLast}
-use Rattle.import_graph.proofs.Asked.{asked-again}
+use Rattle.import_graph.proofs.Asked.{asked-again, requests-new}
 use Rattle.import_graph.proofs.Graphs.{reached_once}
 
 -- a graph on a session that was asked is the one on the session before
@@ -16,8 +16,9 @@ same-graph : (imports : List ℕ → List (List ℕ)) (s u : Session) (entries :
 same-graph imports s u entries same = ap (λ t. graph_on imports t u.project entries) same.files ∙ ap (λ p. graph_on imports s.tree.files p entries) same.project
 
 -- a graph that was made is kept
-pub last-made : (imports : List ℕ → List (List ℕ)) (s u : Session) (entries : List (List ℕ)) (g : Graph) → g ≡ graph_on imports s.tree.files s.project entries → IsAsked g s u → IsSameBut s u → IsLast imports u entries (Some g)
-last-made imports s u entries g is asked same = (is ∙ sym (same-graph imports s u entries same), asked-again g s u asked)
+pub last-made : (imports : List ℕ → List (List ℕ)) (s u : Session) (entries : List (List ℕ)) (g : Graph) → IsSession s → g ≡ graph_on imports s.tree.files s.project entries → IsAsked g s u → IsSameBut s u → IsLast imports u entries (Some g)
+last-made imports s u entries g held is asked same =
+    (is ∙ sym (same-graph imports s u entries same), asked-again g s u held (rw is (requests-new imports s.tree.files s.project entries)) asked)
 
 pub borrowed-is : (imports : List ℕ → List (List ℕ)) (s u : Session) (entries given : List (List ℕ)) (latest : Option Graph) (g : Graph) → given ≡ entries → latest ≡ Some g → IsLast imports u given latest → IsSameBut s u → g ≡ graph_on imports s.tree.files s.project entries
 borrowed-is imports s u entries given None g given_is is last same = cc

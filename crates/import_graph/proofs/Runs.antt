@@ -51,7 +51,7 @@ module _ {X K : Type 0} (key : X → K) (eq : K → K → Bool) (exact : (a b : 
       by_test false rest = rest
 
   -- none of some has a key that isn't among theirs
-  filter-others : (k : K) (xs : List X) → list_any (λ other. eq other k) (map key xs) ≡ false → filter (λ other. not (has k other)) xs ≡ xs
+  pub filter-others : (k : K) (xs : List X) → list_any (λ other. eq other k) (map key xs) ≡ false → filter (λ other. not (has k other)) xs ≡ xs
   filter-others k [] none = refl
   filter-others k (x ∷ xs) none = by_test (has k x) refl none (filter-others k xs)
     where

@@ -45,21 +45,22 @@ pub record IsSameBut (old new : Session) : Type 0 where
   pub files : new.tree.files ≡ old.tree.files
   pub capacity : new.capacity ≡ old.capacity
 
--- What a call that answers a graph leaves: where there is room for the outcomes of all its edges, all are kept, and
--- where all were kept, no question is put.
+-- a session after requests were asked in order
+abbrev pub after_asks : Session → List (FileName × List ℕ) → Session
+after_asks s [] = s
+after_asks s (r ∷ requests) = after_asks (after_ask s r.0 r.1) requests
+
+-- What a call that answers a graph leaves: what is kept once its edges are asked in order. So where there is room for the
+-- outcomes of all its edges, all are kept, and where all were kept, no question is put.
 pub record IsAsked (g : Graph) (old new : Session) : Type 0 where
   pub same : IsSameBut old new
+  pub left : new.kept ≡ (after_asks old (requests_of g)).kept
   pub kept : length (requests_of g) ≤ old.capacity → AreKept new.kept (requests_of g)
   pub unasked : AreKept old.kept (requests_of g) → new.tree.questions ≡ old.tree.questions
 
 -- a graph session in which a session has another state
 abbrev pub with_session : GraphState → Session → GraphState
 with_session s session = record s { session = session }
-
--- a session after requests were asked in order
-abbrev pub after_asks : Session → List (FileName × List ℕ) → Session
-after_asks s [] = s
-after_asks s (r ∷ requests) = after_asks (after_ask s r.0 r.1) requests
 
 -- an import that an importer asks for in a session, with its verdict
 abbrev pub edge_by : Session → FileName → List ℕ → Edge

@@ -8,3 +8,4 @@ pub mod Scans
 pub mod Walked
 pub mod GraphLoans
 pub mod GraphLaws
+pub mod GraphSteps

@@ -9,8 +9,8 @@ ghost use Rattle.tree_core.specs.Tree.{bytes_at, is_file, is_file_path};
 ghost use Rattle.tree_core.specs.Memory.{refusal};
 ghost use Rattle.tree_core.specs.declared.memory.PutError.TheVariants.{NoMemory};
 ghost use Rattle.session_core.specs.Entries.{is_touched};
-ghost use Rattle.session_core.specs.Session.{after_put, after_remove};
-ghost use Rattle.session_core.specs.SessionView.{state_of};
+ghost use Rattle.session_core.specs.Session.{IsSession, after_put, after_remove};
+ghost use Rattle.session_core.specs.SessionView.{keys_in, state_of};
 ghost use Rattle.import_graph.specs.declared.graph_error.GraphError.TheVariants as error;
 ghost use Rattle.import_graph.specs.GraphState.{IsAsked, IsSameBut, LeavesAsked, LeavesSame};
 ghost use Rattle.import_graph.specs.GraphState.{entry_refusal, graph_of, with_session};
@@ -23,7 +23,7 @@ use crate::scan::Scan;
 use crate::sources::Sources;
 use crate::walk::walk;
 use resolve_stack::Project;
-use session_core::Session;
+use session_core::{Keys, Session};
 use std::alloc::{AllocError, Global};
 use std::fmt;
 use std::marker::Model;
@@ -176,6 +176,15 @@ impl<'l, S: Scan + Drop> GraphSession<'l, S> {
         self.sources.questions()
     }
 
+    /// The importers and specifiers of the outcomes that are kept, the most recently used first.
+    pub fn keys(&self) -> Keys<'_>
+        ensures keys { keys_in result
+            ≡ map (λ e. (e.importer, e.specifier)) (graph_state self.now).session.kept }
+        ensures right { IsSession (graph_state self.now).session }
+    {
+        self.sources.keys()
+    }
+
     /// The bytes of the file at a path of the tree as it is now, where there is one. That is no question.
     pub fn file(&self, path: &str) -> Option<&[u8]>
         ensures { option_copied result ≡ bytes_at (graph_state self.now).session.tree.files path.now }
@@ -214,13 +223,15 @@ fn latest_graph<S: Scan + Drop>(
     ensures same { IsSameBut (state_of sources.old) (state_of sources.new) }
 {
     if latest.is_none() {
+        // What is kept is right, so it stays as it is when the same is asked again.
+        let _keys = sources.keys();
         *latest = Some(walk(alloc, sources, entries)?);
     }
     Ok(())
 }
 
-// The place of the first text that isn't a clean absolute path other than `/`.
-fn first_unclean(entries: &[Text]) -> Option<usize>
+/// The place of the first text that isn't a clean absolute path other than `/`, and so is no entry.
+pub fn first_unclean(entries: &[Text]) -> Option<usize>
     ensures { result ≡ position (λ entry. not (is_file_path entry)) entries.now }
 {
     entries

@@ -1,6 +1,7 @@
 // Laws, each proved for all bytes. The calls have them by their contracts.
 ghost use Rattle.import_graph.specs.Laws.{BetweenLastMarks, LineImports, LinesImportInTurn};
 ghost use Rattle.import_graph.specs.GraphLaws.{LevelsEnd, ReachedByWalks, ReachedOnce};
+ghost use Rattle.import_graph.specs.GraphSteps.{GraphAfterSteps};
 
 /// What a line is taken to name stands in it between two marks of one kind, and no such mark stands
 /// in it or behind the second; each text that stands so is taken.
@@ -32,4 +33,9 @@ pub fn reached_once()
 /// No level is beyond the count of the tree's files, so the graph has all levels.
 pub fn levels_end()
     ensures { LevelsEnd }
+{}
+
+/// After any list of puts, removals and calls that ask for the graph, it is the one on the files that the edits leave.
+pub fn graph_after_steps()
+    ensures { GraphAfterSteps }
 {}

@@ -13,6 +13,6 @@ mod walk;
 
 pub use graph::{Edge, Graph, Node};
 pub use graph_error::GraphError;
-pub use graph_session::GraphSession;
+pub use graph_session::{GraphSession, first_unclean};
 pub use lines::scan_lines;
 pub use scan::{LineScan, Scan};

@@ -8,8 +8,8 @@ ghost use Rattle.tree_core.specs.Memory.{refusal};
 ghost use Rattle.tree_core.specs.declared.memory.PutError.TheVariants.{NoMemory};
 ghost use Rattle.swc_loader.specs.declared.resolution.FileName.TheVariants.{Real};
 ghost use Rattle.session_core.specs.Entries.{is_touched};
-ghost use Rattle.session_core.specs.Session.{after_ask, after_put, after_remove};
-ghost use Rattle.session_core.specs.SessionView.{state_of};
+ghost use Rattle.session_core.specs.Session.{IsSession, after_ask, after_put, after_remove};
+ghost use Rattle.session_core.specs.SessionView.{keys_in, state_of};
 ghost use Rattle.import_graph.specs.Graph.{edges_on, imported};
 ghost use Rattle.import_graph.specs.GraphState.{IsSameBut, after_asks, edge_by};
 ghost use Rattle.import_graph.specs.Scans.{AreScans};
@@ -18,7 +18,7 @@ use crate::graph::Edge;
 use crate::imports::Imports;
 use crate::scan::Scan;
 use resolve_stack::FileName;
-use session_core::Session;
+use session_core::{Keys, Session};
 use std::alloc::{AllocError, Global};
 use std::collections::HashMap;
 use std::marker::Model;
@@ -111,6 +111,14 @@ impl<'l, S: Scan + Drop> Sources<'l, S> {
         ensures { option_copied result ≡ bytes_at (state_of self.now).tree.files path.now }
     {
         self.session.file(path)
+    }
+
+    // The importers and specifiers of the outcomes that are kept, the most recently used first.
+    pub(crate) fn keys(&self) -> Keys<'_>
+        ensures keys { keys_in result ≡ map (λ e. (e.importer, e.specifier)) (state_of self.now).kept }
+        ensures right { IsSession (state_of self.now) }
+    {
+        self.session.keys()
     }
 
     // How many questions were put to the tree.

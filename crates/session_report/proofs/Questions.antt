@@ -10,11 +10,7 @@ use Rattle.session_core.specs.Entries.{kept_for}
 use Rattle.session_core.specs.Session.{Session, Step, Ask, Put, Remove, asked_by, after_remove, put_unless, after_step, entry_on}
 use Rattle.session_report.specs.declared.step.Step.{Step as Given}
 use Rattle.session_report.specs.declared.step.Step.TheVariants as given
-use Rattle.session_report.specs.Lines.{taken, step_line, step_lines}
-
--- the same session with another count of questions
-abbrev pub counting : Session → ℕ → Session
-counting s n = record s { tree = record s.tree { questions = n } }
+use Rattle.session_report.specs.Lines.{counting, taken, step_line, step_lines}
 
 asked : (s : Session) (n : ℕ) (importer : FileName) (specifier : List ℕ) (o : Option Entry) → (m : ℕ) × (asked_by (counting s n) importer specifier o ≡ counting (asked_by s importer specifier o) m)
 asked s n importer specifier (Some e) = (n, refl)
@@ -28,12 +24,12 @@ removed : (s : Session) (n : ℕ) (path : List ℕ) (b : Bool) → (m : ℕ) × 
 removed s n path true = (n, refl)
 removed s n path false = (n, refl)
 
-stepped : (s : Session) (n : ℕ) (step : Step) → (m : ℕ) × (after_step (counting s n) step ≡ counting (after_step s step) m)
+pub stepped : (s : Session) (n : ℕ) (step : Step) → (m : ℕ) × (after_step (counting s n) step ≡ counting (after_step s step) m)
 stepped s n (Ask importer specifier) = asked s n importer specifier (kept_for importer specifier s.kept)
 stepped s n (Put path file) = put s n path file (refusal s.tree.files path file.canonical)
 stepped s n (Remove path) = removed s n path (is_file s.tree.files path)
 
-line-counting : (s : Session) (n : ℕ) (step : Given) → step_line (counting s n) step ≡ step_line s step
+pub line-counting : (s : Session) (n : ℕ) (step : Given) → step_line (counting s n) step ≡ step_line s step
 line-counting s n (given.Ask request) = refl
 line-counting s n (given.Put file) = refl
 line-counting s n (given.Remove path) = refl

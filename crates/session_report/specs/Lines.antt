@@ -1,5 +1,5 @@
 -- The lines of a session's steps: for each step the compact text of a JSON object.
-use Rattle.std.specs.Prelude.{ℕ, List, [], ◌∷◌, ◌++◌, codes, Option, Some, None, count_by, if◌then◌else◌}
+use Rattle.std.specs.Prelude.{ℕ, List, [], ◌∷◌, ◌++◌, codes, Option, Some, None, Result, Ok, Err, count_by, if◌then◌else◌}
 use Rattle.serde_json.specs.Data.{Data, unsigned, null, number, string, object, no_members, member}
 use Rattle.serde_json.specs.Written.{compact_text}
 use Rattle.tree_core.specs.declared.memory.PutError.{PutError}
@@ -46,20 +46,29 @@ abbrev pub dropped : Session → List ℕ → ℕ
 dropped s path = count_by (is_touched path) s.kept
 
 -- what a put answers, where nothing or something is against it
-abbrev pub put_value : Session → List ℕ → Option PutError → Data
-put_value s path None = dropped_value (Some (dropped s path))
-put_value s path (Some Unclean) = unclean_value path
-put_value s path (Some (Conflict other)) = conflict_value other
-put_value s path (Some NoMemory) = null
+abbrev pub put_answer : Session → List ℕ → Option PutError → Result ℕ PutError
+put_answer s path None = Ok (dropped s path)
+put_answer s path (Some error) = Err error
+
+-- what a put at a path answered: how many outcomes it drops, or why the file is refused
+abbrev pub put_value : List ℕ → Result ℕ PutError → Data
+put_value path (Ok count) = dropped_value (Some count)
+put_value path (Err Unclean) = unclean_value path
+put_value path (Err (Conflict other)) = conflict_value other
+put_value path (Err NoMemory) = null
 
 -- the line of a step, by the session before it: of an ask that of the verdict on the tree as it is then
 abbrev pub step_line : Session → Step → List ℕ
 step_line s (Ask request) =
     verdict_line (outcome_on s.tree.files s.project request.importer request.specifier).verdict
 step_line s (Put file) =
-    line_of (put_value s file.path (refusal s.tree.files file.path file.canonical))
+    line_of (put_value file.path (put_answer s file.path (refusal s.tree.files file.path file.canonical)))
 step_line s (Remove path) =
     line_of (dropped_value (if is_file s.tree.files path then Some (dropped s path) else None))
+
+-- a session with another count of the questions that its tree was asked
+abbrev pub counting : Session → ℕ → Session
+counting s n = record s { tree = record s.tree { questions = n } }
 
 -- the lines of steps in order
 abbrev pub step_lines : Session → List Step → List ℕ

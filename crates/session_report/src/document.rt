@@ -53,8 +53,8 @@ fn read_fields(alloc: Global, value: &Value) -> Result<SessionDocument, Document
     })
 }
 
-// How many outcomes are to be kept.
-fn capacity_in(value: &Value) -> Result<usize, DocumentError>
+/// How many outcomes a document's session is to keep.
+pub fn capacity_in(value: &Value) -> Result<usize, DocumentError>
     ensures capacity { Meets result
         (required Capacity (field_by (codes "capacity") capacity_of (view value.now))) }
     ensures some { IfOk result (λ n. 0 < n) }

@@ -1,10 +1,12 @@
 // The lines of a session's steps.
-ghost use Rattle.std.specs.Prelude.{◌≡◌, false, None, Some, IfOk, OnOk, string_bytes};
+ghost use Rattle.std.specs.Prelude.{◌≡◌, ◌≢◌, false, None, Some, Err, IfOk, OnOk, string_bytes};
 ghost use Rattle.serde_json.specs.View.{view};
 ghost use Rattle.serde_json.specs.Written.{has_float};
+ghost use Rattle.tree_core.specs.declared.memory.PutError.TheVariants.{NoMemory};
 ghost use Rattle.session_core.specs.Session.{after_step};
 ghost use Rattle.session_core.specs.SessionView.{state_of};
-ghost use Rattle.session_report.specs.Lines.{conflict_value, dropped_value, line_of, step_line, step_lines, taken, unclean_value};
+ghost use Rattle.session_report.specs.Lines.{conflict_value, dropped_value, line_of, put_value, step_line};
+ghost use Rattle.session_report.specs.Lines.{step_lines, taken, unclean_value};
 ghost use Rattle.session_report.specs.declared.step.Step.TheVariants as step;
 
 use crate::step::Step;
@@ -68,17 +70,9 @@ fn put(alloc: Global, session: &mut Session<'_>, file: &GivenFile) -> Result<Str
     ensures taken { OnOk result (state_of session.new
         ≡ after_step (state_of session.old) (taken (step.Put file.now))) }
 {
-    let put = session.put(
-        file.path.as_str(),
-        file.content.as_slice(),
-        file.canonical.as_str(),
-    );
-    match put {
-        Ok(dropped) => line_of_dropped(alloc, Some(dropped)),
-        Err(PutError::Unclean) => line_of_unclean(alloc, file.path.as_str()),
-        Err(PutError::Conflict { other }) => line_of_conflict(alloc, other.as_str()),
-        Err(PutError::NoMemory) => Err(AllocError),
-    }
+    let path = file.path.as_str();
+    let put = session.put(path, file.content.as_slice(), file.canonical.as_str());
+    line_of_put(alloc, path, put)
 }
 
 // Takes a file out: the line tells how many outcomes are dropped, or that there is no such file.
@@ -89,11 +83,29 @@ fn remove(alloc: Global, session: &mut Session<'_>, path: &str) -> Result<String
         ≡ after_step (state_of session.old) (taken (step.Remove path.now))) }
 {
     let dropped = session.remove(path);
-    line_of_dropped(alloc, dropped)
+    line_of_removal(alloc, dropped)
 }
 
-// The line of an edit that was taken, or that had nothing to take out.
-fn line_of_dropped(alloc: Global, dropped: Option<usize>) -> Result<String, AllocError>
+/// The line of a put at a path, by what it answered: how many outcomes are dropped, or why the file is refused. Where it
+/// found no memory, there is no line.
+pub fn line_of_put(
+    alloc: Global,
+    path: &str,
+    put: Result<usize, PutError>,
+) -> Result<String, AllocError>
+    ensures line { IfOk result (λ line. string_bytes line ≡ line_of (put_value path.now put)) }
+    ensures starved { OnOk result (put ≢ Err NoMemory) }
+{
+    match put {
+        Ok(dropped) => line_of_removal(alloc, Some(dropped)),
+        Err(PutError::Unclean) => line_of_unclean(alloc, path),
+        Err(PutError::Conflict { other }) => line_of_conflict(alloc, other.as_str()),
+        Err(PutError::NoMemory) => Err(AllocError),
+    }
+}
+
+/// The line of a removal, by what it answered: how many outcomes are dropped, or that no file had the path.
+pub fn line_of_removal(alloc: Global, dropped: Option<usize>) -> Result<String, AllocError>
     ensures { IfOk result (λ line. string_bytes line ≡ line_of (dropped_value dropped)) }
 {
     line_of_value(alloc, value_of_dropped(alloc, dropped)?)
@@ -136,8 +148,8 @@ fn value_of_conflict(alloc: Global, other: &str) -> Result<Value, AllocError>
     json!(in alloc; {"refused": refused})
 }
 
-// The line of a value.
-fn line_of_value(alloc: Global, value: Value) -> Result<String, AllocError>
+/// The line of a value.
+pub fn line_of_value(alloc: Global, value: Value) -> Result<String, AllocError>
     requires { has_float (view value) ≡ false }
     ensures { IfOk result (λ line. string_bytes line ≡ line_of (view value)) }
 {
