@@ -1,5 +1,5 @@
 -- What is found is what the registry row and the lock row of the order refuse.
-use Rattle.std.proofs.Common.{◌≡◌, ℕ, List, [], ◌∷◌, Option, Some, None, Result, Ok, Err, refl, sym, ap, ◌∙◌, arith}
+use Rattle.std.proofs.Common.{◌≡◌, ℕ, List, [], ◌∷◌, Option, Some, None, Result, Ok, Err, refl, ap, arith}
 use Rattle.std.specs.Prelude.{Contains, option_map, option_and_then}
 use Rattle.std.specs.List.{AllByRecursion, cons_option, filter_map}
 use Rattle.std.proofs.lemmas.List.Elements.{All-contains, All-from_recursion}
@@ -12,7 +12,6 @@ use Rattle.lock_checks.specs.OnTree.{location_on}
 use Rattle.pnp_core.specs.declared.manifest.PackageDependency.{PackageDependency}
 use Rattle.pnp_core.specs.declared.manifest.PackageLocator.{PackageLocator}
 use Rattle.pnp_core.specs.Manifest.{Contents, Package, at, locator, package_at, rows, rows_under}
-use Rattle.resolve_stack.specs.declared.verdict.JoinRefusal.{JoinRefusal}
 use Rattle.resolve_stack.specs.Rows.{of_fault}
 use Rattle.resolve_stack.specs.Settings.{ProjectSettings}
 use Rattle.yarn_lock_parser.specs.Lock.{Lock}
@@ -21,6 +20,7 @@ use Rattle.lock_audit.specs.declared.edges.RowEdge.{RowEdge}
 use Rattle.lock_audit.specs.Edges.{edge, edge_of, edges, edges_of_row, finding}
 use Rattle.lock_audit.specs.Laws.{BindsOwn, FindingsAreRefusals, Passes, PassesWithoutFindings, Refuses, found_in}
 use Rattle.lock_audit.specs.OnTree.{finding_on}
+use Rattle.lock_audit.proofs.OwnEdges.{found_once}
 use Rattle.lock_audit.proofs.Splits.{Splits, splits-contains, splits-filter_map, splits-flat_map, splits-lookup, splits-map}
 
 -- refusals of one package tell their faults
@@ -101,6 +101,7 @@ findings_are_refusals = record {
       found;
   found = λ t project lock manifest f held binds refuses.
       found_at t lock manifest f binds (fault_of f.bound f.fault _ (rw held at refuses));
+  once = found_once;
 }
 
 none_in : {A : Type 0} (xs : List A) (x : A) → xs ≡ [] → Contains xs x → ⊥

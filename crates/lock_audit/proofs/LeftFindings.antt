@@ -1,5 +1,5 @@
 -- What is found, one edge at a time.
-use Rattle.std.proofs.Common.{◌≡◌, ◌<◌, ◌≤◌, ◌+◌, ℕ, List, [], ◌∷◌, ◌++◌, drop, get_or, length, Option, Some, None, refl, sym, ap, ◌∙◌, subst, append_assoc, append-nil}
+use Rattle.std.proofs.Common.{◌≡◌, ◌<◌, ◌+◌, ℕ, List, [], ◌∷◌, ◌++◌, drop, get_or, length, Option, Some, None, sym, ap, ◌∙◌, subst, append_assoc, append-nil}
 use Rattle.tree_core.specs.Asks.{Asking, Leads}
 use Rattle.tree_core.specs.Plan.{Plan, Done, ◌>>=◌}
 use Rattle.tree_core.proofs.Asking.{leads_item}

@@ -3,5 +3,7 @@ pub mod NameSets
 pub mod OnTrees
 pub mod Splits
 pub mod UnusedEntries
+pub mod AtOneName
+pub mod OwnEdges
 pub mod Found
 pub mod WholeAudits

@@ -1,15 +1,14 @@
 -- What a whole audit says, from what it asked.
 use Rattle.std.proofs.Common.{◌≡◌, ◌<◌, ◌^◌, ℕ, List, [], length, Option, Some, None, Result, Ok, Err, IsErrAnd, IsTrue, refl, sym, ap, ◌∙◌, subst, arith}
-use Rattle.std.specs.Prelude.{IfOk, IfErr}
+use Rattle.std.specs.Prelude.{IfOk}
 use Rattle.sugar_path.specs.Path.{Path}
-use Rattle.tree_core.specs.Asks.{Asking, Asks, AgreeWith, raised, seen, widened}
-use Rattle.tree_core.specs.Plan.{Plan, Done, answer, asked, ◌>>=◌}
+use Rattle.tree_core.specs.Asks.{Asking, Asks, AgreeWith, seen}
+use Rattle.tree_core.specs.Plan.{Plan, answer, asked}
 use Rattle.tree_core.specs.Resolving.{resolving}
 use Rattle.tree_core.specs.Tree.{Files, TreeState, put_times, recorded}
 use Rattle.tree_core.specs.declared.resolve_error.ResolveError.{ResolveError}
 use Rattle.tree_core.specs.declared.resolve_error.ResolveError.TheVariants as loading
 use Rattle.tree_core.specs.declared.tree.ReadError.{ReadError}
-use Rattle.tree_core.specs.declared.tree.ReadError.TheVariants as read
 use Rattle.tree_core.proofs.Asking.{answer-done, asked-done, put_all, settles}
 use Rattle.pnp_core.specs.declared.error.HydrationCause.{HydrationCause}
 use Rattle.resolve_stack.specs.OrderParts.{raised_result}
@@ -18,7 +17,7 @@ use Rattle.resolve_stack.proofs.Raising.{asks_raised_result}
 use Rattle.yarn_lock_parser.specs.Lock.{Lock}
 use Rattle.lock_audit.specs.declared.audited.Audit.{Audit}
 use Rattle.lock_audit.specs.declared.error.AuditError.{AuditError}
-use Rattle.lock_audit.specs.declared.error.AuditError.TheVariants.{NoLock, NoMemory, TreeFault}
+use Rattle.lock_audit.specs.declared.error.AuditError.TheVariants.{NoLock}
 use Rattle.lock_audit.specs.declared.edges.RowEdge.{RowEdge}
 use Rattle.lock_audit.specs.Audit.{audit, audit_by, count_of, NoManifest, Refusal}
 use Rattle.lock_audit.specs.Audit as no_lock

@@ -1,6 +1,6 @@
 -- The audit of a manifest by a lock, as a plan of questions.
 -- A `do` here is over plans: a plan puts its questions, and the next one goes on by what it came to.
-use Rattle.std.specs.Prelude.{ℕ, ◌-◌, ◌^◌, min, List, [], ◌∷◌, ◌++◌, length, Option, Some, None, Result, Ok, Err}
+use Rattle.std.specs.Prelude.{ℕ, ◌-◌, ◌^◌, min, List, [], ◌∷◌, length, Option, Some, None, Result, Ok, Err}
 use Rattle.sugar_path.specs.Path.{Path}
 use Rattle.tree_core.specs.Asks.{raised}
 use Rattle.tree_core.specs.Plan.{Plan, Done, ◌>>=◌, ◌>>=?◌}

@@ -1,5 +1,5 @@
 -- What the rows of a manifest bind.
-use Rattle.std.specs.Prelude.{ℕ, List, Option, Some, None, flat_map, option_map}
+use Rattle.std.specs.Prelude.{ℕ, List, Option, flat_map, option_map}
 use Rattle.std.specs.List.{filter_map}
 use Rattle.lock_checks.specs.declared.fault.EdgeFault.{EdgeFault}
 use Rattle.pnp_core.specs.declared.manifest.PackageDependency.{PackageDependency}

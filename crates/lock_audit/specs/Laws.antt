@@ -1,19 +1,49 @@
 -- What an audit says of requests to the join.
-use Rattle.std.specs.Prelude.{◌≡◌, ℕ, List, [], Option, Some, Ok, Err, Contains}
+use Rattle.std.specs.Prelude.{◌≡◌, ℕ, Bool, ◌&&◌, List, [], bytes_eq, filter, Contains}
+use Rattle.std.specs.Prelude.{Some, option_and_then, option_map, Ok, Err}
+use Rattle.std.specs.List.{IsDistinct}
+use Rattle.std.specs.Map.{keys_of}
+use Rattle.std.specs.Option.{option_to_list}
 use Rattle.tree_core.specs.Tree.{Files}
 use Rattle.lock_checks.specs.declared.fault.EdgeFault.{EdgeFault}
 use Rattle.pnp_core.specs.declared.manifest.Binding.TheVariants.{Bound}
 use Rattle.pnp_core.specs.declared.manifest.PackageDependency.{PackageDependency}
 use Rattle.pnp_core.specs.declared.manifest.PackageLocator.{PackageLocator}
-use Rattle.pnp_core.specs.Binding.{bind, bound_to, own}
-use Rattle.pnp_core.specs.Manifest.{Contents}
+use Rattle.pnp_core.specs.Binding.{bind, bound_to, given, own}
+use Rattle.pnp_core.specs.Manifest.{Contents, Package, at, locator_eq, package_at}
 use Rattle.resolve_stack.specs.OnTree.{checked_on}
 use Rattle.resolve_stack.specs.Rows.{of_fault}
 use Rattle.resolve_stack.specs.Settings.{ProjectSettings}
 use Rattle.yarn_lock_parser.specs.Lock.{Lock}
 use Rattle.lock_audit.specs.declared.audited.Finding.{Finding}
-use Rattle.lock_audit.specs.Edges.{edges}
-use Rattle.lock_audit.specs.OnTree.{findings_on}
+use Rattle.lock_audit.specs.declared.edges.RowEdge.{RowEdge}
+use Rattle.lock_audit.specs.Edges.{edge, edges}
+use Rattle.lock_audit.specs.OnTree.{finding_on, findings_on}
+
+-- No name stands twice: of a package in the registry, of a reference under it, of what a row binds. So it is in each
+-- manifest that is read, since its maps hold a key once.
+pub record HasNamesOnce (manifest : Contents) : Type 0 where
+  pub packages : IsDistinct bytes_eq (keys_of manifest.package_registry_data)
+  pub references : (name : List ℕ) (references : List (List ℕ × Package))
+      → at name manifest.package_registry_data ≡ Some references → IsDistinct bytes_eq (keys_of references)
+  pub names : (owner : PackageLocator) (row : Package)
+      → package_at manifest.package_registry_data owner ≡ Some row
+      → IsDistinct bytes_eq (keys_of row.package_dependencies)
+
+-- an edge is that of a package and a name
+abbrev pub asks_for : PackageLocator → List ℕ → RowEdge → Bool
+asks_for owner name e = locator_eq owner e.owner && bytes_eq name e.name
+
+-- the edges of a package and a name
+abbrev pub edges_for : Contents → PackageLocator → List ℕ → List RowEdge
+edges_for manifest owner name = filter (asks_for owner name) (edges manifest)
+
+-- The edges are what the rows bind, each once: of a package and a name there is the one that the package's own row has
+-- for that name, and none where it has nothing or null.
+pub record EdgesAreBindings : Type 0 where
+  pub tells : (manifest : Contents) (owner : PackageLocator) (name : List ℕ) → HasNamesOnce manifest
+      → edges_for manifest owner name
+      ≡ option_to_list (option_map (edge owner name) (given (own manifest owner name)))
 
 -- an owner's own row binds a name to a package
 pub record BindsOwn (manifest : Contents) (owner : PackageLocator) (name : List ℕ) (bound : PackageLocator) : Type 0 where
@@ -30,6 +60,14 @@ Refuses t project manifest owner name bound fault =
 abbrev pub found_in : Files → Lock → Contents → List Finding
 found_in t lock manifest = (findings_on t lock manifest (edges manifest)).result
 
+-- a finding is of a package and a name
+abbrev pub is_found_for : PackageLocator → List ℕ → Finding → Bool
+is_found_for owner name f = locator_eq owner f.owner && bytes_eq name f.name
+
+-- what is found of a package and a name
+abbrev pub found_for : Files → Lock → Contents → PackageLocator → List ℕ → List Finding
+found_for t lock manifest owner name = filter (is_found_for owner name) (found_in t lock manifest)
+
 -- What is found is what these two rows of the order refuse.
 pub record FindingsAreRefusals : Type 0 where
   -- each finding is refused by them, with its fault
@@ -41,6 +79,11 @@ pub record FindingsAreRefusals : Type 0 where
       → project.lock ≡ Some lock → BindsOwn manifest f.owner f.name f.bound
       → Refuses t project manifest f.owner f.name f.bound f.fault
       → Contains (found_in t lock manifest) f
+  -- once: of a package and a name there is what is found at the binding by the package's own row, and nothing else
+  pub once : (t : Files) (lock : Lock) (manifest : Contents) (owner : PackageLocator) (name : List ℕ)
+      → HasNamesOnce manifest
+      → found_for t lock manifest owner name ≡ option_to_list (option_and_then
+      (λ dependency. finding_on t lock manifest (edge owner name dependency)) (given (own manifest owner name)))
 
 -- A name that an owner's own row binds, in a manifest in which nothing is found: the order takes that binding, and these two rows go on with the location of the bound package.
 pub record Passes (t : Files) (project : ProjectSettings) (manifest : Contents) (owner : PackageLocator) (name : List ℕ) (bound : PackageLocator) : Type 0 where

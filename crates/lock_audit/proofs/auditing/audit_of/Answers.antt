@@ -2,7 +2,6 @@ use Rattle.std.proofs.Common.{◌≡◌, ◌∙◌, ap, length, rules, sym}
 use Rattle.tree_core.proofs.Asking.{asks_done, asks_fails, asks_starved, asks_then}
 use Rattle.lock_audit.specs.Audit.{audit_of, count_of}
 use Rattle.lock_audit.specs.Edges.{edges}
-use Rattle.lock_audit.specs.Entries.{unused_entries}
 use Rattle.lock_audit.proofs.WholeAudits.{count_is}
 use Rattle.lock_audit.proofs.auditing.audit_of.Goals as goal
 

@@ -1,4 +1,4 @@
-use Rattle.std.proofs.Common.{append_assoc, map, sym, ap, ◌∙◌}
+use Rattle.std.proofs.Common.{append_assoc, map}
 use Rattle.std.proofs.lemmas.List.Concat.{flat_map-append}
 use Rattle.pnp_core.specs.Manifest.{rows, rows_under}
 use Rattle.lock_audit.specs.Edges.{edges_of_row}

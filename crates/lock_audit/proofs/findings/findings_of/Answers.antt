@@ -1,4 +1,4 @@
-use Rattle.std.proofs.Common.{refl, ap, ◌∙◌, append-nil}
+use Rattle.std.proofs.Common.{refl}
 use Rattle.tree_core.proofs.Asking.{asks_done, asks_fails, asks_starved, leads_self, leads_as, leads_end}
 use Rattle.lock_audit.proofs.LeftFindings.{leads_edge, left_end, left_findings, left_findings-all}
 use Rattle.lock_audit.proofs.findings.findings_of.Goals as goal
