@@ -30,7 +30,7 @@ same_parts c (b ∷ l) (d ∷ m) x y h k is =
     let later = same_parts c l m x y (and_right (not (b == c)) (lacks c l) h) (and_right (not (d == c)) (lacks c m) k) more in
     ((λ i. first i ∷ later.0 i), later.1)
 
-ended_first : (n : ℕ) (line rest : List ℕ) → is_line line ≡ true → first_lines (suc n) (ended line ++ rest) ≡ line ++ 10 ∷ first_lines n rest
+pub ended_first : (n : ℕ) (line rest : List ℕ) → is_line line ≡ true → first_lines (suc n) (ended line ++ rest) ≡ line ++ 10 ∷ first_lines n rest
 ended_first n line rest h = ap (first_lines (suc n)) (append_assoc line (10 ∷ []) rest) ∙ first_lines-line n line rest h
 
 -- two texts whose first lines are the same

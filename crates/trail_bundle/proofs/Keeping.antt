@@ -209,7 +209,7 @@ out_step x rest m n up q =
     by_tests false false = refl
 
 -- maps that have the same for each question are one
-find_is : (steps : List (Question × Reply)) (q : Question) → find question_cmp q steps ≡ reply_in steps q
+pub find_is : (steps : List (Question × Reply)) (q : Question) → find question_cmp q steps ≡ reply_in steps q
 find_is [] q = refl
 find_is (s ∷ steps) q =
     ap (λ b. cond b (Some s.1) (find question_cmp q steps)) (same_test s.0 q) ∙ ap (cond (question_eq s.0 q) (Some s.1)) (find_is steps q)

@@ -5,6 +5,7 @@ pub mod LineEnds
 pub mod FirstLines
 pub mod Orders
 pub mod Prefixes
+pub mod Beginnings
 pub mod Readings
 pub mod Splits
 pub mod Wrong
@@ -12,3 +13,5 @@ pub mod LineCauses
 pub mod Decodings
 pub mod Sorted
 pub mod Keeping
+pub mod TrailLaws
+pub mod Replays

@@ -9,6 +9,7 @@ use Rattle.trail_bundle.specs.BundleText.{bundle_text, counts_line, ended, reply
 use Rattle.trail_bundle.specs.Decoding.{IsWrongBy}
 use Rattle.trail_bundle.specs.Lines.{first_lines}
 use Rattle.trail_bundle.specs.Parts.{LacksReply, LacksRequest, NoCounts}
+use Rattle.trail_bundle.proofs.Beginnings.{begins_none, begins_replies, begins_requests}
 use Rattle.trail_bundle.proofs.CountLines.{line-counts, same-counts}
 use Rattle.trail_bundle.proofs.FirstLines.{all_alike, first-ended, goes_on, peeled}
 use Rattle.trail_bundle.proofs.LineEnds.{line-reply, line-request}
@@ -29,7 +30,10 @@ one_request a b h k is = same-request a b is
 pub wrong_counts : (text : List ℕ) → NoCounts text → IsWrongBy 1 text
 unfolding bundle_text
 wrong_counts text none = record {
-  wrong = λ b is_bundle is. none (length b.requests) (length b.replies) (is ∙ first-ended (counts_line (length b.requests) (length b.replies)) _ (line-counts _ _));
+  wrong = λ w.
+      let b = w.bundle in
+      none (length b.requests) (length b.replies) (w.begins ∙ first-ended (counts_line (length b.requests) (length b.replies)) _ (line-counts _ _));
+  least = begins_none text;
 }
 
 -- what the lines behind the counts have in common with a bundle's
@@ -48,7 +52,9 @@ behind r q n text t b front is =
 
 pub wrong_request : (r q count line : ℕ) (text t : List ℕ) → text ≡ ended (counts_line r q) ++ t → count ≤ r → LacksRequest count 2 t line → IsWrongBy line text
 wrong_request r q count line text t front some lacks = record {
-  wrong = λ b is_bundle is.
+  wrong = λ w.
+      let b = w.bundle in
+      let is = w.begins in
       let here : line ≡ suc (suc (length lacks.before)) = omega (arith, lacks.told) in
       let first = subst (λ n. first_lines n text ≡ first_lines n (bundle_text b)) here is in
       let on = behind r q (suc (length lacks.before)) text t b front first in
@@ -56,6 +62,9 @@ wrong_request r q count line text t front some lacks = record {
       (all_any lacks.before) (all_any b.requests) (omega (arith, lacks.few, on.requests))
       (ap (first_lines (suc (length lacks.before))) (sym lacks.front) ∙ on.more) in
       lacks.none next.next next.first;
+  least = λ lines less.
+      begins_requests r q text lacks.rest lacks.before (front ∙ ap (λ u. ended (counts_line r q) ++ u) lacks.front) (omega (arith, lacks.few))
+      lines (omega (arith, lacks.told));
 }
 
 -- where all requests are the bundle's
@@ -73,22 +82,32 @@ behind_requests r q n m text t rs b front all at is =
 
 pub wrong_reply : (r q count line : ℕ) (text t : List ℕ) (rs : List BundleRequest) → text ≡ ended (counts_line r q) ++ (request_lines rs ++ t) → length rs ≡ r → count ≤ q → LacksReply count (2 + length rs) t line → IsWrongBy line text
 wrong_reply r q count line text t rs front all some lacks = record {
-  wrong = λ b is_bundle is.
+  wrong = λ w.
+      let b = w.bundle in
+      let is_bundle = w.is_bundle in
+      let is = w.begins in
       let on = behind_requests r q (suc (length lacks.before)) line text t rs b front all (omega (arith, lacks.told)) is in
       let next = goes_on reply_line is_reply line-reply same-reply lacks.before b.replies lacks.rest []
       lacks.are.fit is_bundle.replies.fit (omega (arith, lacks.few, on.replies))
       (ap (first_lines (suc (length lacks.before))) (sym lacks.front) ∙ on.more ∙ ap (first_lines (suc (length lacks.before))) (sym (append-nil (reply_lines b.replies)))) in
       lacks.none next.next (replies-prefix lacks.before next.next next.later (subst AreReplies next.whole_list is_bundle.replies)) next.first;
+  least = λ lines less.
+      begins_replies r q text lacks.rest rs lacks.before (front ∙ ap (λ u. ended (counts_line r q) ++ (request_lines rs ++ u)) lacks.front) all (omega (arith, lacks.few)) lacks.are
+      lines (omega (arith, lacks.told));
 }
 
 pub wrong_end : (r q line : ℕ) (text t : List ℕ) (rs : List BundleRequest) (steps : List (Question × Reply)) → text ≡ ended (counts_line r q) ++ (request_lines rs ++ (reply_lines steps ++ t)) → length rs ≡ r → length steps ≡ q → AreReplies steps → 0 < length t → line ≡ 2 + length rs + length steps → IsWrongBy line text
 wrong_end r q line text t rs steps front all every are more at = record {
-  wrong = λ b is_bundle is.
+  wrong = λ w.
+      let b = w.bundle in
+      let is_bundle = w.is_bundle in
+      let is = w.begins in
       let on = behind_requests r q (length steps + 1) line text (reply_lines steps ++ t) rs b front all (omega (arith, at)) is in
       let same = all_alike reply_line is_reply line-reply same-reply 1 (length steps + 1) steps b.replies t []
       are.fit is_bundle.replies.fit (every ∙ on.replies) refl
       (on.more ∙ ap (first_lines (length steps + 1)) (sym (append-nil (reply_lines b.replies)))) in
       nothing_first t more same.1;
+  least = λ lines less. begins_replies r q text t rs steps front all (omega (arith, every)) are lines (omega (arith, at));
 }
   where
     nothing_first : (t : List ℕ) → 0 < length t → first_lines 1 t ≡ [] → ⊥

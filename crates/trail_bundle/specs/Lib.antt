@@ -11,4 +11,6 @@ pub mod Steps
 pub mod BundleView
 pub mod Keeping
 pub mod Adding
+pub mod Replaying
+pub mod ReplayingParts
 pub mod Laws

@@ -1,18 +1,23 @@
 // A bundle: the trails of many requests as one map.
 ghost use Rattle.std.specs.Prelude.{◌≡◌, [], IfErr, IfOk, OnErr, OnOk, length};
+ghost use Rattle.tree_core.specs.Tree.{Agrees, Files};
+ghost use Rattle.trail_bundle.specs.declared.replay_error.BundleReplayError.TheVariants as error;
 ghost use Rattle.trail_bundle.specs.Adding.{IsAdded, IsRefusedBy, request_for};
 ghost use Rattle.trail_bundle.specs.Bundle.{AreReplies, IsBundle};
 ghost use Rattle.trail_bundle.specs.BundleText.{bundle_text};
 ghost use Rattle.trail_bundle.specs.Decoding.{IsWrongBy};
 ghost use Rattle.trail_bundle.specs.Parts.{IfLine};
+ghost use Rattle.trail_bundle.specs.Replaying.{AllStandIn, AreReplayed, IsNotRecorded};
 ghost use Rattle.trail_bundle.specs.Steps.{steps_of};
 
 use crate::decode::{read_counts, read_replies, read_requests};
 use crate::encode::{line_of_counts, write_replies, write_requests};
 use crate::ordered::Replies;
+use crate::replaying::{replay_each, trail_of};
 use crate::replies::{check_all, put_all};
 use crate::text_lines::TextLines;
-use crate::{BundleError, BundleRequest, DecodeError};
+use crate::{BundleError, BundleReplayError, BundleRequest, DecodeError};
+use resolve_stack::{Project, Verdict};
 use std::alloc::{AllocError, Global};
 use std::collections::BTreeMap;
 use sugar_path::Text;
@@ -82,6 +87,25 @@ impl Bundle {
             return Err(BundleError::NoMemory);
         }
         Ok(())
+    }
+
+    /// The verdict of each of its requests in a project, in order, by its replies alone.
+    pub fn replay_all(
+        &self,
+        alloc: Global,
+        project: &Project<'_>,
+    ) -> Result<Vec<Verdict>, BundleReplayError>
+        ensures ok { IfOk result (λ verdicts. AreReplayed verdicts.items
+            (bundle_of self.now).replies project.now (bundle_of self.now).requests) }
+        ensures refused { IfErr result (λ e. IsNotRecorded e
+            (bundle_of self.now).replies project.now (bundle_of self.now).requests) }
+        // Where a tree agrees with the bundle, and the tree's own trails stand there, each request is replayed.
+        ensures whole { (t : Files) → Agrees t (bundle_of self.now).replies
+            → AllStandIn (bundle_of self.now).replies t project.now (bundle_of self.now).requests
+            → IfErr result (λ e. e ≡ error.NoMemory) }
+    {
+        let trail = trail_of(alloc, &self.replies)?;
+        replay_each(alloc, project, &trail, self.requests.as_slice())
     }
 
     /// Its text.

@@ -4,4 +4,6 @@
 #[cfg(test)]
 mod adding;
 #[cfg(test)]
+mod replaying;
+#[cfg(test)]
 mod texts;

@@ -1,0 +1,4 @@
+pub mod Causes
+pub mod Settings
+pub mod Bundled
+pub mod Replayed
