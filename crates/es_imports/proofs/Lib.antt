@@ -1,0 +1,7 @@
+pub mod Running
+pub mod Unitings
+pub mod Quoting
+pub mod Pending
+pub mod Scanning
+pub mod Joining
+pub mod Formed

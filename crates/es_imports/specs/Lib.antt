@@ -1,0 +1,17 @@
+pub mod Space
+pub mod Parts
+pub mod Runs
+pub mod Literals
+pub mod Numbers
+pub mod Punctuators
+pub mod Elements
+pub mod Tokens
+pub mod Goals
+pub mod ScannerView
+pub mod Signs
+pub mod Forms
+pub mod Escapes
+pub mod Values
+pub mod Quoted
+pub mod Imports
+pub mod Laws
