@@ -1,0 +1,5 @@
+//! The tests of `command_help`.
+#![tactic(auto)]
+
+#[cfg(test)]
+mod words;
