@@ -1,14 +1,16 @@
 -- Which words are which command.
-use Rattle.std.specs.Prelude.{ℕ, ◌+◌, ◌-◌, ◌*◌, Bool, true, false, ◌&&◌, nat_le, List, [], ◌∷◌, map, codes, bytes_eq, Option, Some, None, option_map, String, string_bytes, if◌then◌else◌}
+use Rattle.std.specs.Prelude.{ℕ, ◌+◌, ◌-◌, ◌*◌, Bool, false, ◌&&◌, nat_le, List, [], ◌∷◌, map, codes, bytes_eq, Option, Some, None, option_map, String, string_bytes, if◌then◌else◌}
 use Rattle.std.specs.Str.{all_ascii_digits}
 use Rattle.std.specs.declared.alloc.Global.{Global}
 use Rattle.swc_loader.specs.declared.target.TargetEnv.{TargetEnv}
 use Rattle.swc_loader.specs.declared.target.TargetEnv.TheVariants.{Browser, Node}
 use Rattle.disk_report.specs.Asked.{Asked}
 use Rattle.cli_core.specs.declared.command.Command.{Command}
-use Rattle.cli_core.specs.declared.command.Command.TheVariants.{Report, Generate, Disk}
-use Rattle.cli_core.specs.declared.document_kind.DocumentKind.TheVariants.{Requests, Steps}
+use Rattle.cli_core.specs.declared.command.Command.TheVariants.{Report, Replay, Generate, Disk}
+use Rattle.cli_core.specs.declared.document_kind.DocumentKind.TheVariants.{Requests, Steps, Graphs, Audit, Bundle}
 use Rattle.cli_core.specs.declared.command.TheConstants.{LARGEST}
+use Rattle.cli_core.specs.declared.report.OutcomeForm.{OutcomeForm}
+use Rattle.cli_core.specs.declared.report.OutcomeForm.TheVariants.{Line, LineWithTrail, Text}
 
 -- the first byte is a digit above 0
 abbrev pub begins_above_zero : List ℕ → Bool
@@ -33,17 +35,28 @@ target_of word =
     else if bytes_eq word (codes "node") then Some Node
     else None
 
--- one word: `resolve` or `session`
+-- one word: `resolve`, `session`, `graph`, `audit`, `bundle` or `replay`
 abbrev pub command_of_one : List ℕ → Option Command
 command_of_one word =
-    if bytes_eq word (codes "resolve") then Some (Report (Requests false))
+    if bytes_eq word (codes "resolve") then Some (Report (Requests Line))
     else if bytes_eq word (codes "session") then Some (Report Steps)
+    else if bytes_eq word (codes "graph") then Some (Report Graphs)
+    else if bytes_eq word (codes "audit") then Some (Report Audit)
+    else if bytes_eq word (codes "bundle") then Some (Report Bundle)
+    else if bytes_eq word (codes "replay") then Some Replay
     else None
 
--- two words: `resolve --trail`, or `generate` and a size
+-- the form in which outcomes are told behind `resolve`
+abbrev pub form_of : List ℕ → Option OutcomeForm
+form_of word =
+    if bytes_eq word (codes "--trail") then Some LineWithTrail
+    else if bytes_eq word (codes "--explain") then Some Text
+    else None
+
+-- two words: `resolve` and a form, or `generate` and a size
 abbrev pub command_of_two : List ℕ → List ℕ → Option Command
 command_of_two word next =
-    if bytes_eq word (codes "resolve") && bytes_eq next (codes "--trail") then Some (Report (Requests true))
+    if bytes_eq word (codes "resolve") then option_map (λ form. Report (Requests form)) (form_of next)
     else if bytes_eq word (codes "generate") then option_map Generate (size_of next)
     else None
 

@@ -4,6 +4,7 @@ pub mod MemoryStreams
 pub mod OnDisk
 pub mod Reading
 pub mod Report
+pub mod Replays
 pub mod Reports
 pub mod Run
 pub mod Streams

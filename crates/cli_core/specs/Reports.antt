@@ -1,4 +1,4 @@
--- How a command runs that reads a document: `resolve` or `session`.
+-- How a command runs that reads a document: `resolve`, `session`, `graph`, `audit` or `bundle`.
 use Rattle.std.specs.Prelude.{◌≡◌, ◌≢◌, ◌≤◌, ◌<◌, ◌+◌, ◌⊎◌, true, length, IsOk, IsOkAnd, IsErrAnd}
 use Rattle.std.specs.Option.{ForSome}
 use Rattle.document_core.specs.CauseLine.{cause_line}

@@ -1,16 +1,19 @@
 // The commands, by the words that ask for them.
 ghost use Rattle.std.specs.Prelude.{◌≡◌, map, string_bytes};
-ghost use Rattle.cli_core.specs.Command.{asked, begins_above_zero, command_of_one, command_of_two, disk_request_in, size_of, target_of};
+ghost use Rattle.cli_core.specs.Command.{asked, begins_above_zero, command_of_one, command_of_two, disk_request_in, form_of, size_of, target_of};
 
 use crate::document_kind::DocumentKind;
+use crate::report::OutcomeForm;
 use disk_report::DiskRequest;
 use resolve_stack::TargetEnv;
 
 /// What the program is asked to do, with what the words say of it.
 #[derive(Debug, Drop)]
 pub enum Command<'w> {
-    /// Reads one document of a kind, and writes the report on it: `resolve`, `session`.
+    /// Reads one document of a kind, and writes the report on it: `resolve`, `session`, `graph`, `audit`, `bundle`.
     Report(DocumentKind),
+    /// Reads a replay document, and writes the lines of its bundle's verdicts.
+    Replay,
     /// Resolves the generated project of so many packages, and writes the counts of its outcomes.
     Generate { size: u16 },
     /// Resolves one request over the disk, and writes its line.
@@ -36,8 +39,12 @@ fn command_of_one(word: &str) -> Option<Command<'_>>
     ensures { result ≡ command_of_one word.now }
 {
     match word {
-        "resolve" => Some(Command::Report(DocumentKind::Requests { trails: false })),
+        "resolve" => Some(Command::Report(DocumentKind::Requests(OutcomeForm::Line))),
         "session" => Some(Command::Report(DocumentKind::Steps)),
+        "graph" => Some(Command::Report(DocumentKind::Graphs)),
+        "audit" => Some(Command::Report(DocumentKind::Audit)),
+        "bundle" => Some(Command::Report(DocumentKind::Bundle)),
+        "replay" => Some(Command::Replay),
         _ => None,
     }
 }
@@ -47,12 +54,21 @@ fn command_of_two<'w>(word: &'w str, next: &'w str) -> Option<Command<'w>>
     ensures { result ≡ command_of_two word.now next.now }
 {
     match word {
-        "resolve" if next == "--trail" => {
-            Some(Command::Report(DocumentKind::Requests { trails: true }))
-        }
+        "resolve" => Some(Command::Report(DocumentKind::Requests(form_of(next)?))),
         "generate" => Some(Command::Generate {
             size: size_in(next)?,
         }),
+        _ => None,
+    }
+}
+
+// The form in which outcomes are told behind `resolve`.
+fn form_of(word: &str) -> Option<OutcomeForm>
+    ensures { result ≡ form_of word.now }
+{
+    match word {
+        "--trail" => Some(OutcomeForm::LineWithTrail),
+        "--explain" => Some(OutcomeForm::Text),
         _ => None,
     }
 }

@@ -4,23 +4,34 @@ ghost use Rattle.std.specs.Result.{result_map_both};
 ghost use Rattle.document_core.specs.Cause.{Meets};
 ghost use Rattle.document_core.specs.Document.{project_in, settings_in};
 ghost use Rattle.document_core.specs.Outcomes.{outcome_on};
-ghost use Rattle.report_core.specs.Lines.{outcome_line};
-ghost use Rattle.cli_core.specs.Report.{lines_by, lines_of, report};
+ghost use Rattle.cli_core.specs.Report.{lines_by, lines_of, report, told_as};
 
 use document_core::{
     Document, DocumentError, GivenRequest, GivenSettings, outcome_of, project_in, read_document,
     tree_of,
 };
+use explain_report::explained;
 use report_core::line_of_outcome;
-use resolve_stack::{KnownTree, Project};
+use resolve_stack::{KnownTree, Outcome, Project};
 use std::alloc::{AllocError, Global};
 use sugar_path::Text;
 use tree_core::MemoryTree;
 
-/// The report on a document's bytes: the lines of its requests, in order, with trails where they are asked for; or the
-/// first cause against it.
-pub fn report_for(alloc: Global, bytes: &[u8], trails: bool) -> Result<String, DocumentError>
-    ensures { Meets (result_map_both string_bytes (λ e. e) result) (report trails bytes.now) }
+/// In which form outcomes of requests are told.
+#[derive(Clone, Copy, Debug, PartialEq, Eq)]
+pub enum OutcomeForm {
+    /// A line of JSON.
+    Line,
+    /// A line of JSON with the trail.
+    LineWithTrail,
+    /// A text for people.
+    Text,
+}
+
+/// The report on a document's bytes: what is told of its requests, in order, in this form; or the first cause
+/// against it.
+pub fn report_for(alloc: Global, bytes: &[u8], form: OutcomeForm) -> Result<String, DocumentError>
+    ensures { Meets (result_map_both string_bytes (λ e. e) result) (report form bytes.now) }
 {
     let Document {
         settings,
@@ -29,7 +40,7 @@ pub fn report_for(alloc: Global, bytes: &[u8], trails: bool) -> Result<String, D
         requests,
     } = read_document(alloc, bytes)?;
     let tree = tree_of(alloc, files.as_slice())?;
-    lines_by(alloc, tree, settings, &lock, requests.as_slice(), trails)
+    lines_by(alloc, tree, settings, &lock, requests.as_slice(), form)
 }
 
 // The lines of the requests by these settings and a lock.
@@ -39,14 +50,14 @@ fn lines_by(
     settings: GivenSettings,
     lock: &Option<Text>,
     requests: &[GivenRequest],
-    trails: bool,
+    form: OutcomeForm,
 ) -> Result<String, DocumentError>
     ensures { Meets (result_map_both string_bytes (λ e. e) result)
-        (lines_by trails tree.files requests.now (project_in (settings_in settings lock.now))) }
+        (lines_by form tree.files requests.now (project_in (settings_in settings lock.now))) }
 {
     let project = project_in(alloc, settings, lock)?;
     let mut tree = KnownTree::of(alloc, tree);
-    Ok(lines_on(alloc, &mut tree, &project, requests, trails)?)
+    Ok(lines_on(alloc, &mut tree, &project, requests, form)?)
 }
 
 // The lines of the requests, in order.
@@ -55,31 +66,54 @@ fn lines_on(
     tree: &mut KnownTree,
     project: &Project<'_>,
     requests: &[GivenRequest],
-    trails: bool,
+    form: OutcomeForm,
 ) -> Result<String, AllocError>
     ensures { IfOk result (λ lines.
-        string_bytes lines ≡ lines_of trails tree.old.files project.now requests.now) }
+        string_bytes lines ≡ lines_of form tree.old.files project.now requests.now) }
 {
     let mut lines = String::new(alloc);
     for request in requests {
-        let line = line_of(alloc, tree, project, request, trails)?;
+        let line = line_of(alloc, tree, project, request, form)?;
         lines.push_str(line.as_str())?;
     }
     Ok(lines)
 }
 
-// The line of one request.
+// What is told of one request.
 fn line_of(
     alloc: Global,
     tree: &mut KnownTree,
     project: &Project<'_>,
     request: &GivenRequest,
-    trails: bool,
+    form: OutcomeForm,
 ) -> Result<String, AllocError>
     ensures line { IfOk result (λ line. string_bytes line
-        ≡ outcome_line trails (outcome_on tree.old.files project.now request.now)) }
+        ≡ told_as form request.now (outcome_on tree.old.files project.now request.now)) }
     ensures files { tree.new.files ≡ tree.old.files }
 {
     let outcome = outcome_of(alloc, tree, project, request)?;
-    line_of_outcome(alloc, &outcome, trails)
+    told_as(alloc, form, request, &outcome)
+}
+
+// What is told of an outcome in this form.
+fn told_as(
+    alloc: Global,
+    form: OutcomeForm,
+    request: &GivenRequest,
+    outcome: &Outcome,
+) -> Result<String, AllocError>
+    ensures { IfOk result (λ told. string_bytes told ≡ told_as form request.now outcome.now) }
+{
+    match form {
+        OutcomeForm::Line => line_of_outcome(alloc, outcome, false),
+        OutcomeForm::LineWithTrail => line_of_outcome(alloc, outcome, true),
+        OutcomeForm::Text => {
+            explained(
+                alloc,
+                &request.importer,
+                request.specifier.as_str(),
+                outcome,
+            )
+        }
+    }
 }

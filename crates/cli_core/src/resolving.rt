@@ -47,9 +47,9 @@ pub(crate) fn resolve<S: Source, K: Sink>(
 
 // How a run ends, and what it writes first.
 #[derive(Drop)]
-struct Reply {
-    status: Status,
-    text: String,
+pub(crate) struct Reply {
+    pub(crate) status: Status,
+    pub(crate) text: String,
 }
 
 // The whole text is made here, before the first write.

@@ -4,6 +4,7 @@ ghost use Rattle.disk_report.specs.Asked.{Asked};
 ghost use Rattle.cli_core.specs.Command.{asked};
 ghost use Rattle.cli_core.specs.Generates.{Generates};
 ghost use Rattle.cli_core.specs.OnDisk.{AsksDisk};
+ghost use Rattle.cli_core.specs.Replays.{Replays};
 ghost use Rattle.cli_core.specs.Reports.{Reports};
 ghost use Rattle.cli_core.specs.Run.{CountsFaults, is_silent};
 ghost use Rattle.cli_core.specs.declared.document_kind.DocumentKind.{DocumentKind};
@@ -11,6 +12,7 @@ ghost use Rattle.cli_core.specs.declared.document_kind.DocumentKind.{DocumentKin
 use crate::command::{Command, command_of};
 use crate::generating::generate;
 use crate::on_disk::ask_disk;
+use crate::replaying::replay;
 use crate::resolving::resolve;
 use crate::sink::Sink;
 use crate::source::Source;
@@ -19,10 +21,11 @@ use std::alloc::Global;
 use tree_core::Tree;
 
 /// Runs a command. `resolve` reads one document from the source, and writes a line for each of its requests to the
-/// sink, with its trail after the word `--trail`, or the line of the first cause against the document. `session` does
-/// the same with the steps of a session document. `generate` and a number resolves the generated project of so many
-/// packages, and writes its counts. `disk`, a working folder, a target, an importer and a specifier resolves one
-/// request over the disk.
+/// sink, with its trail behind the word `--trail`, or a text for people behind `--explain`; or the line of the first cause against the document. `session` does
+/// that with the steps of a session document, `graph` with those of a graph document, and `audit` with the audit that an
+/// audit document asks for. `bundle` writes the bundle of a document's requests, and `replay` the lines of a bundle's
+/// verdicts. `generate` and a number resolves the generated project of so many packages, and writes its counts. `disk`,
+/// a working folder, a target, an importer and a specifier resolves one request over the disk.
 pub fn run<S: Source, K: Sink, T: Tree>(
     alloc: Global,
     words: &[String],
@@ -38,6 +41,9 @@ pub fn run<S: Source, K: Sink, T: Tree>(
     // What each command reads and writes, and how it ends.
     ensures reports { (kind : DocumentKind) → asked words.now ≡ Some (Command.Report kind) →
         (disk.new ≡ disk.old) × Reports kind result (S.state source.old) (S.state source.new)
+        (K.state sink.old) (K.state sink.new) }
+    ensures replays { asked words.now ≡ Some Command.Replay →
+        (disk.new ≡ disk.old) × Replays result (S.state source.old) (S.state source.new)
         (K.state sink.old) (K.state sink.new) }
     ensures generates { (size : ℕ) → asked words.now ≡ Some (Command.Generate size) →
         (source.new ≡ source.old) × (disk.new ≡ disk.old)
@@ -58,6 +64,7 @@ pub fn run<S: Source, K: Sink, T: Tree>(
     };
     match command {
         Command::Report(kind) => resolve(alloc, kind, source, sink),
+        Command::Replay => replay(alloc, source, sink),
         Command::Generate { size } => generate(alloc, size, sink),
         Command::Disk(request) => ask_disk(alloc, &request, sink, disk),
     }

@@ -1,5 +1,5 @@
 // A document with one request, and the line that is written for it.
-use cli_core::report_for;
+use cli_core::{OutcomeForm, report_for};
 use std::test::Fail;
 
 #[test]
@@ -8,7 +8,7 @@ fn a_request_has_its_line(rt: HostRuntime) -> Result<(), Fail> {
         "files": [{"path": "/w/a.js", "text": ""}, {"path": "/w/b.js", "text": ""}],
         "requests": [{"from": "/w/a.js", "specifier": "./b"}]}"#;
     let line = r#"{"answer":{"real":"/w/b.js"},"found":{"file":"/w/b.js","via":null},"slug":null}"#;
-    let report = report_for(rt.alloc(), document.as_bytes(), false)?;
+    let report = report_for(rt.alloc(), document.as_bytes(), OutcomeForm::Line)?;
     assert_eq!(rt; report.trim_end(), line);
     Ok(())
 }

@@ -2,9 +2,15 @@
 #![tactic(auto)]
 
 #[cfg(test)]
+mod audits;
+#[cfg(test)]
+mod bundles;
+#[cfg(test)]
 mod documents;
 #[cfg(test)]
 mod example;
+#[cfg(test)]
+mod graphs;
 #[cfg(test)]
 mod mappings;
 #[cfg(test)]

@@ -18,6 +18,10 @@ resolve --trails
 resolve resolve --trail
 session --trail
 session session
+graph --trail
+graph graph
+audit --trail
+audits
 generate
 generate 0
 generate 07

@@ -1,9 +1,10 @@
-//! Whether each document of a folder gives the text that stands beside it, `NAME.out` for `NAME.json`, or a front of it where writing
-//! fails, and whether the trails of its requests decide. It is given the folder. A document whose name begins with
-//! `session` is run by that command, each other one by `resolve`.
+//! Whether each document of a folder gives the text that stands beside it, `NAME.out` for `NAME.json`, or a front of it
+//! where writing fails, and whether the trails of its requests decide. It is given the folder. A document whose name
+//! begins with `session`, `graph`, `audit` or `bundle` is run by that command, one whose name begins with `explain` by
+//! `resolve --explain`, and each other one by `resolve`.
 #![tactic(auto)]
 
-ghost use Rattle.std.specs.Prelude.{◌≡◌, true, Some, IfOk, IfSome};
+ghost use Rattle.std.specs.Prelude.{◌≡◌, true, Some, IfOk, IfSome, [], ◌∷◌, codes, map, string_bytes};
 ghost use Rattle.cli_core.specs.Command.{asked};
 ghost use Rattle.cli_core.specs.Run.{reply_for};
 ghost use Rattle.cli_core.specs.declared.command.Command.TheVariants.{Report};
@@ -13,7 +14,7 @@ mod replays;
 
 use crate::cut_short::ends_at_each_sink;
 use crate::replays::{Replays, replays_in};
-use cli_core::{DocumentKind, PlainSink, PlainSource, Status, run};
+use cli_core::{DocumentKind, OutcomeForm, PlainSink, PlainSource, Status, run};
 use std::alloc::{AllocError, Global};
 use std::fs::Files;
 use std::io::ErrorKind;
@@ -52,8 +53,16 @@ fn tell(rt: &(impl Files + Print + AllocGlobal), folder: &str, name: &str) -> io
 fn kind_of(name: &str) -> DocumentKind {
     if name.starts_with("session") {
         DocumentKind::Steps
+    } else if name.starts_with("graph") {
+        DocumentKind::Graphs
+    } else if name.starts_with("audit") {
+        DocumentKind::Audit
+    } else if name.starts_with("bundle") {
+        DocumentKind::Bundle
+    } else if name.starts_with("explain") {
+        DocumentKind::Requests(OutcomeForm::Text)
     } else {
-        DocumentKind::Requests { trails: false }
+        DocumentKind::Requests(OutcomeForm::Line)
     }
 }
 
@@ -142,14 +151,28 @@ fn words(alloc: Global, kind: DocumentKind) -> Result<Vec<String>, AllocError>
     ensures { IfOk result (λ words. asked words.items ≡ Some (Report kind)) }
 {
     match kind {
-        DocumentKind::Requests { trails: false } => {
-            Ok(vec![in alloc; String::from_str(alloc, "resolve")?]?)
-        }
-        DocumentKind::Requests { trails: true } => {
-            let resolve = String::from_str(alloc, "resolve")?;
-            let trails = String::from_str(alloc, "--trail")?;
-            Ok(vec![in alloc; resolve, trails]?)
-        }
-        DocumentKind::Steps => Ok(vec![in alloc; String::from_str(alloc, "session")?]?),
+        DocumentKind::Requests(OutcomeForm::Line) => one_word(alloc, "resolve"),
+        DocumentKind::Requests(OutcomeForm::LineWithTrail) => resolve_in(alloc, "--trail"),
+        DocumentKind::Requests(OutcomeForm::Text) => resolve_in(alloc, "--explain"),
+        DocumentKind::Steps => one_word(alloc, "session"),
+        DocumentKind::Graphs => one_word(alloc, "graph"),
+        DocumentKind::Audit => one_word(alloc, "audit"),
+        DocumentKind::Bundle => one_word(alloc, "bundle"),
     }
+}
+
+fn one_word(alloc: Global, word: &str) -> Result<Vec<String>, AllocError>
+    ensures { IfOk result (λ words. map string_bytes words.items ≡ word.now ∷ []) }
+{
+    Ok(vec![in alloc; String::from_str(alloc, word)?]?)
+}
+
+// The words of `resolve` with the form in which outcomes are told.
+fn resolve_in(alloc: Global, form: &str) -> Result<Vec<String>, AllocError>
+    ensures { IfOk result (λ words.
+        map string_bytes words.items ≡ codes "resolve" ∷ form.now ∷ []) }
+{
+    let resolve = String::from_str(alloc, "resolve")?;
+    let form = String::from_str(alloc, form)?;
+    Ok(vec![in alloc; resolve, form]?)
 }

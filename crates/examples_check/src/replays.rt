@@ -40,8 +40,8 @@ impl Replays {
     }
 }
 
-/// Replays the trails of a document's requests. A document that is refused has none, and neither has one of a session:
-/// its requests are steps.
+/// Replays the trails of a document's requests. A document that is refused has none, and neither has one of a session,
+/// whose requests are steps, nor one of an audit, which has no requests.
 pub fn replays_in(alloc: Global, document: &[u8]) -> Result<Replays, AllocError> {
     match replays_of(alloc, document) {
         Ok(replays) => Ok(replays),

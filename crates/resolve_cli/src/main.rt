@@ -1,4 +1,5 @@
-//! The program: a document on the standard input, and a line for each of its requests on the standard output.
+//! The program: a document on the standard input, and a line for each of its requests on the standard output. What
+//! people are told stands on the standard error.
 #![tactic(auto)]
 
 ghost use Rattle.std.specs.Prelude.{◌≡◌, ◌≢◌, ◌⊎◌, ◌↔◌, Err, IfOk, IfErr, IsOkAnd, IsErrAnd, drop};
@@ -6,6 +7,7 @@ ghost use Rattle.std.specs.IoError.{error_kind};
 ghost use Rattle.std.specs.Vec.Iter.{into_iter_items};
 
 use cli_core::{ReaderSource, Status, WriterSink, run};
+use command_help::{Topic, topic_of, wrong_words};
 use disk_tree::DiskTree;
 use std::alloc::{AllocError, Global};
 use std::env::Args;
@@ -14,18 +16,58 @@ use std::process::ExitCode;
 use std::{env, io};
 
 fn main(rt: HostRuntime) -> ExitCode {
-    let alloc = rt.alloc();
-    let status = match words(alloc, env::args(&rt)) {
-        Ok(words) => run(
-            alloc,
-            &words,
-            &mut ReaderSource::new(rt.stdin()),
-            &mut WriterSink::new(rt.stdout()),
-            &mut DiskTree::new(&rt),
-        ),
+    let status = match words(rt.alloc(), env::args(&rt)) {
+        Ok(words) => match topic_of(&words) {
+            Some(topic) => help(&rt, topic),
+            None => run_and_tell(&rt, &words),
+        },
         Err(status) => status,
     };
     ExitCode::from(status.code())
+}
+
+// Help goes to the standard output, as what was asked for.
+fn help(rt: &HostRuntime, topic: Topic) -> Status {
+    match print!(rt; "{}", topic.text()) {
+        Ok(()) => Status::Done,
+        Err(_) => Status::WriteFault,
+    }
+}
+
+// Runs the command; where it ends without a line on the standard output, people are told why.
+fn run_and_tell(rt: &HostRuntime, words: &[String]) -> Status {
+    let alloc = rt.alloc();
+    let status = run(
+        alloc,
+        words,
+        &mut ReaderSource::new(rt.stdin()),
+        &mut WriterSink::new(rt.stdout()),
+        &mut DiskTree::new(rt),
+    );
+    // A line that isn't told changes nothing of how the run ended.
+    let _told = match fault_line(status) {
+        Some(line) => eprintln!(rt; "{line}"),
+        None if status == Status::Usage => tell_wrong_words(rt, words),
+        None => Ok(()),
+    };
+    status
+}
+
+fn tell_wrong_words(rt: &HostRuntime, words: &[String]) -> io::Result<()> {
+    let wrong = wrong_words(rt.alloc(), words)?;
+    eprintln!(rt; "{}", wrong.line(rt.alloc())?)
+}
+
+// What people are told of a status that writes no line.
+fn fault_line(status: Status) -> Option<&'static str> {
+    match status {
+        Status::Done | Status::Refused | Status::Usage => None,
+        Status::ReadFault => Some("the standard input could not be read"),
+        Status::WriteFault => Some("the standard output could not be written"),
+        Status::TooLong => Some("the document has more than 67,108,864 bytes"),
+        Status::NoMemory => Some("no memory was found"),
+        Status::TreeFault => Some("a question to the files of this machine failed"),
+    }
 }
 
 // The words behind the program's name, or how a run ends without them. Words that aren't UTF-8 are no command.

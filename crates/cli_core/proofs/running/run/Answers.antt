@@ -20,6 +20,21 @@ returns-in-Report-clause-faults g c = record {
   disk = no_disk_fault _ _ c.resolve.ensures.reports.ends.1;
 }
 
+-- the command that replays a bundle
+
+pub returns-in-Replay-clause-usage : goal.returns-in-Replay-clause-usage
+returns-in-Replay-clause-usage g c = (λ usage. absurd (c.replay.ensures.replays.ends.0 usage), λ none. cc c.in-Some.ensures)
+
+pub returns-in-Replay-clause-replays : goal.returns-in-Replay-clause-replays
+returns-in-Replay-clause-replays g c = λ named. (refl, c.replay.ensures.replays)
+
+pub returns-in-Replay-clause-faults : goal.returns-in-Replay-clause-faults
+returns-in-Replay-clause-faults g c = record {
+  source = c.replay.ensures.source_faults;
+  sink = c.replay.ensures.sink_faults;
+  disk = no_disk_fault _ _ c.replay.ensures.replays.ends.1;
+}
+
 -- a generated project
 
 pub returns-in-Generate-clause-usage : goal.returns-in-Generate-clause-usage
