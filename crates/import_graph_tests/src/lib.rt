@@ -2,12 +2,4 @@
 #![tactic(auto)]
 
 #[cfg(test)]
-mod large;
-#[cfg(test)]
 mod lines;
-#[cfg(test)]
-mod plain;
-#[cfg(test)]
-mod project;
-#[cfg(test)]
-mod random_edits;
