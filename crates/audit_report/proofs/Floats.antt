@@ -2,7 +2,12 @@
 use Rattle.std.proofs.Common.{◌≡◌, false, refl}
 use Rattle.serde_json.specs.Written.{has_float}
 use Rattle.lock_checks.specs.declared.fault.EdgeFault.{EdgeFault}
-use Rattle.lock_checks.specs.declared.fault.EdgeFault.TheVariants.{NotInRegistry, NotLocked, MalformedPackage, OutOfRange}
+use Rattle.lock_checks.specs.declared.fault.EdgeFault.TheVariants.{
+  NotInRegistry,
+  NotLocked,
+  MalformedPackage,
+  OutOfRange,
+}
 use Rattle.lock_audit.specs.declared.audited.Finding.{Finding}
 use Rattle.audit_report.specs.Lines.{fault_value, finding_value}
 

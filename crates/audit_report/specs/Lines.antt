@@ -3,7 +3,12 @@ use Rattle.std.specs.Prelude.{ℕ, List, [], ◌∷◌, ◌++◌, codes, flat_ma
 use Rattle.serde_json.specs.Data.{Data, number, string, object, no_members, member, unsigned}
 use Rattle.serde_json.specs.Written.{compact_text}
 use Rattle.lock_checks.specs.declared.fault.EdgeFault.{EdgeFault}
-use Rattle.lock_checks.specs.declared.fault.EdgeFault.TheVariants.{NotInRegistry, NotLocked, MalformedPackage, OutOfRange}
+use Rattle.lock_checks.specs.declared.fault.EdgeFault.TheVariants.{
+  NotInRegistry,
+  NotLocked,
+  MalformedPackage,
+  OutOfRange,
+}
 use Rattle.resolve_stack.specs.declared.verdict.JoinRefusal.TheVariants as refusal
 use Rattle.report_core.specs.Verdicts.{kind_value, locator_value, refusal_value}
 use Rattle.lock_audit.specs.declared.audited.Audit.{Audit}

@@ -2,7 +2,16 @@
 ghost use Rattle.std.specs.Prelude.{◌≡◌, ◌∷◌, ◌++◌, [], false, IfOk, OnOk, string_bytes};
 ghost use Rattle.serde_json.specs.View.{view};
 ghost use Rattle.serde_json.specs.Written.{compact_text, has_float};
-ghost use Rattle.audit_report.specs.Lines.{audit_lines, fault_value, finding_lines, finding_value, line_of, summary_value, unused_lines, unused_value};
+ghost use Rattle.audit_report.specs.Lines.{
+  audit_lines,
+  fault_value,
+  finding_lines,
+  finding_value,
+  line_of,
+  summary_value,
+  unused_lines,
+  unused_value,
+};
 
 use lock_audit::{Audit, Finding, Unused};
 use lock_checks::EdgeFault;

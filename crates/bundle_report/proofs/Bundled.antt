@@ -2,7 +2,36 @@
 use Rattle.std.specs.FinMap as finite
 use Rattle.std.specs.FinMap.{entries, entries_sorted, from_entries, get-entries, get-from_entries}
 use Rattle.std.specs.FinMap.Entries.{same_entries}
-use Rattle.std.proofs.Common.{◌≡◌, ◌≤◌, ◌<◌, ◌+◌, ℕ, Bool, true, false, cond, drop, get_or, List, [], ◌∷◌, ◌++◌, map, Some, Result, Ok, Err, length, refl, sym, ap, ◌∙◌, arith, append_assoc, append-nil}
+use Rattle.std.proofs.Common.{
+  ◌≡◌,
+  ◌≤◌,
+  ◌<◌,
+  ◌+◌,
+  ℕ,
+  Bool,
+  true,
+  false,
+  cond,
+  drop,
+  get_or,
+  List,
+  [],
+  ◌∷◌,
+  ◌++◌,
+  map,
+  Some,
+  Result,
+  Ok,
+  Err,
+  length,
+  refl,
+  sym,
+  ap,
+  ◌∙◌,
+  arith,
+  append_assoc,
+  append-nil,
+}
 use Rattle.std.specs.Bool.{passes}
 use Rattle.std.specs.Option.{option_or}
 use Rattle.std.proofs.lemmas.Grind.{flat_map-append}
@@ -35,25 +64,31 @@ pub record Bundled (b : Bundle) (t : Files) (project : ProjectSettings) (given r
   pub requests : b.requests ≡ map (λ r. request_for r.importer r.specifier) before
   pub replies : (q : Question) → reply_in b.replies q ≡ reply_in (trails_on t project before) q
 
-pub none_yet : (t : Files) (project : ProjectSettings) (given : List GivenRequest) → Bundled (record { requests = []; replies = [] }) t project given given
+pub none_yet : (t : Files) (project : ProjectSettings) (given : List GivenRequest)
+    → Bundled (record { requests = []; replies = [] }) t project given given
 none_yet t project given = record { before = []; in_order = refl; requests = refl; replies = λ q. refl }
 
 -- the first reply of two lists
-reply-append : (xs ys : List (Question × Reply)) (q : Question) → reply_in (xs ++ ys) q ≡ option_or (reply_in xs q) (reply_in ys q)
+reply-append : (xs ys : List (Question × Reply)) (q : Question)
+    → reply_in (xs ++ ys) q ≡ option_or (reply_in xs q) (reply_in ys q)
 reply-append [] ys q = refl
 reply-append (x ∷ xs) ys q = by_test (question_eq x.0 q) (reply-append xs ys q)
   where
-    by_test : (b : Bool) → reply_in (xs ++ ys) q ≡ option_or (reply_in xs q) (reply_in ys q) → cond b (Some x.1) (reply_in (xs ++ ys) q) ≡ option_or (cond b (Some x.1) (reply_in xs q)) (reply_in ys q)
+    by_test : (b : Bool) → reply_in (xs ++ ys) q ≡ option_or (reply_in xs q) (reply_in ys q)
+        → cond b (Some x.1) (reply_in (xs ++ ys) q) ≡ option_or (cond b (Some x.1) (reply_in xs q)) (reply_in ys q)
     by_test true rest = refl
     by_test false rest = rest
 
-trails-push : (t : Files) (project : ProjectSettings) (before : List GivenRequest) (r : GivenRequest) → trails_on t project (before ++ r ∷ []) ≡ trails_on t project before ++ (outcome_on t project r).trail
+trails-push : (t : Files) (project : ProjectSettings) (before : List GivenRequest) (r : GivenRequest)
+    → trails_on t project (before ++ r ∷ []) ≡ trails_on t project before ++ (outcome_on t project r).trail
 trails-push t project before r =
     flat_map-append (λ r. (outcome_on t project r).trail) before (r ∷ [])
     ∙ ap (λ l. trails_on t project before ++ l) (append-nil (outcome_on t project r).trail)
 
-pub one_bundled : (b new : Bundle) (t : Files) (project : ProjectSettings) (given rest more : List GivenRequest) (r : GivenRequest) → Bundled b t project given rest → rest ≡ r ∷ more
-    → IsAdded (request_for r.importer r.specifier) (outcome_on t project r).trail b new → Bundled new t project given more
+pub one_bundled : (b new : Bundle) (t : Files) (project : ProjectSettings) (given rest more : List GivenRequest)
+    (r : GivenRequest) → Bundled b t project given rest → rest ≡ r ∷ more
+    → IsAdded (request_for r.importer r.specifier) (outcome_on t project r).trail b new
+    → Bundled new t project given more
 one_bundled b new t project given rest more r so_far next added = record {
   before = so_far.before ++ r ∷ [];
   in_order = so_far.in_order ∙ ap (λ l. so_far.before ++ l) next ∙ sym (append_assoc so_far.before (r ∷ []) more);
@@ -67,7 +102,8 @@ one_bundled b new t project given rest more r so_far next added = record {
 }
 
 -- the next request of those that are left
-pub next_given : (given : List GivenRequest) (i : ℕ) (r : GivenRequest) → i < length given → r ≡ get_or given i r → drop i given ≡ r ∷ drop (i + 1) given
+pub next_given : (given : List GivenRequest) (i : ℕ) (r : GivenRequest) → i < length given → r ≡ get_or given i r
+    → drop i given ≡ r ∷ drop (i + 1) given
 next_given given i r inside is = drop_more given i r inside ∙ ap (λ x. x ∷ drop (i + 1) given) (sym is)
 
 nothing : (rest : List GivenRequest) → length rest ≡ 0 → rest ≡ []
@@ -75,44 +111,58 @@ nothing [] h = refl
 nothing (r ∷ rest) h = absurd (omega arith)
 
 -- replies in order are those of the finite map
-same_replies : (replies trail : List (Question × Reply)) → AreReplies replies → ((q : Question) → reply_in replies q ≡ reply_in trail q) → replies ≡ replies_in trail
+same_replies : (replies trail : List (Question × Reply)) → AreReplies replies
+    → ((q : Question) → reply_in replies q ≡ reply_in trail q) → replies ≡ replies_in trail
 same_replies replies trail are same =
     let made : finite.FinMap question_cmp Reply = from_entries trail in
-    same_entries question_cmp question_cmp_total one_question replies (entries made) (passes _ are.ascend) (entries_sorted made)
-    (λ q. find_is replies q ∙ same q ∙ sym (find_is trail q) ∙ sym (get-from_entries question_cmp_total trail q) ∙ get-entries made q)
+    same_entries question_cmp question_cmp_total one_question replies (entries made) (passes _ are.ascend)
+    (entries_sorted made)
+    (λ q. find_is replies q ∙ same q ∙ sym (find_is trail q) ∙ sym (get-from_entries question_cmp_total trail q)
+    ∙ get-entries made q)
 
-pub all_bundled : (b : Bundle) (t : Files) (project : ProjectSettings) (given : List GivenRequest) (i : ℕ) → Bundled b t project given (drop i given) → length given ≤ i → AreReplies b.replies → b ≡ bundle_on t project given
+pub all_bundled : (b : Bundle) (t : Files) (project : ProjectSettings) (given : List GivenRequest) (i : ℕ)
+    → Bundled b t project given (drop i given) → length given ≤ i → AreReplies b.replies → b ≡ bundle_on t project given
 all_bundled b t project given i so_far past are =
     let left : length (drop i given) ≡ 0 = length-drop i given ∙ omega arith in
-    let all : so_far.before ≡ given = sym (so_far.in_order ∙ ap (λ l. so_far.before ++ l) (nothing (drop i given) left) ∙ append-nil so_far.before) in
+    let all : so_far.before ≡ given =
+    sym (so_far.in_order ∙ ap (λ l. so_far.before ++ l) (nothing (drop i given) left) ∙ append-nil so_far.before) in
     let requests = so_far.requests ∙ ap (map (λ (r : GivenRequest). request_for r.importer r.specifier)) all in
-    let replies = same_replies b.replies (trails_on t project so_far.before) are so_far.replies ∙ ap (λ l. replies_in (trails_on t project l)) all in
+    let replies = same_replies b.replies (trails_on t project so_far.before) are so_far.replies
+    ∙ ap (λ l. replies_in (trails_on t project l)) all in
     λ i. record { requests = requests i; replies = replies i }
 
 -- the text in a project that is refused
-pub text_refused : (t : Files) (given : List GivenRequest) (made : Result ProjectSettings Cause) (e : DocumentError) → Meets {A = ProjectSettings} (Err e) made → Meets {A = List ℕ} (Err e) (text_by t given made)
+pub text_refused : (t : Files) (given : List GivenRequest) (made : Result ProjectSettings Cause) (e : DocumentError)
+    → Meets {A = ProjectSettings} (Err e) made → Meets {A = List ℕ} (Err e) (text_by t given made)
 text_refused t given made (Refused cause) h = rw h refl
 text_refused t given made ended.NoMemory h = tt
 
-pub text_told : (t : Files) (given : List GivenRequest) (made : Result ProjectSettings Cause) (project : ProjectSettings) (b : Bundle) (text : List ℕ) → made ≡ Ok project → b ≡ bundle_on t project given → text ≡ bundle_text b → text_by t given made ≡ Ok text
+pub text_told : (t : Files) (given : List GivenRequest) (made : Result ProjectSettings Cause)
+    (project : ProjectSettings) (b : Bundle) (text : List ℕ) → made ≡ Ok project → b ≡ bundle_on t project given
+    → text ≡ bundle_text b → text_by t given made ≡ Ok text
 text_told t given made project b text is bundled written = rw is (ap Ok (sym (written ∙ ap bundle_text bundled)))
 
 -- the report on a document whose fields are refused, and on one of whose files is
-pub report_stopped : (bytes : List ℕ) (e : DocumentError) → Meets {A = Document} (Err e) (fields_in bytes) → Meets {A = List ℕ} (Err e) (bundle_report bytes)
+pub report_stopped : (bytes : List ℕ) (e : DocumentError) → Meets {A = Document} (Err e) (fields_in bytes)
+    → Meets {A = List ℕ} (Err e) (bundle_report bytes)
 unfolding bundle_report document
 report_stopped bytes (Refused cause) found = rw found refl
 report_stopped bytes ended.NoMemory found = tt
 
-pub report_untreed : (bytes : List ℕ) (fields : Document) (e : DocumentError) → fields_in bytes ≡ Ok fields → Meets {A = Files} (Err e) (put_files finite.empty fields.files) → Meets {A = List ℕ} (Err e) (bundle_report bytes)
+pub report_untreed : (bytes : List ℕ) (fields : Document) (e : DocumentError) → fields_in bytes ≡ Ok fields
+    → Meets {A = Files} (Err e) (put_files finite.empty fields.files) → Meets {A = List ℕ} (Err e) (bundle_report bytes)
 unfolding bundle_report document
 report_untreed bytes fields (Refused cause) read found = rw (read, found) refl
 report_untreed bytes fields ended.NoMemory read found = tt
 
 -- the report by a document's settings, on the tree of its files
-pub report_by : (bytes : List ℕ) (fields : Document) (t : Files) (result : Result (List ℕ) DocumentError) → fields_in bytes ≡ Ok fields → put_files finite.empty fields.files ≡ Ok t
-    → Meets result (text_by t fields.requests (project_in (settings_in fields.settings fields.lock))) → Meets result (bundle_report bytes)
+pub report_by : (bytes : List ℕ) (fields : Document) (t : Files) (result : Result (List ℕ) DocumentError)
+    → fields_in bytes ≡ Ok fields → put_files finite.empty fields.files ≡ Ok t
+    → Meets result (text_by t fields.requests (project_in (settings_in fields.settings fields.lock)))
+    → Meets result (bundle_report bytes)
 unfolding bundle_report document
-report_by bytes fields t result read filed text = rw (read, filed) (by_project (project_in (settings_in fields.settings fields.lock)) text)
+report_by bytes fields t result read filed text =
+    rw (read, filed) (by_project (project_in (settings_in fields.settings fields.lock)) text)
   where
     given_by : ProjectSettings → Result Given Cause
     given_by project = Ok (record { files = t; project = project; requests = fields.requests })
@@ -120,6 +170,7 @@ report_by bytes fields t result read filed text = rw (read, filed) (by_project (
     text_given : Given → Result (List ℕ) Cause
     text_given given = Ok (bundle_text (bundle_on given.files given.project given.requests))
 
-    by_project : (made : Result ProjectSettings Cause) → Meets result (text_by t fields.requests made) → Meets result ((made >>= given_by) >>= text_given)
+    by_project : (made : Result ProjectSettings Cause) → Meets result (text_by t fields.requests made)
+        → Meets result ((made >>= given_by) >>= text_given)
     by_project (Ok project) told = told
     by_project (Err cause) told = told

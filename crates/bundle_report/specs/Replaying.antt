@@ -47,7 +47,8 @@ pub record IsOfBundle (text : List ℕ) (Holds : Bundle → Type 0) : Type 0 whe
   pub is_text : text ≡ bundle_text bundle
   pub holds : Holds bundle
 
--- What a replay document whose fields are read comes to: its text is no bundle's from a line on, or that of a bundle, which is replayed.
+-- What a replay document whose fields are read comes to: its text is no bundle's from a line on, or that of a bundle,
+-- which is replayed.
 abbrev pub IsToldOf : Result (List ℕ) ReplayCause → ReplayDocument → Type 0
 IsToldOf (Ok text) d =
     IsOfBundle d.bundle (λ b. IsReplayedIn (Ok text) b (project_in (settings_in d.settings d.lock)))
@@ -56,7 +57,8 @@ IsToldOf (Err (Document cause)) d =
 IsToldOf (Err NoBundle) d = ⊥
 IsToldOf (Err (BadBundle line)) d = IsWrongBy line d.bundle
 IsToldOf (Err (NotRecorded request question)) d =
-    IsOfBundle d.bundle (λ b. IsReplayedIn (Err (NotRecorded request question)) b (project_in (settings_in d.settings d.lock)))
+    IsOfBundle d.bundle (λ b. IsReplayedIn (Err (NotRecorded request question)) b
+    (project_in (settings_in d.settings d.lock)))
 
 -- where the fields are read
 abbrev pub IsToldBy : Result (List ℕ) ReplayCause → Result ReplayDocument ReplayCause → Type 0

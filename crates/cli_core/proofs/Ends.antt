@@ -9,7 +9,16 @@ use Rattle.cli_core.specs.OnDisk.{AsksDisk}
 use Rattle.cli_core.specs.Run.{CountsTreeFault, is_of_source, is_of_tree}
 use Rattle.cli_core.specs.Streams.{CountsFault, SinkState}
 use Rattle.cli_core.specs.declared.status.Status.{Status}
-use Rattle.cli_core.specs.declared.status.Status.TheVariants.{Done, Refused, Usage, ReadFault, WriteFault, TooLong, NoMemory, TreeFault}
+use Rattle.cli_core.specs.declared.status.Status.TheVariants.{
+  Done,
+  Refused,
+  Usage,
+  ReadFault,
+  WriteFault,
+  TooLong,
+  NoMemory,
+  TreeFault,
+}
 
 -- the source's count, where the source didn't fail
 pub no_read_fault : (status : Status) (n : ℕ) → status ≢ ReadFault → CountsFault (is_of_source status) n n
@@ -39,7 +48,8 @@ pub record EndsUnread (status : Status) : Type 0 where
   pub source : status ≢ ReadFault
 
 -- of counts, nor a fault of the disk
-pub generates_ends : {status : Status} → (status ≡ Done) ⊎ ((status ≡ WriteFault) ⊎ (status ≡ NoMemory)) → EndsUnread status × (status ≢ TreeFault)
+pub generates_ends : {status : Status} → (status ≡ Done) ⊎ ((status ≡ WriteFault) ⊎ (status ≡ NoMemory))
+    → EndsUnread status × (status ≢ TreeFault)
 generates_ends (inl is) = (record { usage = λ other. cc; source = λ other. cc }, λ other. cc)
 generates_ends (inr (inl is)) = (record { usage = λ other. cc; source = λ other. cc }, λ other. cc)
 generates_ends (inr (inr is)) = (record { usage = λ other. cc; source = λ other. cc }, λ other. cc)
@@ -49,14 +59,16 @@ cause_ends (inl is) = record { usage = λ other. cc; source = λ other. cc }
 cause_ends (inr (inl is)) = record { usage = λ other. cc; source = λ other. cc }
 cause_ends (inr (inr is)) = record { usage = λ other. cc; source = λ other. cc }
 
-outcome_ends : {status : Status} → (status ≡ Done) ⊎ ((status ≡ WriteFault) ⊎ ((status ≡ NoMemory) ⊎ (status ≡ TreeFault))) → EndsUnread status
+outcome_ends : {status : Status} → (status ≡ Done)
+    ⊎ ((status ≡ WriteFault) ⊎ ((status ≡ NoMemory) ⊎ (status ≡ TreeFault))) → EndsUnread status
 outcome_ends (inl is) = record { usage = λ other. cc; source = λ other. cc }
 outcome_ends (inr (inl is)) = record { usage = λ other. cc; source = λ other. cc }
 outcome_ends (inr (inr (inl is))) = record { usage = λ other. cc; source = λ other. cc }
 outcome_ends (inr (inr (inr is))) = record { usage = λ other. cc; source = λ other. cc }
 
 -- of a request over the disk
-pub asks_ends : {request : Asked} {status : Status} {sink_old sink_new : SinkState} {disk_old disk_new : TreeState} → AsksDisk request status sink_old sink_new disk_old disk_new → EndsUnread status
+pub asks_ends : {request : Asked} {status : Status} {sink_old sink_new : SinkState} {disk_old disk_new : TreeState}
+    → AsksDisk request status sink_old sink_new disk_old disk_new → EndsUnread status
 asks_ends {request = request} {status = status} asks = by_project (project_of request) refl
   where
     by_project : (made : Result ProjectSettings Cause) → project_of request ≡ made → EndsUnread status

@@ -19,23 +19,28 @@ same_cause : {A E : Type 0} {e other : E} (r : Result A E) → r ≡ Err e → r
 same_cause r refused found = cc
 
 -- the project is refused for this cause
-pub asks_by_cause : {status : Status} {sink_old sink_new : SinkState} {disk_old disk_new : TreeState} (request : Asked) (cause : Cause) → project_of request ≡ Err cause
-    → TellsCause cause status sink_old sink_new disk_old disk_new → AsksDisk request status sink_old sink_new disk_old disk_new
+pub asks_by_cause : {status : Status} {sink_old sink_new : SinkState} {disk_old disk_new : TreeState} (request : Asked)
+    (cause : Cause) → project_of request ≡ Err cause
+    → TellsCause cause status sink_old sink_new disk_old disk_new
+    → AsksDisk request status sink_old sink_new disk_old disk_new
 asks_by_cause request cause is told = record {
   refused = λ other found. rw (← same_cause _ is found) told;
   accepted = λ ok. absurd (not_ok _ is ok);
 }
 
 -- the project is accepted
-by_project : {status : Status} {sink_old sink_new : SinkState} {disk_old disk_new : TreeState} (request : Asked) → IsOk (project_of request)
-    → TellsOutcome request status sink_old sink_new disk_old disk_new → AsksDisk request status sink_old sink_new disk_old disk_new
+by_project : {status : Status} {sink_old sink_new : SinkState} {disk_old disk_new : TreeState} (request : Asked)
+    → IsOk (project_of request)
+    → TellsOutcome request status sink_old sink_new disk_old disk_new
+    → AsksDisk request status sink_old sink_new disk_old disk_new
 by_project request ok told = record {
   refused = λ cause found. absurd (not_ok _ found ok);
   accepted = λ _. told;
 }
 
 -- the disk failed
-pub asks_disk_fault : {sink_old sink_new : SinkState} {disk_old disk_new : TreeState} (request : Asked) → IsOk (project_of request)
+pub asks_disk_fault : {sink_old sink_new : SinkState} {disk_old disk_new : TreeState} (request : Asked)
+    → IsOk (project_of request)
     → Rose disk_old.faults disk_new.faults → AsksDisk request TreeFault sink_old sink_new disk_old disk_new
 asks_disk_fault request ok rose = by_project request ok (record {
   done = λ other. cc;
@@ -45,8 +50,10 @@ asks_disk_fault request ok rose = by_project request ok (record {
 })
 
 -- the line of an outcome was written
-pub asks_whole : {sink_old sink_new : SinkState} {disk_old disk_new : TreeState} (request : Asked) (text line : List ℕ) → HasOutcome disk_old.stands_for request (λ told. line ≡ told)
-    → text ≡ line → Appends text sink_old.written sink_new.written → AsksDisk request Done sink_old sink_new disk_old disk_new
+pub asks_whole : {sink_old sink_new : SinkState} {disk_old disk_new : TreeState} (request : Asked) (text line : List ℕ)
+    → HasOutcome disk_old.stands_for request (λ told. line ≡ told)
+    → text ≡ line → Appends text sink_old.written sink_new.written
+    → AsksDisk request Done sink_old sink_new disk_old disk_new
 asks_whole {sink_old = sink_old} {sink_new = sink_new} request text line outcome is written =
     let W : List ℕ → Type 0 = λ text. Appends text sink_old.written sink_new.written in
     by_project request (ap is_ok outcome.accepted) (record {
@@ -57,8 +64,10 @@ asks_whole {sink_old = sink_old} {sink_new = sink_new} request text line outcome
     })
 
 -- a first part of the line of an outcome was written, and the sink failed
-pub asks_cut : {sink_old sink_new : SinkState} {disk_old disk_new : TreeState} (request : Asked) (text line : List ℕ) → HasOutcome disk_old.stands_for request (λ told. line ≡ told)
-    → text ≡ line → AppendsFront text sink_old.written sink_new.written → Rose sink_old.faults sink_new.faults → AsksDisk request WriteFault sink_old sink_new disk_old disk_new
+pub asks_cut : {sink_old sink_new : SinkState} {disk_old disk_new : TreeState} (request : Asked) (text line : List ℕ)
+    → HasOutcome disk_old.stands_for request (λ told. line ≡ told)
+    → text ≡ line → AppendsFront text sink_old.written sink_new.written → Rose sink_old.faults sink_new.faults
+    → AsksDisk request WriteFault sink_old sink_new disk_old disk_new
 asks_cut {sink_old = sink_old} {sink_new = sink_new} request text line outcome is written rose =
     let W : List ℕ → Type 0 = λ text. AppendsFront text sink_old.written sink_new.written in
     by_project request (ap is_ok outcome.accepted) (record {
@@ -69,7 +78,8 @@ asks_cut {sink_old = sink_old} {sink_new = sink_new} request text line outcome i
     })
 
 -- no memory was found
-pub asks_starved : {sink_old sink_new : SinkState} {disk_old disk_new : TreeState} (request : Asked) → ((cause : Cause) → project_of request ≡ Err cause → disk_new ≡ disk_old)
+pub asks_starved : {sink_old sink_new : SinkState} {disk_old disk_new : TreeState} (request : Asked)
+    → ((cause : Cause) → project_of request ≡ Err cause → disk_new ≡ disk_old)
     → AsksDisk request NoMemory sink_old sink_new disk_old disk_new
 asks_starved request unasked = record {
   refused = λ cause found. record {

@@ -14,21 +14,27 @@ use Rattle.cli_core.specs.declared.report.OutcomeForm.{OutcomeForm}
 use Rattle.cli_core.specs.Report.{lines_by, lines_of, report}
 
 -- the report on a document whose fields are refused, and on one of whose files is
-pub report_stopped : (form : OutcomeForm) (bytes : List ℕ) (e : DocumentError) → Meets {A = Document} (Err e) (fields_in bytes) → Meets {A = List ℕ} (Err e) (report form bytes)
+pub report_stopped : (form : OutcomeForm) (bytes : List ℕ) (e : DocumentError)
+    → Meets {A = Document} (Err e) (fields_in bytes) → Meets {A = List ℕ} (Err e) (report form bytes)
 unfolding report document
 report_stopped form bytes (Refused cause) found = rw found refl
 report_stopped form bytes ended.NoMemory found = tt
 
-pub report_untreed : (form : OutcomeForm) (bytes : List ℕ) (fields : Document) (e : DocumentError) → fields_in bytes ≡ Ok fields → Meets {A = Files} (Err e) (put_files finite.empty fields.files) → Meets {A = List ℕ} (Err e) (report form bytes)
+pub report_untreed : (form : OutcomeForm) (bytes : List ℕ) (fields : Document) (e : DocumentError)
+    → fields_in bytes ≡ Ok fields → Meets {A = Files} (Err e) (put_files finite.empty fields.files)
+    → Meets {A = List ℕ} (Err e) (report form bytes)
 unfolding report document
 report_untreed form bytes fields (Refused cause) read found = rw (read, found) refl
 report_untreed form bytes fields ended.NoMemory read found = tt
 
 -- the report by a document's settings, on the tree of its files
-pub report_by : (form : OutcomeForm) (bytes : List ℕ) (fields : Document) (t : Files) (result : Result (List ℕ) DocumentError) → fields_in bytes ≡ Ok fields → put_files finite.empty fields.files ≡ Ok t
-    → Meets result (lines_by form t fields.requests (project_in (settings_in fields.settings fields.lock))) → Meets result (report form bytes)
+pub report_by : (form : OutcomeForm) (bytes : List ℕ) (fields : Document) (t : Files)
+    (result : Result (List ℕ) DocumentError) → fields_in bytes ≡ Ok fields → put_files finite.empty fields.files ≡ Ok t
+    → Meets result (lines_by form t fields.requests (project_in (settings_in fields.settings fields.lock)))
+    → Meets result (report form bytes)
 unfolding report document
-report_by form bytes fields t result read filed lines = rw (read, filed) (by_project (project_in (settings_in fields.settings fields.lock)) lines)
+report_by form bytes fields t result read filed lines =
+    rw (read, filed) (by_project (project_in (settings_in fields.settings fields.lock)) lines)
   where
     given_by : ProjectSettings → Result Given Cause
     given_by project = Ok (record { files = t; project = project; requests = fields.requests })
@@ -36,6 +42,7 @@ report_by form bytes fields t result read filed lines = rw (read, filed) (by_pro
     lines_given : Given → Result (List ℕ) Cause
     lines_given given = Ok (lines_of form given.files given.project given.requests)
 
-    by_project : (made : Result ProjectSettings Cause) → Meets result (lines_by form t fields.requests made) → Meets result ((made >>= given_by) >>= lines_given)
+    by_project : (made : Result ProjectSettings Cause) → Meets result (lines_by form t fields.requests made)
+        → Meets result ((made >>= given_by) >>= lines_given)
     by_project (Ok project) told = told
     by_project (Err cause) told = told

@@ -1,5 +1,27 @@
 -- Which words are which command.
-use Rattle.std.specs.Prelude.{ℕ, ◌+◌, ◌-◌, ◌*◌, Bool, false, ◌&&◌, nat_le, List, [], ◌∷◌, map, codes, bytes_eq, Option, Some, None, option_map, String, string_bytes, if◌then◌else◌}
+use Rattle.std.specs.Prelude.{
+  ℕ,
+  ◌+◌,
+  ◌-◌,
+  ◌*◌,
+  Bool,
+  false,
+  ◌&&◌,
+  nat_le,
+  List,
+  [],
+  ◌∷◌,
+  map,
+  codes,
+  bytes_eq,
+  Option,
+  Some,
+  None,
+  option_map,
+  String,
+  string_bytes,
+  if◌then◌else◌,
+}
 use Rattle.std.specs.Str.{all_ascii_digits}
 use Rattle.std.specs.declared.alloc.Global.{Global}
 use Rattle.swc_loader.specs.declared.target.TargetEnv.{TargetEnv}
@@ -25,7 +47,8 @@ number_after n (c ∷ cs) = number_after (10 * n + (c - 48)) cs
 -- the size that a word gives: a number from 1 to the largest one, without sign and without a zero in front
 unfoldable pub size_of : List ℕ → Option ℕ
 size_of word =
-    if begins_above_zero word && (all_ascii_digits word && nat_le (number_after 0 word) LARGEST) then Some (number_after 0 word)
+    if begins_above_zero word && (all_ascii_digits word && nat_le (number_after 0 word) LARGEST) then Some
+    (number_after 0 word)
     else None
 
 -- the target that a word names
@@ -63,7 +86,8 @@ command_of_two word next =
 -- five words: `disk`, a working folder, a target, an importer and a specifier
 abbrev pub disk_request_in : List (List ℕ) → Option Asked
 disk_request_in (word ∷ cwd ∷ target ∷ importer ∷ specifier ∷ []) =
-    if bytes_eq word (codes "disk") then option_map (λ env. record { cwd = cwd; target = env; importer = importer; specifier = specifier }) (target_of target)
+    if bytes_eq word (codes "disk") then option_map (λ env. record
+    { cwd = cwd; target = env; importer = importer; specifier = specifier }) (target_of target)
     else None
 disk_request_in _ = None
 

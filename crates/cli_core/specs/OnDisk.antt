@@ -29,9 +29,11 @@ pub record TellsCause (cause : Cause) (status : Status) (sink_old sink_new : Sin
 pub record TellsOutcome (request : Asked) (status : Status) (sink_old sink_new : SinkState)
     (disk_old disk_new : TreeState) : Type 0 where
   -- Done: the line of an outcome was written
-  pub done : status ≡ Done → HasOutcome disk_old.stands_for request (λ line. Appends line sink_old.written sink_new.written)
+  pub done : status ≡ Done → HasOutcome disk_old.stands_for request
+      (λ line. Appends line sink_old.written sink_new.written)
   -- WriteFault: a first part of it was
-  pub cut : status ≡ WriteFault → HasOutcome disk_old.stands_for request (λ line. AppendsFront line sink_old.written sink_new.written)
+  pub cut : status ≡ WriteFault → HasOutcome disk_old.stands_for request
+      (λ line. AppendsFront line sink_old.written sink_new.written)
   -- where neither the disk nor the sink failed, it was written whole, or no memory was found
   pub complete : IsSteady disk_old.faults disk_new.faults → IsSteady sink_old.faults sink_new.faults
       → (status ≡ Done) ⊎ (status ≡ NoMemory)

@@ -10,7 +10,15 @@ use Rattle.cli_core.specs.Streams.{SinkState, SourceState}
 use Rattle.cli_core.specs.Writing.{AppendsFront}
 use Rattle.cli_core.specs.declared.reading.TheConstants.{CHUNK, LONGEST}
 use Rattle.cli_core.specs.declared.status.Status.{Status}
-use Rattle.cli_core.specs.declared.status.Status.TheVariants.{Done, Refused, Usage, WriteFault, TooLong, NoMemory, TreeFault}
+use Rattle.cli_core.specs.declared.status.Status.TheVariants.{
+  Done,
+  Refused,
+  Usage,
+  WriteFault,
+  TooLong,
+  NoMemory,
+  TreeFault,
+}
 
 -- the status and the text that the lines of a bundle's verdicts or a cause come to
 abbrev pub reply_as : Result (List ℕ) ReplayCause → Status × List ℕ
@@ -23,7 +31,8 @@ pub record IsTold (bytes : List ℕ) (Holds : Status → List ℕ → Type 0) : 
   pub is_report : IsReplayReport told bytes
   pub holds : Holds (reply_as told).0 (reply_as told).1
 
--- The report on a replay document. Each fact of bytes is one where the source tells what it has left, and each of a text one where the sink tells what was written.
+-- The report on a replay document. Each fact of bytes is one where the source tells what it has left, and each of a
+-- text one where the sink tells what was written.
 pub record Replays (status : Status) (source_old source_new : SourceState)
     (sink_old sink_new : SinkState) : Type 0 where
   -- Done: all bytes were read, and the lines of the bundle's verdicts were written

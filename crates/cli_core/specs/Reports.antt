@@ -10,9 +10,18 @@ use Rattle.cli_core.specs.Writing.{AppendsFront}
 use Rattle.cli_core.specs.declared.document_kind.DocumentKind.{DocumentKind}
 use Rattle.cli_core.specs.declared.reading.TheConstants.{CHUNK, LONGEST}
 use Rattle.cli_core.specs.declared.status.Status.{Status}
-use Rattle.cli_core.specs.declared.status.Status.TheVariants.{Done, Refused, Usage, WriteFault, TooLong, NoMemory, TreeFault}
+use Rattle.cli_core.specs.declared.status.Status.TheVariants.{
+  Done,
+  Refused,
+  Usage,
+  WriteFault,
+  TooLong,
+  NoMemory,
+  TreeFault,
+}
 
--- The report on a document of a kind. Each fact of bytes is one where the source tells what it has left, and each of a text one where the sink tells what was written.
+-- The report on a document of a kind. Each fact of bytes is one where the source tells what it has left, and each of a
+-- text one where the sink tells what was written.
 pub record Reports (kind : DocumentKind) (status : Status) (source_old source_new : SourceState)
     (sink_old sink_new : SinkState) : Type 0 where
   -- Done: all bytes were read, and the report on them was written
@@ -30,7 +39,8 @@ pub record Reports (kind : DocumentKind) (status : Status) (source_old source_ne
   pub early : is_of_source status ≡ true → ForSome source_old.left (λ bytes. LeavesEnd LONGEST bytes source_new.left)
   -- at most one piece was read past the longest document, however it ends
   pub end : ForSome source_old.left (λ bytes. LeavesEnd (LONGEST + CHUNK) bytes source_new.left)
-  -- where neither the source nor the sink failed, a document that nothing is against is answered, or no memory was found
+  -- where neither the source nor the sink failed, a document that nothing is against is answered, or no memory was
+  -- found
   pub complete : ForSome source_old.left (λ bytes. length bytes ≤ LONGEST → IsOk (report_of kind bytes)
       → IsSteady source_old.faults source_new.faults → IsSteady sink_old.faults sink_new.faults
       → (status ≡ Done) ⊎ (status ≡ NoMemory))

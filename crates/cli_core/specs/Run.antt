@@ -8,7 +8,16 @@ use Rattle.cli_core.specs.declared.document_kind.DocumentKind.{DocumentKind}
 use Rattle.cli_core.specs.Streams.{Appends, CountsFault, SinkState, SourceState}
 use Rattle.cli_core.specs.declared.reading.TheConstants.{LONGEST}
 use Rattle.cli_core.specs.declared.status.Status.{Status}
-use Rattle.cli_core.specs.declared.status.Status.TheVariants.{Done, Refused, Usage, ReadFault, WriteFault, TooLong, NoMemory, TreeFault}
+use Rattle.cli_core.specs.declared.status.Status.TheVariants.{
+  Done,
+  Refused,
+  Usage,
+  ReadFault,
+  WriteFault,
+  TooLong,
+  NoMemory,
+  TreeFault,
+}
 
 -- the number with which the program ends
 abbrev pub code_of : Status → ℕ

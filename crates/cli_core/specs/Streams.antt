@@ -1,14 +1,39 @@
--- What contracts see of a source and a sink, and what a read and a write do to a stream's bytes and to its count of faults.
-use Rattle.std.specs.Prelude.{◌≡◌, ◌==◌, ◌&&◌, ℕ, ◌≤◌, ◌<◌, nat_lt, Bool, true, false, List, [], ◌++◌, length, take, drop, Option, Some, Result, Ok, Err}
+-- What contracts see of a source and a sink, and what a read and a write do to a stream's bytes and to its count of
+-- faults.
+use Rattle.std.specs.Prelude.{
+  ◌≡◌,
+  ◌==◌,
+  ◌&&◌,
+  ℕ,
+  ◌≤◌,
+  ◌<◌,
+  nat_lt,
+  Bool,
+  true,
+  false,
+  List,
+  [],
+  ◌++◌,
+  length,
+  take,
+  drop,
+  Option,
+  Some,
+  Result,
+  Ok,
+  Err,
+}
 use Rattle.std.specs.Option.{ForSome}
 use Rattle.tree_core.specs.Tree.{Rose}
 
--- a source: what is left to be read, where it tells that, and how often a read was refused, as a number that never falls
+-- a source: what is left to be read, where it tells that, and how often a read was refused, as a number that never
+-- falls
 pub record SourceState : Type 0 where
   pub left : Option (List ℕ)
   pub faults : ℕ
 
--- a sink: what was written, where it tells that, and how often a write was refused or took nothing of a piece, as a number
+-- a sink: what was written, where it tells that, and how often a write was refused or took nothing of a piece, as a
+-- number
 -- that never falls
 pub record SinkState : Type 0 where
   pub written : Option (List ℕ)
@@ -19,7 +44,8 @@ abbrev pub CountsFault : Bool → ℕ → ℕ → Type 0
 CountsFault true before now = (before ≤ now) × Rose before now
 CountsFault false before now = now ≡ before
 
--- the first n of the bytes that were left stand at the front of the buffer, and the others are left; none for a buffer that
+-- the first n of the bytes that were left stand at the front of the buffer, and the others are left; none for a buffer
+-- that
 -- isn't empty means the end
 pub record Takes (n : ℕ) (buffer bytes : List ℕ) (left : Option (List ℕ)) : Type 0 where
   pub others : left ≡ Some (drop n bytes)

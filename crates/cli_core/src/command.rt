@@ -1,6 +1,15 @@
 // The commands, by the words that ask for them.
 ghost use Rattle.std.specs.Prelude.{◌≡◌, map, string_bytes};
-ghost use Rattle.cli_core.specs.Command.{asked, begins_above_zero, command_of_one, command_of_two, disk_request_in, form_of, size_of, target_of};
+ghost use Rattle.cli_core.specs.Command.{
+  asked,
+  begins_above_zero,
+  command_of_one,
+  command_of_two,
+  disk_request_in,
+  form_of,
+  size_of,
+  target_of,
+};
 
 use crate::document_kind::DocumentKind;
 use crate::report::OutcomeForm;

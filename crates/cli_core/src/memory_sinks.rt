@@ -1,5 +1,20 @@
 // Sinks in memory.
-ghost use Rattle.std.specs.Prelude.{◌≡◌, ◌-◌, ◌≤◌, ◌++◌, [], Some, true, if◌then◌else◌, min, IfOk, OnErr, is_err, length, take};
+ghost use Rattle.std.specs.Prelude.{
+  ◌≡◌,
+  ◌-◌,
+  ◌≤◌,
+  ◌++◌,
+  [],
+  Some,
+  true,
+  if◌then◌else◌,
+  min,
+  IfOk,
+  OnErr,
+  is_err,
+  length,
+  take,
+};
 ghost use Rattle.cli_core.specs.Streams.{Appends, CountsFault, is_fault_of_sink, takes_nothing};
 ghost use Rattle.cli_core.specs.MemoryStreams.{is_listed};
 ghost use Rattle.tree_core.specs.Tree.{one_more};

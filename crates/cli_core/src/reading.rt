@@ -1,5 +1,20 @@
 // Reads a source to its end.
-ghost use Rattle.std.specs.Prelude.{◌≡◌, ◌≤◌, ◌<◌, ◌+◌, ℕ, [], IfOk, OnErr, IsErrOf, Some, Option, length, drop, vec_len};
+ghost use Rattle.std.specs.Prelude.{
+  ◌≡◌,
+  ◌≤◌,
+  ◌<◌,
+  ◌+◌,
+  ℕ,
+  [],
+  IfOk,
+  OnErr,
+  IsErrOf,
+  Some,
+  Option,
+  length,
+  drop,
+  vec_len,
+};
 ghost use Rattle.std.specs.Option.{ForSome};
 ghost use Rattle.cli_core.specs.Reading.{is_read_fault, LeavesEnd};
 ghost use Rattle.cli_core.specs.Streams.{CountsFault};

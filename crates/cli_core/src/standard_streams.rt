@@ -1,4 +1,5 @@
-// Any reader as a source and any writer as a sink, so that `run` can be given the standard streams. They tell nothing of
+// Any reader as a source and any writer as a sink, so that `run` can be given the standard streams. They tell nothing
+// of
 // content.
 use crate::sink::{Sink, SinkFault};
 use crate::source::{Source, SourceFault};

@@ -1,5 +1,27 @@
 -- The set of bytes that the code escapes is that of the definition.
-use Rattle.std.proofs.Common.{◌≡◌, ◌<◌, ◌≤◌, ℕ, zero, suc, Bool, true, false, cond, not, List, [], ◌∷◌, ◌++◌, refl, sym, ap, ◌∙◌, arith, true≢false}
+use Rattle.std.proofs.Common.{
+  ◌≡◌,
+  ◌<◌,
+  ◌≤◌,
+  ℕ,
+  zero,
+  suc,
+  Bool,
+  true,
+  false,
+  cond,
+  not,
+  List,
+  [],
+  ◌∷◌,
+  ◌++◌,
+  refl,
+  sym,
+  ap,
+  ◌∙◌,
+  arith,
+  true≢false,
+}
 use Rattle.std.specs.Prelude.{◌&&◌, nat_lt}
 use Rattle.std.specs.List.{flat_map}
 use Rattle.std.proofs.lemmas.Bool.Decides.{nat_tests}
@@ -29,7 +51,8 @@ unfolding all_below
 all_below-each zero p e b h = absurd (omega arith)
 all_below-each (suc n) p e b h = by_test (p n) refl e (λ f l. all_below-each n p f b l)
   where
-    by_test : (t : Bool) → p n ≡ t → (t && all_below n p) ≡ true → (all_below n p ≡ true → b < n → p b ≡ true) → p b ≡ true
+    by_test : (t : Bool) → p n ≡ t → (t && all_below n p) ≡ true → (all_below n p ≡ true → b < n → p b ≡ true)
+        → p b ≡ true
     by_test false is f rest = absurd (true≢false (sym f))
     by_test true is f rest = by_place (nat_lt b n) refl (rest f)
       where
@@ -49,7 +72,8 @@ should_percent_encode-is : (b : ℕ) → should_percent_encode ESCAPED b ≡ is_
 should_percent_encode-is b = by_test (nat_lt b 128) refl
   where
     by_test : (l : Bool) → nat_lt b 128 ≡ l → should_percent_encode ESCAPED b ≡ is_escaped b
-    by_test true l = same_bool-is _ _ (all_below-each 128 (λ k. same_bool (should_percent_encode ESCAPED k) (is_escaped k)) table b (grind (arith, nat_tests)))
+    by_test true l = same_bool-is _ _ (all_below-each 128 (λ k. same_bool (should_percent_encode ESCAPED k)
+        (is_escaped k)) table b (grind (arith, nat_tests)))
     by_test false l = above b (grind (arith, nat_tests))
 
 encode_byte-is : (b : ℕ) → encode_byte ESCAPED b ≡ escaped b

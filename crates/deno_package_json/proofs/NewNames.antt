@@ -9,6 +9,9 @@ nothing : {A : Type 0} (o : Option A) → is_some o ≡ false → o ≡ None
 nothing None e = refl
 nothing (Some x) e = absurd (true≢false e)
 
-pub with_new-insert_entry : {S : Type 0} (m : IndexMap (List ℕ) Required S) (name value key : List ℕ) (found : Required) (made : Requirements) → is_some (get_by (bytes_eq name) m) ≡ false → key ≡ name → found ≡ required name value → made ≡ insert_entry bytes_eq m.entries key found → made ≡ with_new m.entries (name, value)
+pub with_new-insert_entry : {S : Type 0} (m : IndexMap (List ℕ) Required S) (name value key : List ℕ) (found : Required)
+    (made : Requirements) → is_some (get_by (bytes_eq name) m) ≡ false → key ≡ name → found ≡ required name value
+    → made ≡ insert_entry bytes_eq m.entries key found → made ≡ with_new m.entries (name, value)
 with_new-insert_entry m name value key found made absent same is entries =
-    entries ∙ (λ i. insert_entry bytes_eq m.entries (same i) (is i)) ∙ insert_entry-new bytes_eq m name (required name value) (nothing _ absent) ∙ sym (rw absent refl)
+    entries ∙ (λ i. insert_entry bytes_eq m.entries (same i) (is i))
+    ∙ insert_entry-new bytes_eq m name (required name value) (nothing _ absent) ∙ sym (rw absent refl)

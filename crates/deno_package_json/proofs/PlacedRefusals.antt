@@ -9,7 +9,8 @@ ArePlaced-push : (es : Requirements) (e : List ℕ × Required) → ArePlaced es
 ArePlaced-push [] e h one = (one, tt)
 ArePlaced-push (d ∷ es) e h one = (h.0, ArePlaced-push es e h.1 one)
 
-pub ArePlaced-with_new : (es : Requirements) (name value : List ℕ) → IsPlaced (required name value) → ArePlaced es → ArePlaced (with_new es (name, value))
+pub ArePlaced-with_new : (es : Requirements) (name value : List ℕ) → IsPlaced (required name value) → ArePlaced es
+    → ArePlaced (with_new es (name, value))
 ArePlaced-with_new es name value one h = by_test (is_some (lookup (bytes_eq name) es))
   where
     by_test : (b : Bool) → ArePlaced (cond b es (es ++ (name, required name value) ∷ []))

@@ -1,5 +1,25 @@
--- The exports of a package (the field `exports` of Node's packages): an object whose keys are subpaths, each of which begins with `.`.
-use Rattle.std.specs.Prelude.{◌==◌, ◌||◌, ◌&&◌, ℕ, Bool, false, not, List, [], ◌∷◌, Option, Some, None, codes, option_and_then, option_map, unwrap_or, if◌then◌else◌}
+-- The exports of a package (the field `exports` of Node's packages): an object whose keys are subpaths, each of which
+-- begins with `.`.
+use Rattle.std.specs.Prelude.{
+  ◌==◌,
+  ◌||◌,
+  ◌&&◌,
+  ℕ,
+  Bool,
+  false,
+  not,
+  List,
+  [],
+  ◌∷◌,
+  Option,
+  Some,
+  None,
+  codes,
+  option_and_then,
+  option_map,
+  unwrap_or,
+  if◌then◌else◌,
+}
 use Rattle.serde_json.specs.Data.{Data, null, boolean, number, string, array, object, Members, no_members, member}
 use Rattle.serde_json.specs.Find.{get, as_object}
 
@@ -21,7 +41,8 @@ has_condition (member key d ms) = not (is_subpath key) || has_condition ms
 abbrev pub main_entry : Data → Members
 main_entry d = member (codes ".") d no_members
 
--- a text, a list and an object of conditions are the main entry's; an object of subpaths, and one without keys, stays; others are no exports
+-- a text, a list and an object of conditions are the main entry's; an object of subpaths, and one without keys, stays;
+-- others are no exports
 abbrev pub exports_of : Data → Option Members
 exports_of null = None
 exports_of (boolean b) = None
@@ -35,4 +56,5 @@ exports_in d = option_and_then exports_of (get (codes "exports") d)
 
 -- `exports` is an object with keys of both kinds
 abbrev pub has_mixed_exports : Data → Bool
-has_mixed_exports d = unwrap_or (option_map (λ ms. has_subpath ms && has_condition ms) (option_and_then as_object (get (codes "exports") d))) false
+has_mixed_exports d = unwrap_or (option_map (λ ms. has_subpath ms && has_condition ms)
+    (option_and_then as_object (get (codes "exports") d))) false

@@ -1,8 +1,42 @@
 -- The fields of a package.json, each as its value in the JSON says it. A value that isn't an object has no fields.
-use Rattle.std.specs.Prelude.{◌||◌, ℕ, List, [], ◌∷◌, Option, Some, None, codes, decimal, bytes_eq, if◌then◌else◌, option_map, option_and_then, unwrap_or}
+use Rattle.std.specs.Prelude.{
+  ◌||◌,
+  ℕ,
+  List,
+  [],
+  ◌∷◌,
+  Option,
+  Some,
+  None,
+  codes,
+  decimal,
+  bytes_eq,
+  if◌then◌else◌,
+  option_map,
+  option_and_then,
+  unwrap_or,
+}
 use Rattle.std.specs.Fmt.{signed_decimal}
 use Rattle.std.specs.Option.{option_or}
-use Rattle.serde_json.specs.Data.{Num, unsigned, negative, float, Data, null, boolean, number, string, array, object, Items, no_items, item, Members, no_members, member}
+use Rattle.serde_json.specs.Data.{
+  Num,
+  unsigned,
+  negative,
+  float,
+  Data,
+  null,
+  boolean,
+  number,
+  string,
+  array,
+  object,
+  Items,
+  no_items,
+  item,
+  Members,
+  no_members,
+  member,
+}
 use Rattle.serde_json.specs.Find.{get, as_str, as_array, as_object}
 use Rattle.deno_package_json.specs.Package.{Table}
 

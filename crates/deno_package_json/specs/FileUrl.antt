@@ -1,4 +1,5 @@
--- The file URL of a path: its bytes, of which those that a URL can't hold are escaped (the URL Standard's percent-encoding).
+-- The file URL of a path: its bytes, of which those that a URL can't hold are escaped (the URL Standard's
+-- percent-encoding).
 use Rattle.std.specs.Prelude.{◌==◌, ◌||◌, ℕ, Bool, List, [], ◌∷◌, ◌++◌, codes, nat_lt, if◌then◌else◌}
 use Rattle.std.specs.List.{flat_map, list_any}
 use Rattle.percent_encoding.specs.Percent.{percent_encode_byte}

@@ -6,7 +6,12 @@ use Rattle.serde_json.specs.Find.{get}
 use Rattle.serde_json.specs.Read.{read}
 use Rattle.serde_json.specs.Written.{has_float}
 use Rattle.deno_package_json.specs.declared.error.PackageJsonLoadError.{PackageJsonLoadError}
-use Rattle.deno_package_json.specs.declared.error.PackageJsonLoadError.TheVariants.{Deserialize, HoldsFloat, MixedExports, NoMemory}
+use Rattle.deno_package_json.specs.declared.error.PackageJsonLoadError.TheVariants.{
+  Deserialize,
+  HoldsFloat,
+  MixedExports,
+  NoMemory,
+}
 use Rattle.deno_package_json.specs.declared.package_json.PackageJson.{PackageJson}
 use Rattle.deno_package_json.specs.Exports.{exports_in, has_mixed_exports}
 use Rattle.deno_package_json.specs.Fields.{imports_in, table_under, text_under, texts_under, typ_in, types_in}
@@ -33,7 +38,8 @@ package_in path d = record {
 
 -- the package of a value: one that holds a float, or mixes the keys of its exports, is refused
 abbrev pub from_value : List ℕ → Data → Result Package PackageJsonLoadError
-from_value path d = if has_float d then Err (HoldsFloat path) else (if has_mixed_exports d then Err (MixedExports path) else Ok (package_in path d))
+from_value path d = if has_float d then Err (HoldsFloat path) else
+    (if has_mixed_exports d then Err (MixedExports path) else Ok (package_in path d))
 
 -- the package of what a text is as JSON
 abbrev pub from_json : List ℕ → Option Data → Result Package PackageJsonLoadError

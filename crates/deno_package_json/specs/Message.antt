@@ -5,7 +5,10 @@ use Rattle.std.specs.Str.{IsCharBoundary}
 use Rattle.npm_req.specs.Message as npm
 use Rattle.npm_req.specs.declared.error.NpmVersionReqParseError.TheVariants.{Unexpected}
 use Rattle.deno_package_json.specs.declared.dep_value.PackageJsonDepValueParseError.{PackageJsonDepValueParseError}
-use Rattle.deno_package_json.specs.declared.dep_value.PackageJsonDepValueParseError.TheVariants.{VersionReq, Unsupported}
+use Rattle.deno_package_json.specs.declared.dep_value.PackageJsonDepValueParseError.TheVariants.{
+  VersionReq,
+  Unsupported,
+}
 use Rattle.deno_package_json.specs.Requirements.{Required, Requirements}
 
 -- the message on a range is that of `npm_req` on its text

@@ -26,7 +26,8 @@ IsFileRefused files path e = (text : List ℕ) × IsTextAt files path text × (f
 
 -- the package of the file at the path
 abbrev pub LoadsFile : Option Files → List ℕ → Loaded → Type 0
-LoadsFile files path (Ok rc) = (text : List ℕ) × IsTextAt files path text × (from_text path text ≡ Ok (package_of (shared rc)))
+LoadsFile files path (Ok rc) =
+    (text : List ℕ) × IsTextAt files path text × (from_text path text ≡ Ok (package_of (shared rc)))
 LoadsFile files path (Err e) = IsFileRefused files path e
 
 -- a package that is kept is answered; only memory may be wanting
@@ -48,7 +49,8 @@ abbrev pub HasLoadCause : {A : Type 0} → ℕ → ℕ → Result A PackageJsonL
 HasLoadCause before now (Ok p) = now ≡ before
 HasLoadCause before now (Err e) = IsCauseOf before now e
 
--- after an answer the cache keeps it under the path, beside what it kept under other paths. A refused load leaves the cache as it was
+-- after an answer the cache keeps it under the path, beside what it kept under other paths. A refused load leaves the
+-- cache as it was
 abbrev pub KeepsAnswer : Kept → Kept → List ℕ → Loaded → Type 0
 KeepsAnswer old new path (Ok rc) = new ≡ finite.insert old path (shared rc)
 KeepsAnswer old new path (Err e) = new ≡ old

@@ -10,7 +10,8 @@ use Rattle.std.specs.Str.Lossy.{utf8_lossy}
 abbrev pub Files : Type 0
 Files = finite.FinMap (slice_cmp nat_cmp) (List ℕ)
 
--- a text is that of the file at a path, with U+FFFD for what is no UTF-8. Where the files aren't told it may be any text
+-- a text is that of the file at a path, with U+FFFD for what is no UTF-8. Where the files aren't told it may be any
+-- text
 abbrev pub IsTextAt : Option Files → List ℕ → List ℕ → Type 0
 IsTextAt None path text = Unit {0}
 IsTextAt (Some files) path text = option_map utf8_lossy (finite.get files path) ≡ Some text
@@ -21,4 +22,5 @@ pub record MemoryFiles : Type 0 where
   pub faults : ℕ
 
 abbrev pub memory_files_code : Coded MemoryFiles
-memory_files_code = code_by (Files × ℕ) (coded× (finite.code (coded_list coded_ℕ) (coded_list coded_ℕ)) coded_ℕ) (λ m. (m.files, m.faults)) (λ p. record { files = p.0; faults = p.1 }) (λ _. refl)
+memory_files_code = code_by (Files × ℕ) (coded× (finite.code (coded_list coded_ℕ) (coded_list coded_ℕ)) coded_ℕ)
+    (λ m. (m.files, m.faults)) (λ p. record { files = p.0; faults = p.1 }) (λ _. refl)

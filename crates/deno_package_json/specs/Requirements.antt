@@ -1,5 +1,27 @@
 -- What a package requires of other packages, under the names by which it asks for them.
-use Rattle.std.specs.Prelude.{◌==◌, ◌||◌, ℕ, Bool, List, [], ◌∷◌, ◌++◌, Option, Some, None, Result, Ok, Err, codes, bytes_eq, fold, if◌then◌else◌, is_some, option_map, unwrap_or}
+use Rattle.std.specs.Prelude.{
+  ◌==◌,
+  ◌||◌,
+  ℕ,
+  Bool,
+  List,
+  [],
+  ◌∷◌,
+  ◌++◌,
+  Option,
+  Some,
+  None,
+  Result,
+  Ok,
+  Err,
+  codes,
+  bytes_eq,
+  fold,
+  if◌then◌else◌,
+  is_some,
+  option_map,
+  unwrap_or,
+}
 use Rattle.std.specs.Map.{lookup}
 use Rattle.npm_req.specs.Package.{name_and_range}
 use Rattle.npm_req.specs.Requirement.{Requirement, meaning_of}
@@ -7,7 +29,10 @@ use Rattle.npm_req.specs.declared.requirement.Meaning.{Meaning}
 use Rattle.deno_package_json.specs.declared.dep_value.PackageJsonDepValue.{PackageJsonDepValue}
 use Rattle.deno_package_json.specs.declared.dep_value.PackageJsonDepValue.TheVariants.{Req, Workspace}
 use Rattle.deno_package_json.specs.declared.dep_value.PackageJsonDepValueParseError.{PackageJsonDepValueParseError}
-use Rattle.deno_package_json.specs.declared.dep_value.PackageJsonDepValueParseError.TheVariants.{VersionReq, Unsupported}
+use Rattle.deno_package_json.specs.declared.dep_value.PackageJsonDepValueParseError.TheVariants.{
+  VersionReq,
+  Unsupported,
+}
 use Rattle.deno_package_json.specs.Package.{Package, Table}
 
 -- what is required, or why a text says nothing that is supported
@@ -28,12 +53,15 @@ of_package named = read_as named.1 (λ req. Req (record { name = named.0; versio
 -- what stands before the first `:` and what follows it, where there is one
 abbrev pub around_colon : List ℕ → Option (List ℕ × List ℕ)
 around_colon [] = None
-around_colon (c ∷ cs) = if c == 58 then Some ([], cs) else option_map (λ parted. (c ∷ parted.0, parted.1)) (around_colon cs)
+around_colon (c ∷ cs) =
+    if c == 58 then Some ([], cs) else option_map (λ parted. (c ∷ parted.0, parted.1)) (around_colon cs)
 
 abbrev pub is_unsupported : List ℕ → Bool
-is_unsupported scheme = bytes_eq scheme (codes "file") || (bytes_eq scheme (codes "git") || (bytes_eq scheme (codes "http") || bytes_eq scheme (codes "https")))
+is_unsupported scheme = bytes_eq scheme (codes "file")
+    || (bytes_eq scheme (codes "git") || (bytes_eq scheme (codes "http") || bytes_eq scheme (codes "https")))
 
--- by the text before the first `:`. Behind `npm:` stands a name, which ends at the last `@` that isn't the first byte, and a range
+-- by the text before the first `:`. Behind `npm:` stands a name, which ends at the last `@` that isn't the first byte,
+-- and a range
 abbrev pub by_scheme : List ℕ → List ℕ → Option (List ℕ × List ℕ) → Required
 by_scheme name value None = of_package (name, value)
 by_scheme name value (Some parted) =
@@ -51,7 +79,8 @@ Requirements = List (List ℕ × Required)
 
 -- a name that isn't there yet goes behind the others
 abbrev pub with_new : Requirements → List ℕ × List ℕ → Requirements
-with_new found entry = if is_some (lookup (bytes_eq entry.0) found) then found else found ++ (entry.0, required entry.0 entry.1) ∷ []
+with_new found entry =
+    if is_some (lookup (bytes_eq entry.0) found) then found else found ++ (entry.0, required entry.0 entry.1) ∷ []
 
 abbrev pub with_table : Requirements → Option Table → Requirements
 with_table found table = fold with_new found (unwrap_or table [])

@@ -52,4 +52,5 @@ table_fields p =
 
 -- the thirteen fields; the path is none of them
 abbrev pub value_of : Package → Data
-value_of p = object (with_fields (with_fields (with_fields no_members (json_fields p)) (text_fields p)) (table_fields p))
+value_of p =
+    object (with_fields (with_fields (with_fields no_members (json_fields p)) (text_fields p)) (table_fields p))

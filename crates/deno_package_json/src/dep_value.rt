@@ -18,7 +18,8 @@ pub enum PackageJsonDepValue {
 /// Why a text says nothing that is supported.
 #[derive(Debug, Drop, Error)]
 pub enum PackageJsonDepValueParseError {
-    /// The text is neither a range nor a tag of npm. The place counts its bytes before the first part that doesn't read.
+    /// The text is neither a range nor a tag of npm. The place counts its bytes before the first part that doesn't
+    /// read.
     #[error("Invalid npm version requirement. Unexpected character.")]
     VersionReq { text: Text, place: usize },
     /// The value begins with this text and `:`.

@@ -9,7 +9,8 @@ use std::alloc::{AllocError, Global};
 use sugar_path::Text;
 
 impl PackageJson {
-    /// Which file of the package a subpath means under conditions, as a text that begins with `./`; `None` where the package
+    /// Which file of the package a subpath means under conditions, as a text that begins with `./`; `None` where the
+    /// package
     /// doesn't export it. The subpath is `.` for the package itself, and begins with `./` else.
     pub fn exported(
         &self,

@@ -2,7 +2,15 @@
 ghost use Rattle.std.specs.Prelude.{◌≡◌, ◌&&◌, IfOk, codes, option_map};
 ghost use Rattle.serde_json.specs.Find.{get, as_object};
 ghost use Rattle.serde_json.specs.View.{view, members_view};
-ghost use Rattle.deno_package_json.specs.Exports.{exports_in, exports_of, has_condition, has_mixed_exports, has_subpath, is_subpath, main_entry};
+ghost use Rattle.deno_package_json.specs.Exports.{
+  exports_in,
+  exports_of,
+  has_condition,
+  has_mixed_exports,
+  has_subpath,
+  is_subpath,
+  main_entry,
+};
 ghost use Rattle.deno_package_json.specs.Fields.{imports_in};
 
 use serde_json::{Map, Value};

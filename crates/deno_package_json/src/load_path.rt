@@ -2,7 +2,16 @@
 ghost use Rattle.std.specs.Prelude.{◌≡◌, OnOk, OnErr, option_map};
 ghost use Rattle.std.specs.FinMap as finite;
 ghost use Rattle.deno_package_json.specs.Cache.{shared};
-ghost use Rattle.deno_package_json.specs.PathLoading.{HasLoadCause, KeepsAnswer, KeepsIfBorrowed, LoadsFile, LoadsKept, held, kept_at, left};
+ghost use Rattle.deno_package_json.specs.PathLoading.{
+  HasLoadCause,
+  KeepsAnswer,
+  KeepsIfBorrowed,
+  LoadsFile,
+  LoadsKept,
+  held,
+  kept_at,
+  left,
+};
 
 use crate::cache::PackageJsonCache;
 use crate::error::PackageJsonLoadError;
@@ -14,7 +23,8 @@ use sugar_path::Text;
 use tree_core::ReadError;
 
 impl PackageJson {
-    /// The package of a file: the one that the cache keeps under the path, else that of the file's text, which the cache then keeps.
+    /// The package of a file: the one that the cache keeps under the path, else that of the file's text, which the
+    /// cache then keeps.
     pub fn load_from_path<F: DenoPkgJsonFs, C: PackageJsonCache>(
         alloc: Global,
         path: &str,

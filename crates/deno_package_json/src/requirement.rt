@@ -2,7 +2,16 @@
 ghost use Rattle.std.specs.Prelude.{◌≡◌, Err, IfOk, OnOk, fold, option_map};
 ghost use Rattle.deno_package_json.specs.Message.{ArePlaced, IsPlaced};
 ghost use Rattle.deno_package_json.specs.Package.{package_of};
-ghost use Rattle.deno_package_json.specs.Requirements.{around_colon, is_unsupported, of_package, of_workspace, required, requirements_of, with_new, with_table};
+ghost use Rattle.deno_package_json.specs.Requirements.{
+  around_colon,
+  is_unsupported,
+  of_package,
+  of_workspace,
+  required,
+  requirements_of,
+  with_new,
+  with_table,
+};
 
 use crate::dep_value::{PackageJsonDepValue, PackageJsonDepValueParseError, PackageJsonDeps};
 use crate::package_json::PackageJson;

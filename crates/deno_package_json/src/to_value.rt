@@ -3,7 +3,16 @@ ghost use Rattle.std.specs.Prelude.{◌≡◌, IfOk, OnOk, fold, map, option_map
 ghost use Rattle.serde_json.specs.Data.{no_members, object, put as with_member, string};
 ghost use Rattle.serde_json.specs.View.{view, items_of, items_view, members_view};
 ghost use Rattle.deno_package_json.specs.Package.{package_of};
-ghost use Rattle.deno_package_json.specs.Value.{json_fields, or_null, table_fields, table_value, text_fields, texts_value, value_of, with_fields};
+ghost use Rattle.deno_package_json.specs.Value.{
+  json_fields,
+  or_null,
+  table_fields,
+  table_value,
+  text_fields,
+  texts_value,
+  value_of,
+  with_fields,
+};
 
 use crate::package_json::PackageJson;
 use indexmap::IndexMap;

@@ -14,8 +14,10 @@ use Rattle.disk_report.specs.declared.disk_request.DiskError.{DiskError}
 use Rattle.disk_report.specs.declared.disk_request.DiskError.TheVariants.{Refused, TreeFault, NoMemory}
 
 -- a verdict that a trail decides is an outcome, and its line is this one
-pub outcome_of : {stands_for : Files → Bool} (request : Asked) (project : ProjectSettings) (verdict : Verdict) (trail : List (Question × Reply)) (line : List ℕ)
-    → project_of request ≡ Ok project → Settles verdict trail (plan_of project request) → AgreeWith stands_for trail → line ≡ verdict_line verdict → HasOutcome stands_for request (λ told. line ≡ told)
+pub outcome_of : {stands_for : Files → Bool} (request : Asked) (project : ProjectSettings) (verdict : Verdict)
+    (trail : List (Question × Reply)) (line : List ℕ)
+    → project_of request ≡ Ok project → Settles verdict trail (plan_of project request) → AgreeWith stands_for trail
+    → line ≡ verdict_line verdict → HasOutcome stands_for request (λ told. line ≡ told)
 unfolding line_in
 outcome_of request project verdict trail line accepted settled agree is = record {
   project = project;
@@ -29,7 +31,8 @@ outcome_of request project verdict trail line accepted settled agree is = record
 }
 
 -- what follows of the line holds of the outcome
-pub outcome_with : {stands_for : Files → Bool} {request : Asked} {P Q : List ℕ → Type 0} → ((line : List ℕ) → P line → Q line) → HasOutcome stands_for request P → HasOutcome stands_for request Q
+pub outcome_with : {stands_for : Files → Bool} {request : Asked} {P Q : List ℕ → Type 0}
+    → ((line : List ℕ) → P line → Q line) → HasOutcome stands_for request P → HasOutcome stands_for request Q
 outcome_with more o = record {
   project = o.project;
   accepted = o.accepted;
@@ -42,7 +45,8 @@ outcome_with more o = record {
 }
 
 -- where the project is accepted, an error that is no refusal has its cause
-pub caused : {A : Type 0} (request : Asked) (result : Result A DiskError) → IsOk (project_of request) → IfErr result IsUnrefused → IfErr result (IsCauseOf request)
+pub caused : {A : Type 0} (request : Asked) (result : Result A DiskError) → IsOk (project_of request)
+    → IfErr result IsUnrefused → IfErr result (IsCauseOf request)
 caused request (Ok a) accepted unrefused = tt
 caused request (Err (Refused cause)) accepted unrefused = absurd unrefused
 caused request (Err TreeFault) accepted unrefused = accepted

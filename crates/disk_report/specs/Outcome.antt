@@ -10,7 +10,8 @@ use Rattle.report_core.specs.Lines.{verdict_line}
 use Rattle.disk_report.specs.Asked.{Asked}
 use Rattle.disk_report.specs.DiskRequest.{line_in, plan_of, project_of}
 
--- An outcome of a request, of whose line a fact holds. The trail decides the verdict: it is the order's on every tree that agrees with the trail, as each does that is stood for.
+-- An outcome of a request, of whose line a fact holds. The trail decides the verdict: it is the order's on every tree
+-- that agrees with the trail, as each does that is stood for.
 pub record HasOutcome (stands_for : Files → Bool) (request : Asked)
     (Fact : List ℕ → Type 0) : Type 0 where
   -- the project that it is asked in

@@ -17,7 +17,8 @@ kind_of m =
     if (file_type m).bits == 0o100000 then File
     else if (file_type m).bits == 0o040000 then Folder else Other
 
--- An error that says that nothing is there, or that a name on the way is no folder, means that the path is absent. Every other one is a fault, but for want of memory.
+-- An error that says that nothing is there, or that a name on the way is no folder, means that the path is absent.
+-- Every other one is a fault, but for want of memory.
 abbrev pub failed : ErrorKind → Result Entry ReadError
 failed NotFound = Ok Absent
 failed NotADirectory = Ok Absent

@@ -11,11 +11,13 @@ use Rattle.swc_loader.specs.declared.resolution.FileName.TheVariants.{Custom}
 use Rattle.document_core.specs.Given.{hex_bytes, importer_of, is_lower_hex_digit}
 
 -- the bytes of a hex text in lower case
-pub hex_read : (t bytes : List ℕ) → list_all is_lower_hex_digit t ≡ true → decode_of t ≡ Ok bytes → hex_bytes t ≡ Some bytes
+pub hex_read : (t bytes : List ℕ) → list_all is_lower_hex_digit t ≡ true → decode_of t ≡ Ok bytes
+    → hex_bytes t ≡ Some bytes
 hex_read t bytes lower decoded = rw (lower, decoded)
 
 -- any other importer is read as an object with a custom name
-pub importer_of-other : (d : Data) → is_null d ≡ false → as_str d ≡ None → importer_of d ≡ option_map Custom (field_by (codes "custom") as_str d)
+pub importer_of-other : (d : Data) → is_null d ≡ false → as_str d ≡ None
+    → importer_of d ≡ option_map Custom (field_by (codes "custom") as_str d)
 importer_of-other null other text = absurd (true≢false other)
 importer_of-other (boolean b) other text = refl
 importer_of-other (number n) other text = refl

@@ -4,7 +4,22 @@ pub use Rattle.sugar_path.specs.Results.{◌>>=◌}
 use Rattle.resolve_stack.specs.declared.project.ProjectError.{ProjectError}
 use Rattle.resolve_stack.specs.declared.project.ProjectError.TheVariants as project
 use Rattle.document_core.specs.declared.cause.Field.{Field}
-use Rattle.document_core.specs.declared.cause.Field.TheVariants.{Cwd, Target, PreserveSymlinks, NodeModules, Alias, Ts, Lock, Conditions, Files, Requests, Entries, Capacity, Steps, Manifest}
+use Rattle.document_core.specs.declared.cause.Field.TheVariants.{
+  Cwd,
+  Target,
+  PreserveSymlinks,
+  NodeModules,
+  Alias,
+  Ts,
+  Lock,
+  Conditions,
+  Files,
+  Requests,
+  Entries,
+  Capacity,
+  Steps,
+  Manifest,
+}
 use Rattle.document_core.specs.declared.cause.Cause.{Cause}
 use Rattle.document_core.specs.declared.cause.Cause.TheVariants.{BadProject}
 use Rattle.document_core.specs.declared.cause.DocumentError.{DocumentError}

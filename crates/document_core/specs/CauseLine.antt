@@ -2,13 +2,21 @@
 use Rattle.std.specs.Prelude.{ℕ, List, [], ◌∷◌, ◌++◌, codes, decimal, Some, None}
 use Rattle.json.specs.Print.{quoted}
 use Rattle.resolve_stack.specs.declared.project.ProjectError.{ProjectError}
-use Rattle.resolve_stack.specs.declared.project.ProjectError.TheVariants.{SettingsFault, EmptyTargets, TwoWildcards, ExactNeedsOne, LockParser, NoMemory}
+use Rattle.resolve_stack.specs.declared.project.ProjectError.TheVariants.{
+  SettingsFault,
+  EmptyTargets,
+  TwoWildcards,
+  ExactNeedsOne,
+  LockParser,
+  NoMemory,
+}
 use Rattle.report_core.specs.Verdicts.{cause_name}
 use Rattle.document_core.specs.Cause.{name_of}
 use Rattle.document_core.specs.declared.cause.Cause.{Cause}
 use Rattle.document_core.specs.declared.cause.Cause.TheVariants as cause
 
--- why settings make no project: patterns are told by their number, and of a lock only that it is none. No document is refused for want of memory
+-- why settings make no project: patterns are told by their number, and of a lock only that it is none. No document is
+-- refused for want of memory
 abbrev pub project_cause : ProjectError → List ℕ
 project_cause (SettingsFault field) = codes "SettingsFault " ++ field
 project_cause (EmptyTargets at) = codes "EmptyTargets " ++ decimal at

@@ -1,6 +1,22 @@
 -- The fields of a document, as members of its JSON value, each with its kind and its default.
 -- A `do` here is over results: it goes on with what a step gives, and ends by the first error.
-use Rattle.std.specs.Prelude.{ℕ, true, false, List, [], bytes_eq, codes, Option, Some, None, option_and_then, ok_or, Result, Ok, if◌then◌else◌}
+use Rattle.std.specs.Prelude.{
+  ℕ,
+  true,
+  false,
+  List,
+  [],
+  bytes_eq,
+  codes,
+  Option,
+  Some,
+  None,
+  option_and_then,
+  ok_or,
+  Result,
+  Ok,
+  if◌then◌else◌,
+}
 use Rattle.serde_json.specs.Data.{Data}
 use Rattle.serde_json.specs.Find.{as_str, as_bool}
 use Rattle.json_reading.specs.Reading.{field_by, field_or, list_by, nullable_by, object_by}

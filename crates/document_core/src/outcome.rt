@@ -6,7 +6,8 @@ use crate::given::GivenRequest;
 use resolve_stack::{KnownTree, Outcome, Project};
 use std::alloc::{AllocError, Global};
 
-/// The outcome of one request. A tree in memory refuses no question, and what one request reads of it the next ones keep.
+/// The outcome of one request. A tree in memory refuses no question, and what one request reads of it the next ones
+/// keep.
 pub fn outcome_of(
     alloc: Global,
     tree: &mut KnownTree,

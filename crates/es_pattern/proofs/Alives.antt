@@ -1,10 +1,45 @@
 -- The steps of a program that are alive at a place.
-use Rattle.std.proofs.Common.{◌≡◌, ℕ, zero, suc, ◌+◌, ◌-◌, ◌<◌, ◌≤◌, Bool, true, false, cond, List, [], ◌∷◌, ◌++◌, ◌⊎◌, inl, inr, length, take, Some, None, refl, sym, subst, ◌∙◌, arith}
+use Rattle.std.proofs.Common.{
+  ◌≡◌,
+  ℕ,
+  zero,
+  suc,
+  ◌+◌,
+  ◌-◌,
+  ◌<◌,
+  ◌≤◌,
+  Bool,
+  true,
+  false,
+  cond,
+  List,
+  [],
+  ◌∷◌,
+  ◌++◌,
+  ◌⊎◌,
+  inl,
+  inr,
+  length,
+  take,
+  Some,
+  None,
+  refl,
+  sym,
+  subst,
+  ◌∙◌,
+  arith,
+}
 use Rattle.std.specs.Prelude.{slice_get, Contains, nat_le}
 use Rattle.std.proofs.lemmas.Bool.{false≢true}
 use Rattle.std.proofs.lemmas.Bool.Decides.{nat_tests}
 use Rattle.std.proofs.lemmas.Option.{slice_get_within, same_Some, none-some}
-use Rattle.std.proofs.lemmas.List.Elements.{Contains-append_left, Contains-append_right, Contains-append_cases, Contains-push, Contains-push_cases}
+use Rattle.std.proofs.lemmas.List.Elements.{
+  Contains-append_left,
+  Contains-append_right,
+  Contains-append_cases,
+  Contains-push,
+  Contains-push_cases,
+}
 use Rattle.es_pattern.specs.declared.step.Step.{Step}
 use Rattle.es_pattern.specs.declared.step.Step.TheVariants.{Pass, Fork, Jump, Back}
 use Rattle.es_pattern.specs.declared.step.Direction.{Direction}
@@ -12,7 +47,17 @@ use Rattle.es_pattern.specs.declared.step.Direction.TheVariants.{Forward, Backwa
 use Rattle.es_pattern.specs.declared.alive.Passing.{Passing}
 use Rattle.es_pattern.specs.declared.alive.Passing.TheVariants.{Stops, Stays, Moves}
 use Rattle.es_pattern.specs.declared.piece.Piece.{Piece}
-use Rattle.es_pattern.specs.declared.piece.Piece.TheVariants.{Nothing, OneOf, TextStart, TextEnd, WordBoundary, Sequence, Choice, Repetition, Lookahead}
+use Rattle.es_pattern.specs.declared.piece.Piece.TheVariants.{
+  Nothing,
+  OneOf,
+  TextStart,
+  TextEnd,
+  WordBoundary,
+  Sequence,
+  Choice,
+  Repetition,
+  Lookahead,
+}
 use Rattle.es_pattern.specs.Tree.{Tree}
 use Rattle.es_pattern.specs.Spans.{Spans}
 use Rattle.es_pattern.specs.Pieces.{top, with_piece, with_pieces}
@@ -71,10 +116,13 @@ after_apart Forward i a = omega (arith, a)
 after_apart Backward i a = omega (arith, a)
 
 -- the end of the part that a single piece spans is its start or the next place
-piece_near : (pieces : List Piece) (text : List ℕ) (number i j : ℕ) → PassesPiece pieces text number i j → (j ≡ i) ⊎ ((j ≡ i + 1) × (i < length text))
-piece_near pieces text number i j h = by_piece h.piece h.single (subst (λ (t : Tree). Spans t text i j) (tree_at_is pieces number h.piece h.stands) h.spans)
+piece_near : (pieces : List Piece) (text : List ℕ) (number i j : ℕ) → PassesPiece pieces text number i j → (j ≡ i)
+    ⊎ ((j ≡ i + 1) × (i < length text))
+piece_near pieces text number i j h = by_piece h.piece h.single
+    (subst (λ (t : Tree). Spans t text i j) (tree_at_is pieces number h.piece h.stands) h.spans)
   where
-    by_piece : (p : Piece) → IsSingle p → Spans (top (with_piece p (with_pieces (take number pieces) []))) text i j → (j ≡ i) ⊎ ((j ≡ i + 1) × (i < length text))
+    by_piece : (p : Piece) → IsSingle p → Spans (top (with_piece p (with_pieces (take number pieces) []))) text i j
+        → (j ≡ i) ⊎ ((j ≡ i + 1) × (i < length text))
     by_piece Nothing single s = absurd single
     by_piece (OneOf negated ranges) single s = inr (s.1, s.0)
     by_piece TextStart single s = inl (sym s.0)
@@ -90,7 +138,8 @@ piece_near pieces text number i j h = by_piece h.piece h.single (subst (λ (t : 
 abbrev Near : Direction → ℕ → ℕ → ℕ → Type 0
 Near d size i j = (j ≡ i) ⊎ (After d i j × (i ≤ size → j ≤ size))
 
-passes_near : (d : Direction) (pieces : List Piece) (text : List ℕ) (number i j : ℕ) → Passes d pieces text number i j → Near d (length text) i j
+passes_near : (d : Direction) (pieces : List Piece) (text : List ℕ) (number i j : ℕ) → Passes d pieces text number i j
+    → Near d (length text) i j
 passes_near Forward pieces text number i j h = by_cases (piece_near pieces text number i j h)
   where
     by_cases : (j ≡ i) ⊎ ((j ≡ i + 1) × (i < length text)) → Near Forward (length text) i j
@@ -102,7 +151,8 @@ passes_near Backward pieces text number i j h = by_cases (piece_near pieces text
     by_cases (inl e) = inl (sym e)
     by_cases (inr e) = inr (e.0, λ le. omega (arith, e.0, le))
 
-does_near : (d : Direction) (pieces : List Piece) (text : List ℕ) (s : Step) (at i q j : ℕ) → Does (Passes d pieces text) s at i q j → Near d (length text) i j
+does_near : (d : Direction) (pieces : List Piece) (text : List ℕ) (s : Step) (at i q j : ℕ)
+    → Does (Passes d pieces text) s at i q j → Near d (length text) i j
 does_near d pieces text (Pass number) at i q j h = passes_near d pieces text number i j h.1
 does_near d pieces text (Fork by) at i q j h = inl h.1
 does_near d pieces text (Jump by) at i q j h = inl h.1
@@ -119,10 +169,12 @@ abbrev Onward : Direction → (ℕ → ℕ → ℕ → Type 0) → List Step →
 Onward d passes program at place q j xs ys = ((j ≡ place) × Contains xs q) ⊎ (After d place j × Contains ys q)
 
 -- all that a step leads to
-pub record Leads (d : Direction) (passes : ℕ → ℕ → ℕ → Type 0) (program : List Step) (at place : ℕ) (xs ys : List ℕ) : Type 0 where
+pub record Leads (d : Direction) (passes : ℕ → ℕ → ℕ → Type 0) (program : List Step) (at place : ℕ) (xs ys : List ℕ) :
+    Type 0 where
   pub same : (q : ℕ) → Contains xs q → Goes passes program at place q place
   pub later : (q : ℕ) → Contains ys q → (j : ℕ) × After d place j × Goes passes program at place q j
-  pub all : (q j : ℕ) → Goes passes program at place q j → q ≤ length program → ((j ≡ place) × Contains xs q) ⊎ (After d place j × Contains ys q)
+  pub all : (q j : ℕ) → Goes passes program at place q j → q ≤ length program → ((j ≡ place) × Contains xs q)
+      ⊎ (After d place j × Contains ys q)
 
 module _ (d : Direction) (pieces : List Piece) (text : List ℕ) (program : List Step) (at place : ℕ) where
   abbrev passes : ℕ → ℕ → ℕ → Type 0
@@ -141,12 +193,15 @@ module _ (d : Direction) (pieces : List Piece) (text : List ℕ) (program : List
     goes_by i q j does = record { step = s; stands = stands; does = does }
 
     does_by : (i q j : ℕ) → Goes (Passes d pieces text) program at i q j → Does (Passes d pieces text) s at i q j
-    does_by i q j g = subst (λ (t : Step). Does (Passes d pieces text) t at i q j) (same_Some g.step s (sym g.stands ∙ stands)) g.does
+    does_by i q j g =
+        subst (λ (t : Step). Does (Passes d pieces text) t at i q j) (same_Some g.step s (sym g.stands ∙ stands)) g.does
 
   abbrev LeadsBy : Step → Passing → Type 0
-  LeadsBy s passing = Leads d (Passes d pieces text) program at place (same_place s at (length program) passing) (next_place s at passing)
+  LeadsBy s passing = Leads d (Passes d pieces text) program at place (same_place s at (length program) passing)
+      (next_place s at passing)
 
-  leads_pass : (number : ℕ) (passing : Passing) → slice_get program at ≡ Some (Pass number) → PassesAs d pieces text number place passing → LeadsBy (Pass number) passing
+  leads_pass : (number : ℕ) (passing : Passing) → slice_get program at ≡ Some (Pass number)
+      → PassesAs d pieces text number place passing → LeadsBy (Pass number) passing
   leads_pass number Stops h p = record {
     same = λ q n. absurd (contains_none q n);
     later = λ q n. absurd (contains_none q n);
@@ -155,46 +210,59 @@ module _ (d : Direction) (pieces : List Piece) (text : List ℕ) (program : List
   leads_pass number Stays h p = record {
     same = λ q n. goes_by (Pass number) h place q place (omega (arith, contains_one (at + 1) q n), p.0);
     later = λ q n. absurd (contains_none q n);
-    all = λ q j g le. let does = does_by (Pass number) h place q j g in inl (p.1 j does.1, is_one (at + 1) q (omega (arith, does.0)));
+    all = λ q j g le. let does = does_by (Pass number) h place q j g in
+        inl (p.1 j does.1, is_one (at + 1) q (omega (arith, does.0)));
   }
   leads_pass number Moves h p = record {
     same = λ q n. absurd (contains_none q n);
     later = λ q n. (p.0, p.1, goes_by (Pass number) h place q p.0 (omega (arith, contains_one (at + 1) q n), p.3));
-    all = λ q j g le. let does = does_by (Pass number) h place q j g in inr (subst (λ (x : ℕ). After d place x) (sym (p.4 j does.1)) p.1, is_one (at + 1) q (omega (arith, does.0)));
+    all = λ q j g le. let does = does_by (Pass number) h place q j g in
+        inr (subst (λ (x : ℕ). After d place x) (sym (p.4 j does.1)) p.1, is_one (at + 1) q (omega (arith, does.0)));
   }
 
   leads_fork : (by : ℕ) (passing : Passing) → slice_get program at ≡ Some (Fork by) → LeadsBy (Fork by) passing
   leads_fork by passing h = record {
-    same = λ q n. goes_by (Fork by) h place q place (forked q (Contains-append_cases ((at + 1) ∷ []) (if_within (length program) (at + by)) q n), refl);
+    same = λ q n. goes_by (Fork by) h place q place (
+      forked q
+          (Contains-append_cases ((at + 1) ∷ []) (if_within (length program) (at + by)) q n),
+      refl,
+    );
     later = λ q n. absurd (contains_none q n);
     all = λ q j g le. let does = does_by (Fork by) h place q j g in inl (does.1, found q le does.0);
   }
     where
-      forked : (q : ℕ) → Contains ((at + 1) ∷ []) q ⊎ Contains (if_within (length program) (at + by)) q → (q ≡ suc at) ⊎ (q ≡ at + by)
+      forked : (q : ℕ) → Contains ((at + 1) ∷ []) q ⊎ Contains (if_within (length program) (at + by)) q → (q ≡ suc at)
+          ⊎ (q ≡ at + by)
       forked q (inl n) = inl (omega (arith, contains_one (at + 1) q n))
       forked q (inr n) = inr (sym (within_is (length program) (at + by) q n))
 
-      found : (q : ℕ) → q ≤ length program → (q ≡ suc at) ⊎ (q ≡ at + by) → Contains ((at + 1) ∷ if_within (length program) (at + by)) q
-      found q le (inl e) = Contains-append_left ((at + 1) ∷ []) (if_within (length program) (at + by)) q (is_one (at + 1) q (omega (arith, e)))
-      found q le (inr e) = Contains-append_right ((at + 1) ∷ []) (if_within (length program) (at + by)) q (is_within_size (length program) (at + by) q (sym e) le)
+      found : (q : ℕ) → q ≤ length program → (q ≡ suc at) ⊎ (q ≡ at + by)
+          → Contains ((at + 1) ∷ if_within (length program) (at + by)) q
+      found q le (inl e) = Contains-append_left ((at + 1) ∷ []) (if_within (length program) (at + by)) q
+          (is_one (at + 1) q (omega (arith, e)))
+      found q le (inr e) = Contains-append_right ((at + 1) ∷ []) (if_within (length program) (at + by)) q
+          (is_within_size (length program) (at + by) q (sym e) le)
 
   leads_jump : (by : ℕ) (passing : Passing) → slice_get program at ≡ Some (Jump by) → LeadsBy (Jump by) passing
   leads_jump by passing h = record {
     same = λ q n. goes_by (Jump by) h place q place (sym (within_is (length program) (at + by) q n), refl);
     later = λ q n. absurd (contains_none q n);
-    all = λ q j g le. let does = does_by (Jump by) h place q j g in inl (does.1, is_within_size (length program) (at + by) q (sym does.0) le);
+    all = λ q j g le. let does = does_by (Jump by) h place q j g in
+        inl (does.1, is_within_size (length program) (at + by) q (sym does.0) le);
   }
 
   leads_back : (by : ℕ) (passing : Passing) → slice_get program at ≡ Some (Back by) → LeadsBy (Back by) passing
   leads_back by passing h = by_test (nat_le by at) refl
     where
-      by_test : (b : Bool) → nat_le by at ≡ b → Leads d (Passes d pieces text) program at place (cond b ((at - by) ∷ []) []) []
+      by_test : (b : Bool) → nat_le by at ≡ b
+          → Leads d (Passes d pieces text) program at place (cond b ((at - by) ∷ []) []) []
       by_test true yes_ =
           let le : by ≤ at = grind (arith, nat_tests) in
           record {
             same = λ q n. goes_by (Back by) h place q place (omega (arith, le, contains_one (at - by) q n), refl);
             later = λ q n. absurd (contains_none q n);
-            all = λ q j g within. let does = does_by (Back by) h place q j g in inl (does.1, is_one (at - by) q (omega (arith, does.0, le)));
+            all = λ q j g within. let does = does_by (Back by) h place q j g in
+                inl (does.1, is_one (at - by) q (omega (arith, does.0, le)));
           }
       by_test false no_ =
           let gt : at < by = grind (arith, nat_tests) in
@@ -204,7 +272,8 @@ module _ (d : Direction) (pieces : List Piece) (text : List ℕ) (program : List
             all = λ q j g within. let does = does_by (Back by) h place q j g in absurd (omega (arith, does.0, gt));
           }
 
-  pub leads_step : (s : Step) (passing : Passing) → slice_get program at ≡ Some s → StepAs d pieces text place s passing → LeadsBy s passing
+  pub leads_step : (s : Step) (passing : Passing) → slice_get program at ≡ Some s → StepAs d pieces text place s passing
+      → LeadsBy s passing
   leads_step (Pass number) passing h p = leads_pass number passing h p
   leads_step (Fork by) passing h p = leads_fork by passing h
   leads_step (Jump by) passing h p = leads_jump by passing h
@@ -236,7 +305,8 @@ module _ (d : Direction) (pieces : List Piece) (text : List ℕ) (begins : ℕ �
   abbrev ways : ℕ → ℕ → ℕ → Type 0
   ways = Passes d pieces text
 
-  onward : (at i q j : ℕ) → IsAlive (Passes d pieces text) begins program at i → Goes (Passes d pieces text) program at i q j → IsAlive (Passes d pieces text) begins program q j
+  onward : (at i q j : ℕ) → IsAlive (Passes d pieces text) begins program at i
+      → Goes (Passes d pieces text) program at i q j → IsAlive (Passes d pieces text) begins program q j
   onward at i q j a g = (suc a.0, (at, i, a.1, g))
 
   goes_near : (at i q j : ℕ) → Goes (Passes d pieces text) program at i q j → Near d (length text) i j
@@ -246,7 +316,8 @@ module _ (d : Direction) (pieces : List Piece) (text : List ℕ) (begins : ℕ �
   goes_within at i q j g = omega (arith, slice_get_within program at g.step g.stands)
 
   -- a walk that begins in the text stays there
-  pub alive_within : ((b : ℕ) → begins b ≡ true → b ≤ length text) → (n at i : ℕ) → Comes (Passes d pieces text) begins program n at i → i ≤ length text
+  pub alive_within : ((b : ℕ) → begins b ≡ true → b ≤ length text) → (n at i : ℕ)
+      → Comes (Passes d pieces text) begins program n at i → i ≤ length text
   alive_within begin zero at i c = begin i c.1
   alive_within begin (suc n) at i c = by_near (goes_near c.0 c.1 at i c.3) (alive_within begin n c.0 c.1 c.2)
     where
@@ -256,7 +327,9 @@ module _ (d : Direction) (pieces : List Piece) (text : List ℕ) (begins : ℕ �
 
   module _ (place : ℕ) where
     -- a step that was taken before is dropped
-    pub settling_dropped : (waiting taken next : List ℕ) (at : ℕ) → Settling d (Passes d pieces text) begins program place (waiting ++ at ∷ []) taken next → Has taken at → Settling d (Passes d pieces text) begins program place waiting taken next
+    pub settling_dropped : (waiting taken next : List ℕ) (at : ℕ)
+        → Settling d (Passes d pieces text) begins program place (waiting ++ at ∷ []) taken next → Has taken at
+        → Settling d (Passes d pieces text) begins program place waiting taken next
     settling_dropped waiting taken next at s was = record {
       waits_by = λ q h. s.waits_by q (Contains-append_left waiting (at ∷ []) q h);
       taken_by = s.taken_by;
@@ -274,13 +347,17 @@ module _ (d : Direction) (pieces : List Piece) (text : List ℕ) (begins : ℕ �
         by_list q (inl h) = popped q (Contains-push_cases waiting at q h)
         by_list q (inr h) = inr h
 
-        by_place : (q j : ℕ) → ((j ≡ place) × (Contains (waiting ++ at ∷ []) q ⊎ Has taken q)) ⊎ (After d place j × Contains next q) → ((j ≡ place) × (Contains waiting q ⊎ Has taken q)) ⊎ (After d place j × Contains next q)
+        by_place : (q j : ℕ) → ((j ≡ place) × (Contains (waiting ++ at ∷ []) q ⊎ Has taken q))
+            ⊎ (After d place j × Contains next q) → ((j ≡ place) × (Contains waiting q ⊎ Has taken q))
+            ⊎ (After d place j × Contains next q)
         by_place q j (inl h) = inl (h.0, by_list q h.1)
         by_place q j (inr h) = inr h
 
     -- a step that is taken
-    pub settling_taken : (waiting taken next : List ℕ) (at : ℕ) (xs ys taken' : List ℕ) → Settling d (Passes d pieces text) begins program place (waiting ++ at ∷ []) taken next
-        → Leads d (Passes d pieces text) program at place xs ys → (at ≤ length program → Has taken' at) → ((q : ℕ) → Has taken q → Has taken' q) → ((q : ℕ) → Has taken' q → (at ≡ q) ⊎ Has taken q)
+    pub settling_taken : (waiting taken next : List ℕ) (at : ℕ) (xs ys taken' : List ℕ)
+        → Settling d (Passes d pieces text) begins program place (waiting ++ at ∷ []) taken next
+        → Leads d (Passes d pieces text) program at place xs ys → (at ≤ length program → Has taken' at)
+        → ((q : ℕ) → Has taken q → Has taken' q) → ((q : ℕ) → Has taken' q → (at ≡ q) ⊎ Has taken q)
         → Settling d (Passes d pieces text) begins program place (waiting ++ xs) taken' (next ++ ys)
     settling_taken waiting taken next at xs ys taken' s leads here kept none_else = record {
       waits_by = λ q h. from_waiting q (Contains-append_cases waiting xs q h);
@@ -294,7 +371,8 @@ module _ (d : Direction) (pieces : List Piece) (text : List ℕ) (begins : ℕ �
         alive_here : IsAlive (Passes d pieces text) begins program at place
         alive_here = s.waits_by at (Contains-push waiting at)
 
-        from_waiting : (q : ℕ) → Contains waiting q ⊎ Contains xs q → IsAlive (Passes d pieces text) begins program q place
+        from_waiting : (q : ℕ) → Contains waiting q ⊎ Contains xs q
+            → IsAlive (Passes d pieces text) begins program q place
         from_waiting q (inl h) = s.waits_by q (Contains-append_left waiting (at ∷ []) q h)
         from_waiting q (inr h) = onward at place q place alive_here (leads.same q h)
 
@@ -302,72 +380,92 @@ module _ (d : Direction) (pieces : List Piece) (text : List ℕ) (begins : ℕ �
         from_taken q (inl e) = subst (λ (x : ℕ). IsAlive (Passes d pieces text) begins program x place) e alive_here
         from_taken q (inr h) = s.taken_by q h
 
-        from_next : (q : ℕ) → Contains next q ⊎ Contains ys q → (j : ℕ) × After d place j × IsAlive (Passes d pieces text) begins program q j
+        from_next : (q : ℕ) → Contains next q ⊎ Contains ys q → (j : ℕ) × After d place j
+            × IsAlive (Passes d pieces text) begins program q j
         from_next q (inl h) = s.comes_by q h
         from_next q (inr h) = let l = leads.later q h in (l.0, l.1, onward at place q l.0 alive_here l.2)
 
-        popped : (q : ℕ) → q ≤ length program → Contains waiting q ⊎ (at ≡ q) → Contains (waiting ++ xs) q ⊎ Has taken' q
+        popped : (q : ℕ) → q ≤ length program → Contains waiting q ⊎ (at ≡ q) → Contains (waiting ++ xs) q
+            ⊎ Has taken' q
         popped q le (inl h) = inl (Contains-append_left waiting xs q h)
         popped q le (inr e) = inr (subst (λ (x : ℕ). Has taken' x) e (here (omega (arith, e, le))))
 
-        by_list : (q : ℕ) → q ≤ length program → Contains (waiting ++ at ∷ []) q ⊎ Has taken q → Contains (waiting ++ xs) q ⊎ Has taken' q
+        by_list : (q : ℕ) → q ≤ length program → Contains (waiting ++ at ∷ []) q ⊎ Has taken q
+            → Contains (waiting ++ xs) q ⊎ Has taken' q
         by_list q le (inl h) = popped q le (Contains-push_cases waiting at q h)
         by_list q le (inr h) = inr (kept q h)
 
-        by_place : (q j : ℕ) → q ≤ length program → ((j ≡ place) × (Contains (waiting ++ at ∷ []) q ⊎ Has taken q)) ⊎ (After d place j × Contains next q)
+        by_place : (q j : ℕ) → q ≤ length program → ((j ≡ place) × (Contains (waiting ++ at ∷ []) q ⊎ Has taken q))
+            ⊎ (After d place j × Contains next q)
             → ((j ≡ place) × (Contains (waiting ++ xs) q ⊎ Has taken' q)) ⊎ (After d place j × Contains (next ++ ys) q)
         by_place q j le (inl h) = inl (h.0, by_list q le h.1)
         by_place q j le (inr h) = inr (h.0, Contains-append_left next ys q h.1)
 
-        by_new : (q j : ℕ) → ((j ≡ place) × Contains xs q) ⊎ (After d place j × Contains ys q) → ((j ≡ place) × (Contains (waiting ++ xs) q ⊎ Has taken' q)) ⊎ (After d place j × Contains (next ++ ys) q)
+        by_new : (q j : ℕ) → ((j ≡ place) × Contains xs q) ⊎ (After d place j × Contains ys q)
+            → ((j ≡ place) × (Contains (waiting ++ xs) q ⊎ Has taken' q)) ⊎ (After d place j × Contains (next ++ ys) q)
         by_new q j (inl h) = inl (h.0, inl (Contains-append_right waiting xs q h.1))
         by_new q j (inr h) = inr (h.0, Contains-append_right next ys q h.1)
 
-        by_taken : (b q j : ℕ) → Goes (Passes d pieces text) program b place q j → q ≤ length program → (at ≡ b) ⊎ Has taken b
+        by_taken : (b q j : ℕ) → Goes (Passes d pieces text) program b place q j → q ≤ length program → (at ≡ b)
+            ⊎ Has taken b
             → ((j ≡ place) × (Contains (waiting ++ xs) q ⊎ Has taken' q)) ⊎ (After d place j × Contains (next ++ ys) q)
-        by_taken b q j g le (inl e) = by_new q j (leads.all q j (subst (λ (x : ℕ). Goes (Passes d pieces text) program x place q j) (sym e) g) le)
+        by_taken b q j g le (inl e) =
+            by_new q j (leads.all q j (subst (λ (x : ℕ). Goes (Passes d pieces text) program x place q j) (sym e) g) le)
         by_taken b q j g le (inr h) = by_place q j le (s.closed b q j h g le)
 
     -- where none waits any more
-    pub settled_by : (waiting taken next : List ℕ) → waiting ≡ [] → Settling d (Passes d pieces text) begins program place waiting taken next → Settled d (Passes d pieces text) begins program place waiting taken next
+    pub settled_by : (waiting taken next : List ℕ) → waiting ≡ []
+        → Settling d (Passes d pieces text) begins program place waiting taken next
+        → Settled d (Passes d pieces text) begins program place waiting taken next
     settled_by waiting taken next empty s = record {
       empty = empty;
       taken_by = s.taken_by;
       alive = λ q a le. was_taken a.0 q a.1 le;
       comes_by = s.comes_by;
-      comes = λ at j q a after g le. by_place j q after (s.closed at q j (was_taken a.0 at a.1 (goes_within at place q j g)) g le);
+      comes = λ at j q a after g le. by_place j q after (s.closed at q j
+          (was_taken a.0 at a.1 (goes_within at place q j g)) g le);
     }
       where
         none_waits : (q : ℕ) → Contains waiting q ⊎ Has taken q → Has taken q
         none_waits q (inl h) = absurd (contains_none q (subst (λ (w : List ℕ). Contains w q) empty h))
         none_waits q (inr h) = h
 
-        by_same : (q : ℕ) → ((place ≡ place) × (Contains waiting q ⊎ Has taken q)) ⊎ (After d place place × Contains next q) → Has taken q
+        by_same : (q : ℕ) → ((place ≡ place) × (Contains waiting q ⊎ Has taken q))
+            ⊎ (After d place place × Contains next q) → Has taken q
         by_same q (inl h) = none_waits q h.1
         by_same q (inr h) = absurd (after_apart d place h.0)
 
-        step_taken : (q before j : ℕ) → q ≤ length program → IsAlive (Passes d pieces text) begins program before j → Goes (Passes d pieces text) program before j q place → (place ≡ j → Has taken before) → Near d (length text) j place → Has taken q
-        step_taken q before j le a g again (inl e) = by_same q (s.closed before q place (again e) (subst (λ (x : ℕ). Goes (Passes d pieces text) program before x q place) (sym e) g) le)
+        step_taken : (q before j : ℕ) → q ≤ length program → IsAlive (Passes d pieces text) begins program before j
+            → Goes (Passes d pieces text) program before j q place → (place ≡ j → Has taken before)
+            → Near d (length text) j place → Has taken q
+        step_taken q before j le a g again (inl e) =
+            by_same q (s.closed before q place (again e) (subst
+            (λ (x : ℕ). Goes (Passes d pieces text) program before x q place) (sym e) g) le)
         step_taken q before j le a g again (inr near) = none_waits q (s.before before j q a near.0 g le)
 
         was_taken : (n q : ℕ) → Comes (Passes d pieces text) begins program n q place → q ≤ length program → Has taken q
         was_taken zero q c le = subst (λ (x : ℕ). Has taken x) (sym c.0) (none_waits 0 (s.begun c.1))
         was_taken (suc n) q c le =
             step_taken q c.0 c.1 le (n, c.2) c.3
-            (λ e. was_taken n c.0 (subst (λ (x : ℕ). Comes (Passes d pieces text) begins program n c.0 x) (sym e) c.2) (goes_within c.0 c.1 q place c.3)) (goes_near c.0 c.1 q place c.3)
+            (λ e. was_taken n c.0 (subst (λ (x : ℕ). Comes (Passes d pieces text) begins program n c.0 x) (sym e) c.2)
+            (goes_within c.0 c.1 q place c.3)) (goes_near c.0 c.1 q place c.3)
 
-        by_place : (j q : ℕ) → After d place j → ((j ≡ place) × (Contains waiting q ⊎ Has taken q)) ⊎ (After d place j × Contains next q) → Contains next q
+        by_place : (j q : ℕ) → After d place j → ((j ≡ place) × (Contains waiting q ⊎ Has taken q))
+            ⊎ (After d place j × Contains next q) → Contains next q
         by_place j q after (inl h) = absurd (after_apart d place (subst (λ (x : ℕ). After d place x) h.0 after))
         by_place j q after (inr h) = h.1
 
     -- a walk begins at a place that is come to, or none does
-    pub settling_begun : (waiting taken next : List ℕ) → begins place ≡ true → Arrives d (Passes d pieces text) begins program place waiting taken next → Settling d (Passes d pieces text) begins program place (waiting ++ 0 ∷ []) taken next
+    pub settling_begun : (waiting taken next : List ℕ) → begins place ≡ true
+        → Arrives d (Passes d pieces text) begins program place waiting taken next
+        → Settling d (Passes d pieces text) begins program place (waiting ++ 0 ∷ []) taken next
     settling_begun waiting taken next yes_ a = record {
       waits_by = λ q h. by_list q (Contains-push_cases waiting 0 q h);
       taken_by = λ q h. absurd (a.none_taken q h);
       comes_by = λ q h. absurd (contains_none q (subst (λ (w : List ℕ). Contains w q) a.none_next h));
       begun = λ h. inl (Contains-push waiting 0);
-      before = λ at j q alive after g le. inl (Contains-append_left waiting (0 ∷ []) q (a.before at j q alive after g le));
+      before =
+          λ at j q alive after g le. inl (Contains-append_left waiting (0 ∷ []) q (a.before at j q alive after g le));
       closed = λ at q j h g le. absurd (a.none_taken at h);
     }
       where
@@ -375,7 +473,9 @@ module _ (d : Direction) (pieces : List Piece) (text : List ℕ) (begins : ℕ �
         by_list q (inl h) = a.waits_by q h
         by_list q (inr e) = (zero, (sym e, yes_))
 
-    pub settling_unbegun : (waiting taken next : List ℕ) → begins place ≡ false → Arrives d (Passes d pieces text) begins program place waiting taken next → Settling d (Passes d pieces text) begins program place waiting taken next
+    pub settling_unbegun : (waiting taken next : List ℕ) → begins place ≡ false
+        → Arrives d (Passes d pieces text) begins program place waiting taken next
+        → Settling d (Passes d pieces text) begins program place waiting taken next
     settling_unbegun waiting taken next no_ a = record {
       waits_by = a.waits_by;
       taken_by = λ q h. absurd (a.none_taken q h);
@@ -386,19 +486,27 @@ module _ (d : Direction) (pieces : List Piece) (text : List ℕ) (begins : ℕ �
     }
 
     -- the next place is come to
-    pub arrives_next : (place' : ℕ) (waiting taken next waiting' taken' next' : List ℕ) → After d place place' → Settled d (Passes d pieces text) begins program place waiting taken next
-        → waiting' ≡ next → next' ≡ waiting → ((q : ℕ) → has taken' q ≡ false) → Arrives d (Passes d pieces text) begins program place' waiting' taken' next'
+    pub arrives_next : (place' : ℕ) (waiting taken next waiting' taken' next' : List ℕ) → After d place place'
+        → Settled d (Passes d pieces text) begins program place waiting taken next
+        → waiting' ≡ next → next' ≡ waiting → ((q : ℕ) → has taken' q ≡ false)
+        → Arrives d (Passes d pieces text) begins program place' waiting' taken' next'
     arrives_next place' waiting taken next waiting' taken' next' after s e f none = record {
-      waits_by = λ q h. let c = s.comes_by q (subst (λ (w : List ℕ). Contains w q) e h) in subst (λ (x : ℕ). IsAlive (Passes d pieces text) begins program q x) (after_is d place c.0 place' c.1 after) c.2;
+      waits_by = λ q h. let c = s.comes_by q (subst (λ (w : List ℕ). Contains w q) e h) in
+          subst (λ (x : ℕ). IsAlive (Passes d pieces text) begins program q x) (after_is d place c.0 place' c.1 after)
+          c.2;
       before = λ at j q a from g le.
           let same : j ≡ place = before_is d j place place' from after in
-          subst (λ (w : List ℕ). Contains w q) (sym e) (s.comes at place' q (subst (λ (x : ℕ). IsAlive (Passes d pieces text) begins program at x) same a) after (subst (λ (x : ℕ). Goes (Passes d pieces text) program at x q place') same g) le);
+          subst (λ (w : List ℕ). Contains w q) (sym e) (s.comes at place' q
+          (subst (λ (x : ℕ). IsAlive (Passes d pieces text) begins program at x) same a) after
+          (subst (λ (x : ℕ). Goes (Passes d pieces text) program at x q place') same g) le);
       none_taken = λ q h. false≢true (sym (none q) ∙ h);
       none_next = f ∙ s.empty;
     }
 
   -- the first place: none comes from one before
-  pub arrives_first : (place : ℕ) (waiting taken next : List ℕ) → ((at j : ℕ) → IsAlive (Passes d pieces text) begins program at j → After d j place → ⊥) → waiting ≡ [] → next ≡ []
+  pub arrives_first : (place : ℕ) (waiting taken next : List ℕ)
+      → ((at j : ℕ) → IsAlive (Passes d pieces text) begins program at j → After d j place → ⊥) → waiting ≡ []
+      → next ≡ []
       → ((q : ℕ) → has taken q ≡ false) → Arrives d (Passes d pieces text) begins program place waiting taken next
   arrives_first place waiting taken next first e f none = record {
     waits_by = λ q h. absurd (contains_none q (subst (λ (w : List ℕ). Contains w q) e h));
@@ -407,26 +515,37 @@ module _ (d : Direction) (pieces : List Piece) (text : List ℕ) (begins : ℕ �
     none_next = f;
   }
 
--- what comes to a step from which a run leads to the end began somewhere from where a run leads there; and the other way
+-- what comes to a step from which a run leads to the end began somewhere from where a run leads there; and the other
+-- way
 module _ (passes : ℕ → ℕ → ℕ → Type 0) (begins : ℕ → Bool) (goal : ℕ) (program : List Step) where
-  pub comes_runs : (n m q k : ℕ) → Comes passes begins program n q k → Runs passes goal program m q k → (b : ℕ) × (l : ℕ) × (begins b ≡ true) × Runs passes goal program l 0 b
+  pub comes_runs : (n m q k : ℕ) → Comes passes begins program n q k → Runs passes goal program m q k → (b : ℕ)
+      × (l : ℕ) × (begins b ≡ true) × Runs passes goal program l 0 b
   comes_runs zero m q k c r = (k, m, c.1, subst (λ (x : ℕ). Runs passes goal program m x k) c.0 r)
   comes_runs (suc n) m q k c r = comes_runs n (suc m) c.0 c.1 c.2 (q, k, c.3, r)
 
-  pub runs_come : (n m q k : ℕ) → Runs passes goal program n q k → Comes passes begins program m q k → (l : ℕ) × Comes passes begins program l (length program) goal
-  runs_come zero m q k r c = (m, subst (λ (x : ℕ). Comes passes begins program m x goal) r.0 (subst (λ (x : ℕ). Comes passes begins program m q x) r.1 c))
+  pub runs_come : (n m q k : ℕ) → Runs passes goal program n q k → Comes passes begins program m q k → (l : ℕ)
+      × Comes passes begins program l (length program) goal
+  runs_come zero m q k r c = (
+    m,
+    subst (λ (x : ℕ). Comes passes begins program m x goal) r.0
+        (subst (λ (x : ℕ). Comes passes begins program m q x) r.1 c),
+  )
   runs_come (suc n) m q k r c = runs_come n (suc m) r.0 r.1 r.3 (q, k, c, r.2)
 
 -- a step over no piece does the same whatever a piece does
-pub other_step : (d : Direction) (pieces : List Piece) (text : List ℕ) (place : ℕ) (s : Step) (passing : Passing) → ((number : ℕ) → s ≡ Pass number → ⊥) → StepAs d pieces text place s passing
+pub other_step : (d : Direction) (pieces : List Piece) (text : List ℕ) (place : ℕ) (s : Step) (passing : Passing)
+    → ((number : ℕ) → s ≡ Pass number → ⊥) → StepAs d pieces text place s passing
 other_step d pieces text place (Pass number) passing apart = absurd (apart number refl)
 other_step d pieces text place (Fork by) passing apart = tt
 other_step d pieces text place (Jump by) passing apart = tt
 other_step d pieces text place (Back by) passing apart = tt
 
 -- where none waits, none is alive further on, if no walk begins there
-module _ (pieces : List Piece) (text : List ℕ) (begins : ℕ → Bool) (program : List Step) (place : ℕ) (taken next : List ℕ) (a : Arrives Forward (Passes Forward pieces text) begins program place [] taken next) where
-  none_by : (q j k n : ℕ) → ((m : ℕ) → place ≤ m → begins m ≡ true → ⊥) → place ≤ k → q ≤ length program → (before : ℕ) → Comes (Passes Forward pieces text) begins program n before j → Goes (Passes Forward pieces text) program before j q k
+module _ (pieces : List Piece) (text : List ℕ) (begins : ℕ → Bool) (program : List Step) (place : ℕ)
+    (taken next : List ℕ) (a : Arrives Forward (Passes Forward pieces text) begins program place [] taken next) where
+  none_by : (q j k n : ℕ) → ((m : ℕ) → place ≤ m → begins m ≡ true → ⊥) → place ≤ k → q ≤ length program → (before : ℕ)
+      → Comes (Passes Forward pieces text) begins program n before j
+      → Goes (Passes Forward pieces text) program before j q k
       → (place ≤ j → ⊥) → Near Forward (length text) j k → ⊥
   none_by q j k n none le within before c g again (inl e) = again (omega (arith, le, e))
   none_by q j k n none le within before c g again (inr near) = by_order (lt_or_le j place)
@@ -435,9 +554,13 @@ module _ (pieces : List Piece) (text : List ℕ) (begins : ℕ → Bool) (progra
       by_order (inr later) = again later
       by_order (inl earlier) =
           let here : k ≡ place = omega (arith, near.0, earlier, le) in
-          contains_none q (a.before before j q (n, c) (omega (arith, near.0, here)) (subst (λ (x : ℕ). Goes (Passes Forward pieces text) program before j q x) here g) within)
+          contains_none q (a.before before j q (n, c) (omega (arith, near.0, here))
+          (subst (λ (x : ℕ). Goes (Passes Forward pieces text) program before j q x) here g) within)
 
-  pub none_alive : ((m : ℕ) → place ≤ m → begins m ≡ true → ⊥) → (n q k : ℕ) → place ≤ k → q ≤ length program → Comes (Passes Forward pieces text) begins program n q k → ⊥
+  pub none_alive : ((m : ℕ) → place ≤ m → begins m ≡ true → ⊥) → (n q k : ℕ) → place ≤ k → q ≤ length program
+      → Comes (Passes Forward pieces text) begins program n q k → ⊥
   none_alive none zero q k le within c = none k le c.1
   none_alive none (suc n) q k le within c =
-      none_by q c.1 k n none le within c.0 c.2 c.3 (λ later. none_alive none n c.0 c.1 later (goes_within Forward pieces text begins program c.0 c.1 q k c.3) c.2) (goes_near Forward pieces text begins program c.0 c.1 q k c.3)
+      none_by q c.1 k n none le within c.0 c.2 c.3 (λ later. none_alive none n c.0 c.1 later
+      (goes_within Forward pieces text begins program c.0 c.1 q k c.3) c.2)
+      (goes_near Forward pieces text begins program c.0 c.1 q k c.3)

@@ -1,10 +1,61 @@
 -- The places where parts end are those that a tree's parts have.
-use Rattle.std.proofs.Common.{◌≡◌, ℕ, zero, suc, ◌+◌, ◌-◌, ◌<◌, ◌≤◌, Bool, true, false, not, cond, ◌&&◌, List, [], ◌∷◌, ◌++◌, ◌⊎◌, inl, inr, length, Option, Some, None, refl, sym, subst, ◌∙◌, arith}
+use Rattle.std.proofs.Common.{
+  ◌≡◌,
+  ℕ,
+  zero,
+  suc,
+  ◌+◌,
+  ◌-◌,
+  ◌<◌,
+  ◌≤◌,
+  Bool,
+  true,
+  false,
+  not,
+  cond,
+  ◌&&◌,
+  List,
+  [],
+  ◌∷◌,
+  ◌++◌,
+  ◌⊎◌,
+  inl,
+  inr,
+  length,
+  Option,
+  Some,
+  None,
+  refl,
+  sym,
+  subst,
+  ◌∙◌,
+  arith,
+}
 use Rattle.std.specs.Prelude.{◌==◌, ◌||◌, ◌↔◌, nat_lt, nat_le, min, slice_index, flat_map, IsTrue}
 use Rattle.std.proofs.lemmas.Bool.{and_parts, eq-eqb, eqb-true, lt-ltb, ltb-true, leb-true, le-leb, false≢true}
-use Rattle.es_pattern.specs.Tree.{Tree, nothing, one_of, text_start, text_end, word_boundary, sequence, choice, repetition, lookahead}
+use Rattle.es_pattern.specs.Tree.{
+  Tree,
+  nothing,
+  one_of,
+  text_start,
+  text_end,
+  word_boundary,
+  sequence,
+  choice,
+  repetition,
+  lookahead,
+}
 use Rattle.es_pattern.specs.Spans.{Spans, Chain, IsFound, IsUpTo, differs, fits, is_boundary}
-use Rattle.es_pattern.specs.Found.{has_place, place_if, after_links, up_to_links, repeated, ends, begins_up_to, is_found}
+use Rattle.es_pattern.specs.Found.{
+  has_place,
+  place_if,
+  after_links,
+  up_to_links,
+  repeated,
+  ends,
+  begins_up_to,
+  is_found,
+}
 use Rattle.es_pattern.specs.Laws.{FoundTells}
 use Rattle.es_pattern.proofs.Walking.{chain_joined, chain_split}
 use Rattle.es_pattern.proofs.NumberTests.{lt_or_same}
@@ -53,10 +104,18 @@ module _ (R : ℕ → ℕ → Type 0) (size : ℕ) (leads : (i j : ℕ) → R i 
       by_rest (inr (more, end_)) = omega (arith, s.further, lt, more, end_)
 
   shortened : (n i j : ℕ) → Chain R n i j → Shortened R size n i j
-  shortened zero i j e = record { links = 0; fewer = omega arith; within = omega arith; further = omega (arith, e); onward = inl e; chain = e }
+  shortened zero i j e = record {
+    links = 0;
+    fewer = omega arith;
+    within = omega arith;
+    further = omega (arith, e);
+    onward = inl e;
+    chain = e;
+  }
   shortened (suc n) i j c = with_link n i c.0 j c.1 (leads i c.0 c.1) (shortened n c.0 j c.2)
 
-chain_onward : (R : ℕ → ℕ → Type 0) (size : ℕ) → ((i j : ℕ) → R i j → Onward size i j) → (n i j : ℕ) → Chain R n i j → Onward size i j
+chain_onward : (R : ℕ → ℕ → Type 0) (size : ℕ) → ((i j : ℕ) → R i j → Onward size i j) → (n i j : ℕ) → Chain R n i j
+    → Onward size i j
 chain_onward R size leads n i j c = let s = shortened R size leads n i j c in s.onward
 
 spans_onward : (t : Tree) (text : List ℕ) (i j : ℕ) → Spans t text i j → Onward (length text) i j
@@ -65,10 +124,12 @@ spans_onward (one_of negated ranges) text i j s = inr (omega (arith, s.1), omega
 spans_onward text_start text i j s = inl s.0
 spans_onward text_end text i j s = inl s.0
 spans_onward (word_boundary negated) text i j s = inl s.0
-spans_onward (sequence a b) text i j s = onward_then (length text) i s.0 j (spans_onward a text i s.0 s.1) (spans_onward b text s.0 j s.2)
+spans_onward (sequence a b) text i j s =
+    onward_then (length text) i s.0 j (spans_onward a text i s.0 s.1) (spans_onward b text s.0 j s.2)
 spans_onward (choice a b) text i j (inl s) = spans_onward a text i j s
 spans_onward (choice a b) text i j (inr s) = spans_onward b text i j s
-spans_onward (repetition least most a) text i j s = chain_onward (Spans a text) (length text) (λ k l r. spans_onward a text k l r) s.0 i j s.3
+spans_onward (repetition least most a) text i j s =
+    chain_onward (Spans a text) (length text) (λ k l r. spans_onward a text k l r) s.0 i j s.3
 spans_onward (lookahead true a) text i j s = inl s.0
 spans_onward (lookahead false a) text i j s = inl s.0
 
@@ -106,7 +167,8 @@ in_some : (f : ℕ → List ℕ) (xs : List ℕ) (j : ℕ) → In (flat_map f xs
 in_some f [] j h = absurd h
 in_some f (y ∷ xs) j h = by_part (in_either (f y) (flat_map f xs) j h) (λ k. in_some f xs j k)
   where
-    by_part : In (f y) j ⊎ In (flat_map f xs) j → (In (flat_map f xs) j → (x : ℕ) × In xs x × In (f x) j) → (x : ℕ) × In (y ∷ xs) x × In (f x) j
+    by_part : In (f y) j ⊎ In (flat_map f xs) j → (In (flat_map f xs) j → (x : ℕ) × In xs x × In (f x) j) → (x : ℕ)
+        × In (y ∷ xs) x × In (f x) j
     by_part (inl k) again = (y, inl refl, k)
     by_part (inr k) again = let s = again k in (s.0, inr s.1, s.2)
 
@@ -145,14 +207,18 @@ module _ (next : ℕ → List ℕ) (R : ℕ → ℕ → Type 0) (links : (i j : 
 
   lead_after_links : (n : ℕ) (ps : List ℕ) (i j : ℕ) → In ps i → Chain R n i j → In (after_links next n ps) j
   lead_after_links zero ps i j h e = subst (λ (y : ℕ). In ps y) e h
-  lead_after_links (suc n) ps i j h c = lead_after_links n (flat_map next ps) c.0 j (in_all next ps i c.0 h ((links i c.0).1 c.1)) c.2
+  lead_after_links (suc n) ps i j h c =
+      lead_after_links n (flat_map next ps) c.0 j (in_all next ps i c.0 h ((links i c.0).1 c.1)) c.2
 
-  up_to_links_lead : (n : ℕ) (ps : List ℕ) (j : ℕ) → In (up_to_links next n ps) j → (k : ℕ) × (k ≤ n) × ((i : ℕ) × In ps i × Chain R k i j)
+  up_to_links_lead : (n : ℕ) (ps : List ℕ) (j : ℕ) → In (up_to_links next n ps) j → (k : ℕ) × (k ≤ n)
+      × ((i : ℕ) × In ps i × Chain R k i j)
   up_to_links_lead zero ps j h = (0, omega arith, (j, h, refl))
-  up_to_links_lead (suc n) ps j h = by_part (in_either ps (up_to_links next n (flat_map next ps)) j h) (λ g. up_to_links_lead n (flat_map next ps) j g)
+  up_to_links_lead (suc n) ps j h = by_part (in_either ps (up_to_links next n (flat_map next ps)) j h)
+      (λ g. up_to_links_lead n (flat_map next ps) j g)
     where
       by_part : In ps j ⊎ In (up_to_links next n (flat_map next ps)) j
-          → (In (up_to_links next n (flat_map next ps)) j → (k : ℕ) × (k ≤ n) × ((i : ℕ) × In (flat_map next ps) i × Chain R k i j))
+          → (In (up_to_links next n (flat_map next ps)) j → (k : ℕ) × (k ≤ n)
+          × ((i : ℕ) × In (flat_map next ps) i × Chain R k i j))
           → (k : ℕ) × (k ≤ suc n) × ((i : ℕ) × In ps i × Chain R k i j)
       by_part (inl g) again = (0, omega arith, (j, g, refl))
       by_part (inr g) again =
@@ -162,31 +228,43 @@ module _ (next : ℕ → List ℕ) (R : ℕ → ℕ → Type 0) (links : (i j : 
 
   lead_up_to_links : (n k : ℕ) (ps : List ℕ) (i j : ℕ) → k ≤ n → In ps i → Chain R k i j → In (up_to_links next n ps) j
   lead_up_to_links zero zero ps i j le h e = subst (λ (y : ℕ). In ps y) e h
-  lead_up_to_links (suc n) zero ps i j le h e = in_left ps (up_to_links next n (flat_map next ps)) j (subst (λ (y : ℕ). In ps y) e h)
+  lead_up_to_links (suc n) zero ps i j le h e =
+      in_left ps (up_to_links next n (flat_map next ps)) j (subst (λ (y : ℕ). In ps y) e h)
   lead_up_to_links zero (suc k) ps i j le h c = absurd (omega (arith, le))
   lead_up_to_links (suc n) (suc k) ps i j le h c =
       in_right ps (up_to_links next n (flat_map next ps)) j
-      (lead_up_to_links n k (flat_map next ps) c.0 j (omega (arith, le)) (in_all next ps i c.0 h ((links i c.0).1 c.1)) c.2)
+      (lead_up_to_links n k (flat_map next ps) c.0 j (omega (arith, le)) (in_all next ps i c.0 h ((links i c.0).1 c.1))
+      c.2)
 
   -- chains of at least so many links, and at most so many more
-  between_lead : (more least i j : ℕ) → In (up_to_links next more (after_links next least (i ∷ []))) j → (n : ℕ) × (least ≤ n) × (n ≤ least + more) × Chain R n i j
+  between_lead : (more least i j : ℕ) → In (up_to_links next more (after_links next least (i ∷ []))) j → (n : ℕ)
+      × (least ≤ n) × (n ≤ least + more) × Chain R n i j
   between_lead more least i j h =
       let s = up_to_links_lead more (after_links next least (i ∷ [])) j h in
       let p = after_links_lead least (i ∷ []) s.2.0 s.2.1 in
-      let here : p.0 ≡ i = sym (in_one i p.0 p.1) in
-      (least + s.0, omega arith, omega (arith, s.1), subst (λ (x : ℕ). Chain R (least + s.0) x j) here (chain_joined R least s.0 p.0 s.2.0 j p.2 s.2.2))
+      let here : p.0 ≡ i = sym (in_one i p.0 p.1) in (
+        least + s.0,
+        omega arith,
+        omega (arith, s.1),
+        subst (λ (x : ℕ). Chain R (least + s.0) x j) here (chain_joined R least s.0 p.0 s.2.0 j p.2 s.2.2),
+      )
 
-  lead_between : (more least k i x j : ℕ) → k ≤ more → Chain R least i x → Chain R k x j → In (up_to_links next more (after_links next least (i ∷ []))) j
-  lead_between more least k i x j le c d = lead_up_to_links more k (after_links next least (i ∷ [])) x j le (lead_after_links least (i ∷ []) i x (inl refl) c) d
+  lead_between : (more least k i x j : ℕ) → k ≤ more → Chain R least i x → Chain R k x j
+      → In (up_to_links next more (after_links next least (i ∷ []))) j
+  lead_between more least k i x j le c d = lead_up_to_links more k (after_links next least (i ∷ [])) x j le
+      (lead_after_links least (i ∷ []) i x (inl refl) c) d
 
   abbrev Repeats : ℕ → Option ℕ → ℕ → ℕ → Type 0
   Repeats least most i j = (n : ℕ) × (least ≤ n) × IsUpTo most n × Chain R n i j
 
-  repeated_lead : (size least : ℕ) (most : Option ℕ) (i j : ℕ) → In (repeated next size least most i) j → Repeats least most i j
+  repeated_lead : (size least : ℕ) (most : Option ℕ) (i j : ℕ) → In (repeated next size least most i) j
+      → Repeats least most i j
   repeated_lead size least None i j h = let s = between_lead size least i j h in (s.0, s.1, tt, s.3)
   repeated_lead size least (Some most) i j h = by_test (nat_le least most) refl h
     where
-      by_test : (b : Bool) → nat_le least most ≡ b → In (cond b (up_to_links next (min size (most - least)) (after_links next least (i ∷ []))) []) j → Repeats least (Some most) i j
+      by_test : (b : Bool) → nat_le least most ≡ b
+          → In (cond b (up_to_links next (min size (most - least)) (after_links next least (i ∷ []))) []) j
+          → Repeats least (Some most) i j
       by_test false e g = absurd g
       by_test true e g =
           let s = between_lead (min size (most - least)) least i j g in
@@ -202,7 +280,8 @@ module _ (next : ℕ → List ℕ) (R : ℕ → ℕ → Type 0) (links : (i j : 
         let s = chain_split R least (n - least) i j (subst (λ (m : ℕ). Chain R m i j) all c) in
         (s.0, s.1, shortened R size leads (n - least) s.0 j s.2)
 
-    lead_repeated : (least : ℕ) (most : Option ℕ) (i j : ℕ) → Repeats least most i j → In (repeated next size least most i) j
+    lead_repeated : (least : ℕ) (most : Option ℕ) (i j : ℕ) → Repeats least most i j
+        → In (repeated next size least most i) j
     lead_repeated least None i j h =
         let s = split least h.0 i j h.1 h.3 in
         let short = s.2 in
@@ -254,29 +333,49 @@ ends_span (one_of negated ranges) text i j = (to, from)
         (ltb-true i (length text) q.0, sym p.1, q.1)
 
     from : Spans (one_of negated ranges) text i j → In (ends (one_of negated ranges) text i) j
-    from s = place_if_in (nat_lt i (length text) && fits negated ranges (slice_index text i)) (i + 1) j (both_true (nat_lt i (length text)) (fits negated ranges (slice_index text i)) (lt-ltb i (length text) s.0) s.2) (sym s.1)
-ends_span text_start text i j = (λ h. let p = in_place_if (i == 0) i j h in (p.1, eqb-true i 0 p.0), λ s. place_if_in (i == 0) i j (eq-eqb i 0 s.1) s.0)
-ends_span text_end text i j = (λ h. let p = in_place_if (i == length text) i j h in (p.1, eqb-true i (length text) p.0), λ s. place_if_in (i == length text) i j (eq-eqb i (length text) s.1) s.0)
+    from s = place_if_in (nat_lt i (length text) && fits negated ranges (slice_index text i)) (i + 1) j
+        (both_true (nat_lt i (length text)) (fits negated ranges (slice_index text i)) (lt-ltb i (length text) s.0) s.2)
+        (sym s.1)
+ends_span text_start text i j = (
+  λ h. let p = in_place_if (i == 0) i j h in (p.1, eqb-true i 0 p.0),
+  λ s. place_if_in (i == 0) i j (eq-eqb i 0 s.1) s.0,
+)
+ends_span text_end text i j = (
+  λ h. let p = in_place_if (i == length text) i j h in (p.1, eqb-true i (length text) p.0),
+  λ s. place_if_in (i == length text) i j (eq-eqb i (length text) s.1) s.0,
+)
 ends_span (word_boundary negated) text i j = (
-  λ h. let p = in_place_if (differs negated (is_boundary text i)) i j h in (p.1, differs_not negated (is_boundary text i) p.0),
+  λ h. let p =
+      in_place_if (differs negated (is_boundary text i)) i j h in (p.1, differs_not negated (is_boundary text i) p.0),
   λ s. place_if_in (differs negated (is_boundary text i)) i j (not_differs negated (is_boundary text i) s.1) s.0,
 )
 ends_span (sequence a b) text i j = (
-  λ h. let s = in_some (ends b text) (ends a text i) j h in (s.0, (ends_span a text i s.0).0 s.1, (ends_span b text s.0 j).0 s.2),
+  λ h. let s = in_some (ends b text) (ends a text i) j h in
+      (s.0, (ends_span a text i s.0).0 s.1, (ends_span b text s.0 j).0 s.2),
   λ s. in_all (ends b text) (ends a text i) s.0 j ((ends_span a text i s.0).1 s.1) ((ends_span b text s.0 j).1 s.2),
 )
-ends_span (choice a b) text i j = either_span (ends a text i) (ends b text i) j (Spans a text i j) (Spans b text i j) (ends_span a text i j) (ends_span b text i j)
+ends_span (choice a b) text i j = either_span (ends a text i) (ends b text i) j (Spans a text i j) (Spans b text i j)
+    (ends_span a text i j) (ends_span b text i j)
 ends_span (repetition least most a) text i j = (
   repeated_lead (ends a text) (Spans a text) (λ k l. ends_span a text k l) (length text) least most i j,
-  lead_repeated (ends a text) (Spans a text) (λ k l. ends_span a text k l) (length text) (λ k l r. spans_onward a text k l r) least most i j,
+  lead_repeated (ends a text) (Spans a text) (λ k l. ends_span a text k l) (length text)
+      (λ k l r. spans_onward a text k l r) least most i j,
 )
 ends_span (lookahead false a) text i j = (
-  λ h. let p = in_place_if (has_place (ends a text i)) i j h in let s = some_place (ends a text i) p.0 in (p.1, (s.0, (ends_span a text i s.0).0 s.1)),
-  λ s. place_if_in (has_place (ends a text i)) i j (place_there (ends a text i) s.1.0 ((ends_span a text i s.1.0).1 s.1.1)) s.0,
+  λ h. let p = in_place_if (has_place (ends a text i)) i j h in let s = some_place (ends a text i) p.0 in
+      (p.1, (s.0, (ends_span a text i s.0).0 s.1)),
+  λ s. place_if_in (has_place (ends a text i)) i j (place_there (ends a text i) s.1.0
+      ((ends_span a text i s.1.0).1 s.1.1)) s.0,
 )
 ends_span (lookahead true a) text i j = (
-  λ h. let p = in_place_if (differs true (has_place (ends a text i))) i j h in (p.1, λ x s. no_place (ends a text i) x (differs_not true (has_place (ends a text i)) p.0) ((ends_span a text i x).1 s)),
-  λ s. place_if_in (differs true (has_place (ends a text i))) i j (not_differs true (has_place (ends a text i)) (empty_place (ends a text i) (λ x h. s.1 x ((ends_span a text i x).0 h)))) s.0,
+  λ h. let p = in_place_if (differs true (has_place (ends a text i))) i j h in (
+    p.1,
+    λ x s. no_place (ends a text i) x (differs_not true (has_place (ends a text i)) p.0)
+        ((ends_span a text i x).1 s),
+  ),
+  λ s. place_if_in (differs true (has_place (ends a text i))) i j
+      (not_differs true (has_place (ends a text i)) (empty_place (ends a text i)
+      (λ x h. s.1 x ((ends_span a text i x).0 h)))) s.0,
 )
 
 -- ---- the whole
@@ -296,7 +395,9 @@ begins_found : (f : ℕ → List ℕ) (n : ℕ) → begins_up_to f n ≡ true �
 begins_found f zero h = (0, omega arith, h)
 begins_found f (suc n) h = by_part (or_cases (has_place (f (suc n))) (begins_up_to f n) h) (λ g. begins_found f n g)
   where
-    by_part : (has_place (f (suc n)) ≡ true) ⊎ (begins_up_to f n ≡ true) → (begins_up_to f n ≡ true → (i : ℕ) × (i ≤ n) × (has_place (f i) ≡ true)) → (i : ℕ) × (i ≤ suc n) × (has_place (f i) ≡ true)
+    by_part : (has_place (f (suc n)) ≡ true) ⊎ (begins_up_to f n ≡ true)
+        → (begins_up_to f n ≡ true → (i : ℕ) × (i ≤ n) × (has_place (f i) ≡ true)) → (i : ℕ) × (i ≤ suc n)
+        × (has_place (f i) ≡ true)
     by_part (inl g) again = (suc n, omega arith, g)
     by_part (inr g) again = let s = again g in (s.0, omega (arith, s.1), s.2)
 
@@ -306,7 +407,8 @@ found_begins f (suc n) i le h = by_order (lt_or_same i (suc n) le) (λ below. fo
   where
     by_order : (i < suc n) ⊎ (i ≡ suc n) → (i ≤ n → begins_up_to f n ≡ true) → begins_up_to f (suc n) ≡ true
     by_order (inl lt) again = or_second (has_place (f (suc n))) (begins_up_to f n) (again (omega (arith, lt)))
-    by_order (inr e) again = or_first (has_place (f (suc n))) (begins_up_to f n) (subst (λ (k : ℕ). has_place (f k) ≡ true) e h)
+    by_order (inr e) again =
+        or_first (has_place (f (suc n))) (begins_up_to f n) (subst (λ (k : ℕ). has_place (f k) ≡ true) e h)
 
 pub found_tells : FoundTells
 unfolding is_found
@@ -319,4 +421,5 @@ found_tells tree text = (to, from)
         (b.0, s.0, b.1, (ends_span tree text b.0 s.0).0 s.1)
 
     from : IsFound tree text → IsTrue (begins_up_to (ends tree text) (length text))
-    from (i, j, le, s) = found_begins (ends tree text) (length text) i le (place_there (ends tree text i) j ((ends_span tree text i j).1 s))
+    from (i, j, le, s) = found_begins (ends tree text) (length text) i le
+        (place_there (ends tree text i) j ((ends_span tree text i j).1 s))

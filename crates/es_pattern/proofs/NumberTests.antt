@@ -1,12 +1,31 @@
 -- Facts about tests of numbers, and about their order.
-use Rattle.std.proofs.Common.{◌≡◌, ℕ, ◌<◌, ◌≤◌, Bool, true, false, inl, inr, Option, None, Some, refl, sym, ap, ◌∙◌, arith}
+use Rattle.std.proofs.Common.{
+  ◌≡◌,
+  ℕ,
+  ◌<◌,
+  ◌≤◌,
+  Bool,
+  true,
+  false,
+  inl,
+  inr,
+  Option,
+  None,
+  Some,
+  refl,
+  sym,
+  ap,
+  ◌∙◌,
+  arith,
+}
 use Rattle.std.specs.Prelude.{◌==◌, ◌&&◌, ◌⊎◌, nat_le, nat_lt}
 use Rattle.std.proofs.lemmas.Bool.{false≢true, cases_eq, and_parts, leb-true, ltb-true, ltb-false, ne_eqb}
 use Rattle.std.proofs.lemmas.Option.{none-some}
 
 -- a test of a number against two bounds
 pub within_bounds : (a b c : ℕ) → nat_le a c && nat_le c b ≡ true → (a ≤ c) × (c ≤ b)
-within_bounds a b c h = let parts = and_parts (nat_le a c) (nat_le c b) h in (leb-true a c parts.0, leb-true c b parts.1)
+within_bounds a b c h =
+    let parts = and_parts (nat_le a c) (nat_le c b) h in (leb-true a c parts.0, leb-true c b parts.1)
 
 -- a number is none above it, and none below it
 pub below_apart : (c k : ℕ) → c < k → c == k ≡ false

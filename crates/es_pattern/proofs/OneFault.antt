@@ -8,7 +8,17 @@ use Rattle.es_pattern.specs.Grammar.{IsPattern}
 use Rattle.es_pattern.proofs.NumberTests.{lt_or_same}
 use Rattle.es_pattern.specs.declared.error.PatternError.{PatternError}
 use Rattle.es_pattern.specs.declared.error.PatternError.TheVariants.{Syntax, Unsupported, CountTooLarge, NoMemory}
-use Rattle.es_pattern.specs.Faults.{IsUnsupportedAt, IsTooLargeAt, IsSyntaxAt, IsClearBefore, IsFirstFault, IsCaused, IsClear, IsWithinLimits, byte_place}
+use Rattle.es_pattern.specs.Faults.{
+  IsUnsupportedAt,
+  IsTooLargeAt,
+  IsSyntaxAt,
+  IsClearBefore,
+  IsFirstFault,
+  IsCaused,
+  IsClear,
+  IsWithinLimits,
+  byte_place,
+}
 
 -- something is refused at the place
 abbrev IsRefusedAt : List ℕ → ℕ → Type 0
@@ -20,7 +30,8 @@ not_before text p q clear (inr (inl h)) lt = clear.small p lt h
 not_before text p q clear (inr (inr h)) lt = clear.grammatical p lt h
 
 -- two first places of refusals are one
-same_place : (text : List ℕ) (p q : ℕ) → IsClearBefore text p → IsRefusedAt text p → IsClearBefore text q → IsRefusedAt text q → p ≡ q
+same_place : (text : List ℕ) (p q : ℕ) → IsClearBefore text p → IsRefusedAt text p → IsClearBefore text q
+    → IsRefusedAt text q → p ≡ q
 same_place text p q clear_p at_p clear_q at_q = by_order (cases_lt p q) (cases_lt q p)
   where
     by_order : (p < q) ⊎ (q ≤ p) → (q < p) ⊎ (p ≤ q) → p ≡ q
@@ -39,15 +50,25 @@ large_there : (text : List ℕ) (p q : ℕ) → p ≡ q → IsTooLargeAt text p 
 large_there text p q same h = subst (λ (k : ℕ). IsTooLargeAt text k) same h
 
 same_fault : (text : List ℕ) (e f : PatternError) → IsFirstFault text e → IsFirstFault text f → e ≡ f
-same_fault text (Unsupported a) (Unsupported b) (p, at_p, clear_p, u) (q, at_q, clear_q, v) = ap Unsupported (same_bytes text p q a b at_p at_q (same_place text p q clear_p (inl u) clear_q (inl v)))
-same_fault text (Unsupported a) (CountTooLarge b) (p, at_p, clear_p, u) (q, at_q, clear_q, apart, v) = absurd (apart (there text p q (same_place text p q clear_p (inl u) clear_q (inr (inl v))) u))
-same_fault text (Unsupported a) (Syntax b) (p, at_p, clear_p, u) (q, at_q, clear_q, apart, apart_q, v) = absurd (apart (there text p q (same_place text p q clear_p (inl u) clear_q (inr (inr v))) u))
-same_fault text (CountTooLarge a) (Unsupported b) (p, at_p, clear_p, apart, u) (q, at_q, clear_q, v) = absurd (apart (there text q p (same_place text q p clear_q (inl v) clear_p (inr (inl u))) v))
-same_fault text (CountTooLarge a) (CountTooLarge b) (p, at_p, clear_p, apart, u) (q, at_q, clear_q, not_q, v) = ap CountTooLarge (same_bytes text p q a b at_p at_q (same_place text p q clear_p (inr (inl u)) clear_q (inr (inl v))))
-same_fault text (CountTooLarge a) (Syntax b) (p, at_p, clear_p, apart, u) (q, at_q, clear_q, apart_q, small, v) = absurd (small (large_there text p q (same_place text p q clear_p (inr (inl u)) clear_q (inr (inr v))) u))
-same_fault text (Syntax a) (Unsupported b) (p, at_p, clear_p, apart, small, u) (q, at_q, clear_q, v) = absurd (apart (there text q p (same_place text q p clear_q (inl v) clear_p (inr (inr u))) v))
-same_fault text (Syntax a) (CountTooLarge b) (p, at_p, clear_p, apart, small, u) (q, at_q, clear_q, apart_q, v) = absurd (small (large_there text q p (same_place text q p clear_q (inr (inl v)) clear_p (inr (inr u))) v))
-same_fault text (Syntax a) (Syntax b) (p, at_p, clear_p, apart, small, u) (q, at_q, clear_q, apart_q, small_q, v) = ap Syntax (same_bytes text p q a b at_p at_q (same_place text p q clear_p (inr (inr u)) clear_q (inr (inr v))))
+same_fault text (Unsupported a) (Unsupported b) (p, at_p, clear_p, u) (q, at_q, clear_q, v) =
+    ap Unsupported (same_bytes text p q a b at_p at_q (same_place text p q clear_p (inl u) clear_q (inl v)))
+same_fault text (Unsupported a) (CountTooLarge b) (p, at_p, clear_p, u) (q, at_q, clear_q, apart, v) =
+    absurd (apart (there text p q (same_place text p q clear_p (inl u) clear_q (inr (inl v))) u))
+same_fault text (Unsupported a) (Syntax b) (p, at_p, clear_p, u) (q, at_q, clear_q, apart, apart_q, v) =
+    absurd (apart (there text p q (same_place text p q clear_p (inl u) clear_q (inr (inr v))) u))
+same_fault text (CountTooLarge a) (Unsupported b) (p, at_p, clear_p, apart, u) (q, at_q, clear_q, v) =
+    absurd (apart (there text q p (same_place text q p clear_q (inl v) clear_p (inr (inl u))) v))
+same_fault text (CountTooLarge a) (CountTooLarge b) (p, at_p, clear_p, apart, u) (q, at_q, clear_q, not_q, v) =
+    ap CountTooLarge (same_bytes text p q a b at_p at_q (same_place text p q clear_p (inr (inl u)) clear_q
+    (inr (inl v))))
+same_fault text (CountTooLarge a) (Syntax b) (p, at_p, clear_p, apart, u) (q, at_q, clear_q, apart_q, small, v) =
+    absurd (small (large_there text p q (same_place text p q clear_p (inr (inl u)) clear_q (inr (inr v))) u))
+same_fault text (Syntax a) (Unsupported b) (p, at_p, clear_p, apart, small, u) (q, at_q, clear_q, v) =
+    absurd (apart (there text q p (same_place text q p clear_q (inl v) clear_p (inr (inr u))) v))
+same_fault text (Syntax a) (CountTooLarge b) (p, at_p, clear_p, apart, small, u) (q, at_q, clear_q, apart_q, v) =
+    absurd (small (large_there text q p (same_place text q p clear_q (inr (inl v)) clear_p (inr (inr u))) v))
+same_fault text (Syntax a) (Syntax b) (p, at_p, clear_p, apart, small, u) (q, at_q, clear_q, apart_q, small_q, v) =
+    ap Syntax (same_bytes text p q a b at_p at_q (same_place text p q clear_p (inr (inr u)) clear_q (inr (inr v))))
 same_fault text NoMemory f h g = absurd h
 same_fault text (Syntax a) NoMemory h g = absurd g
 same_fault text (Unsupported a) NoMemory h g = absurd g
@@ -72,12 +93,18 @@ no_syntax : (text : List ℕ) (tree : Tree) (p : ℕ) → IsPattern text tree �
 no_syntax text tree p h fault = by_order (lt_or_same p (length text) fault.within)
   where
     by_order : (p < length text) ⊎ (p ≡ length text) → ⊥
-    by_order (inl lt) = fault.stops lt (drop (p + 1) text, tree, subst (λ (xs : List ℕ). IsPattern xs tree) (sym (take-append-drop (p + 1) text)) h)
+    by_order (inl lt) = fault.stops lt (
+      drop (p + 1) text,
+      tree,
+      subst (λ (xs : List ℕ). IsPattern xs tree) (sym (take-append-drop (p + 1) text)) h,
+    )
     by_order (inr same) = fault.ends same tree h
 
 -- a text of the grammar within the limits is refused only where the call is out of memory
-pub caused_by_memory : (text : List ℕ) (tree : Tree) (e : PatternError) → IsPattern text tree → IsWithinLimits text → IsCaused text e → e ≡ NoMemory
-caused_by_memory text tree (Syntax a) h limits (p, at_p, clear, apart, small, fault) = absurd (no_syntax text tree p h fault)
+pub caused_by_memory : (text : List ℕ) (tree : Tree) (e : PatternError) → IsPattern text tree → IsWithinLimits text
+    → IsCaused text e → e ≡ NoMemory
+caused_by_memory text tree (Syntax a) h limits (p, at_p, clear, apart, small, fault) =
+    absurd (no_syntax text tree p h fault)
 caused_by_memory text tree (Unsupported a) h limits (p, at_p, clear, u) = absurd ((limits p).0 u)
 caused_by_memory text tree (CountTooLarge a) h limits (p, at_p, clear, apart, u) = absurd ((limits p).1 u)
 caused_by_memory text tree NoMemory h limits g = refl

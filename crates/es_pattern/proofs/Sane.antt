@@ -1,5 +1,24 @@
 -- What holds of every state that a text leads to.
-use Rattle.std.proofs.Common.{◌≡◌, ℕ, zero, suc, ◌+◌, ◌*◌, ◌<◌, ◌≤◌, Bool, true, false, cond, List, [], ◌∷◌, Option, Some, None}
+use Rattle.std.proofs.Common.{
+  ◌≡◌,
+  ℕ,
+  zero,
+  suc,
+  ◌+◌,
+  ◌*◌,
+  ◌<◌,
+  ◌≤◌,
+  Bool,
+  true,
+  false,
+  cond,
+  List,
+  [],
+  ◌∷◌,
+  Option,
+  Some,
+  None,
+}
 use Rattle.std.specs.Prelude.{◌==◌, max}
 use Rattle.es_pattern.specs.Tree.{Tree}
 use Rattle.es_pattern.specs.Pieces.{top, below}
@@ -7,7 +26,21 @@ use Rattle.es_pattern.specs.Escapes.{is_surrogate}
 use Rattle.es_pattern.specs.Limits.{product_of}
 use Rattle.es_pattern.specs.declared.mode.Open.{Open}
 use Rattle.es_pattern.specs.declared.mode.Mode.{Mode}
-use Rattle.es_pattern.specs.declared.mode.Mode.TheVariants.{Term, Atom, Quantified, Zero, Braces, Escape, Paren, ParenQuestion, ClassOpen, ClassFirst, ClassNext, ClassNextDash, ClassNextDashes}
+use Rattle.es_pattern.specs.declared.mode.Mode.TheVariants.{
+  Term,
+  Atom,
+  Quantified,
+  Zero,
+  Braces,
+  Escape,
+  Paren,
+  ParenQuestion,
+  ClassOpen,
+  ClassFirst,
+  ClassNext,
+  ClassNextDash,
+  ClassNextDashes,
+}
 use Rattle.es_pattern.specs.declared.mode.Mode.TheVariants as modes
 use Rattle.es_pattern.specs.Reading.{Reading, top_product, products_below}
 use Rattle.es_pattern.proofs.BracesRead.{AllInner}
@@ -24,8 +57,10 @@ greatest_of_three value = cond (value == 13) 0xd7ff (value * 4096 + 4095)
 -- so many digits are left of an escape, which can be ended so that a range ends there
 abbrev pub IsPartial : Option ℕ → ℕ → ℕ → Type 0
 IsPartial first value zero = ⊥
-IsPartial first value (suc zero) = (value < 4096) × (is_surrogate (value * 16 + 15) ≡ false) × CanEnd first (value * 16 + 15)
-IsPartial first value (suc (suc zero)) = (value < 256) × (is_surrogate (value * 256 + 255) ≡ false) × CanEnd first (value * 256 + 255)
+IsPartial first value (suc zero) =
+    (value < 4096) × (is_surrogate (value * 16 + 15) ≡ false) × CanEnd first (value * 16 + 15)
+IsPartial first value (suc (suc zero)) =
+    (value < 256) × (is_surrogate (value * 256 + 255) ≡ false) × CanEnd first (value * 256 + 255)
 IsPartial first value (suc (suc (suc zero))) = (value < 16) × CanEnd first (greatest_of_three value)
 IsPartial first value (suc (suc (suc (suc zero)))) = (value ≡ 0) × CanEnd first 0xffff
 IsPartial first value (suc (suc (suc (suc (suc n))))) = ⊥
@@ -58,13 +93,16 @@ IsSane r = IsSaneIn r.mode r
 -- the products that are kept are those of the trees
 abbrev pub Outer : List Open → List ℕ → List Tree → Type 0
 Outer [] ps ts = Unit {0}
-Outer (g ∷ gs) ps ts = (top_product ps ≡ max (product_of (top ts)) (product_of (top (below ts)))) × (top_product ps ≤ 100000) × Outer gs (products_below ps) (below (below ts))
+Outer (g ∷ gs) ps ts = (top_product ps ≡ max (product_of (top ts)) (product_of (top (below ts))))
+    × (top_product ps ≤ 100000) × Outer gs (products_below ps) (below (below ts))
 
 abbrev pub MeasuredOpen : Reading → List Tree → Type 0
-MeasuredOpen r ts = (r.product ≡ max (product_of (top ts)) (product_of (top (below ts)))) × (r.product ≤ 100000) × Outer r.groups r.products (below (below ts))
+MeasuredOpen r ts = (r.product ≡ max (product_of (top ts)) (product_of (top (below ts)))) × (r.product ≤ 100000)
+    × Outer r.groups r.products (below (below ts))
 
 abbrev pub MeasuredBase : Bool → Reading → Type 0
-MeasuredBase true r = (r.atom_product ≡ product_of (top r.trees)) × (r.atom_product ≤ 100000) × MeasuredOpen r (below r.trees)
+MeasuredBase true r =
+    (r.atom_product ≡ product_of (top r.trees)) × (r.atom_product ≤ 100000) × MeasuredOpen r (below r.trees)
 MeasuredBase false r = MeasuredOpen r r.trees
 
 -- an atom stands at the end, which may be repeated

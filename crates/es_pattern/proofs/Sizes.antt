@@ -1,11 +1,43 @@
 -- How long a pattern's program is at most.
-use Rattle.std.proofs.Common.{◌≡◌, ℕ, zero, suc, ◌+◌, ◌*◌, ◌≤◌, max, List, [], ◌∷◌, ◌++◌, length, Option, Some, None, option_map, take, ap, arith, length-append}
+use Rattle.std.proofs.Common.{
+  ◌≡◌,
+  ℕ,
+  zero,
+  suc,
+  ◌+◌,
+  ◌*◌,
+  ◌≤◌,
+  max,
+  List,
+  [],
+  ◌∷◌,
+  ◌++◌,
+  length,
+  Option,
+  Some,
+  None,
+  option_map,
+  take,
+  ap,
+  arith,
+  length-append,
+}
 use Rattle.es_pattern.specs.declared.step.Step.{Step}
 use Rattle.es_pattern.specs.declared.step.Step.TheVariants.{Fork, Jump, Back}
 use Rattle.es_pattern.specs.declared.step.Direction.{Direction}
 use Rattle.es_pattern.specs.declared.step.Direction.TheVariants.{Forward, Backward}
 use Rattle.es_pattern.specs.declared.piece.Piece.{Piece}
-use Rattle.es_pattern.specs.declared.piece.Piece.TheVariants.{Nothing, OneOf, TextStart, TextEnd, WordBoundary, Sequence, Choice, Repetition, Lookahead}
+use Rattle.es_pattern.specs.declared.piece.Piece.TheVariants.{
+  Nothing,
+  OneOf,
+  TextStart,
+  TextEnd,
+  WordBoundary,
+  Sequence,
+  Choice,
+  Repetition,
+  Lookahead,
+}
 use Rattle.es_pattern.specs.Tree.{Tree}
 use Rattle.es_pattern.specs.Limits.{count_of}
 use Rattle.es_pattern.specs.Pieces.{top, below, with_piece, with_pieces, tree_of}
@@ -41,12 +73,22 @@ more_times (suc n) (suc m) a le = omega (arith, more_times n m a (omega (arith, 
 plus_times : (n m a : ℕ) → (n + m) * a ≡ n * a + m * a
 plus_times n m a = grind arith
 
-repetition_size : (least : ℕ) (more : Option ℕ) (a : List Step) (most : ℕ) → length a ≤ most → length (repetition_steps least more a) ≤ count_of least (option_map (λ n. least + n) more) * (most + 2)
+repetition_size : (least : ℕ) (more : Option ℕ) (a : List Step) (most : ℕ) → length a ≤ most
+    → length (repetition_steps least more a) ≤ count_of least (option_map (λ n. least + n) more) * (most + 2)
 repetition_size least (Some more) a most le =
     let first = times_most least (length a) (most + 2) (omega (arith, le)) in
     let second = times_most more (length (maybe_steps a)) (most + 2) (omega (arith, le)) in
     let all = more_times (least + more) (max (least + more) 1) (most + 2) (omega arith) in
-    omega (arith, length-append (copies least a) (copies more (maybe_steps a)), length-copies least a, length-copies more (maybe_steps a), first, second, all, plus_times least more (most + 2))
+    omega (
+      arith,
+      length-append (copies least a) (copies more (maybe_steps a)),
+      length-copies least a,
+      length-copies more (maybe_steps a),
+      first,
+      second,
+      all,
+      plus_times least more (most + 2),
+    )
 repetition_size zero None a most le =
     let one : 1 * (most + 2) ≡ most + 2 = grind arith in
     omega (arith, length-append a (Back (length a + 1) ∷ []), le, more_times 1 (max 0 1) (most + 2) (omega arith), one)
@@ -82,32 +124,53 @@ sized_below [] (t ∷ ts) s = absurd s
 sized_below (c ∷ cs) [] s = absurd s
 sized_below (c ∷ cs) (t ∷ ts) s = s.1
 
-sized_sequence : (d : Direction) (a b : List Step) (n m : ℕ) → length a ≤ n → length b ≤ m → length (sequence_steps d a b) ≤ n + m
+sized_sequence : (d : Direction) (a b : List Step) (n m : ℕ) → length a ≤ n → length b ≤ m
+    → length (sequence_steps d a b) ≤ n + m
 sized_sequence Forward a b n m la lb = omega (arith, length-append a b, la, lb)
 sized_sequence Backward a b n m la lb = omega (arith, length-append b a, la, lb)
 
-sized_with : (d : Direction) (p : Piece) (number : ℕ) (cs : List (List Step)) (ts : List Tree) → AllSized cs ts → AllSized (with_code d p number cs) (with_piece p ts)
+sized_with : (d : Direction) (p : Piece) (number : ℕ) (cs : List (List Step)) (ts : List Tree) → AllSized cs ts
+    → AllSized (with_code d p number cs) (with_piece p ts)
 sized_with d Nothing number cs ts s = (omega arith, s)
 sized_with d (OneOf negated ranges) number cs ts s = (omega arith, s)
 sized_with d TextStart number cs ts s = (omega arith, s)
 sized_with d TextEnd number cs ts s = (omega arith, s)
 sized_with d (WordBoundary negated) number cs ts s = (omega arith, s)
 sized_with d Sequence number cs ts s =
-    let one = sized_below cs ts s in
-    (sized_sequence d (top_code (code_below cs)) (top_code cs) (most_steps (top (below ts))) (most_steps (top ts)) (sized_top (code_below cs) (below ts) one) (sized_top cs ts s), sized_below (code_below cs) (below ts) one)
+    let one = sized_below cs ts s in (
+      sized_sequence d (top_code (code_below cs)) (top_code cs) (most_steps (top (below ts))) (most_steps (top ts))
+          (sized_top (code_below cs) (below ts) one) (sized_top cs ts s),
+      sized_below (code_below cs) (below ts) one,
+    )
 sized_with d Choice number cs ts s =
-    let one = sized_below cs ts s in
-    (omega (arith, length-append (top_code (code_below cs)) (Jump (length (top_code cs) + 1) ∷ top_code cs), sized_top (code_below cs) (below ts) one, sized_top cs ts s), sized_below (code_below cs) (below ts) one)
-sized_with d (Repetition least more) number cs ts s = (repetition_size least more (top_code cs) (most_steps (top ts)) (sized_top cs ts s), sized_below cs ts s)
+    let one = sized_below cs ts s in (
+      omega (
+        arith,
+        length-append (top_code (code_below cs)) (Jump (length (top_code cs) + 1) ∷ top_code cs),
+        sized_top (code_below cs) (below ts) one,
+        sized_top cs ts s,
+      ),
+      sized_below (code_below cs) (below ts) one,
+    )
+sized_with d (Repetition least more) number cs ts s =
+    (repetition_size least more (top_code cs) (most_steps (top ts)) (sized_top cs ts s), sized_below cs ts s)
 sized_with d (Lookahead negated) number cs ts s = (omega arith, sized_below cs ts s)
 
-sized_from : (d : Direction) (number : ℕ) (ps : List Piece) (cs : List (List Step)) (ts : List Tree) → AllSized cs ts → AllSized (codes_from d number ps cs) (with_pieces ps ts)
+sized_from : (d : Direction) (number : ℕ) (ps : List Piece) (cs : List (List Step)) (ts : List Tree) → AllSized cs ts
+    → AllSized (codes_from d number ps cs) (with_pieces ps ts)
 sized_from d number [] cs ts s = s
-sized_from d number (p ∷ ps) cs ts s = sized_from d (suc number) ps (with_code d p number cs) (with_piece p ts) (sized_with d p number cs ts s)
+sized_from d number (p ∷ ps) cs ts s =
+    sized_from d (suc number) ps (with_code d p number cs) (with_piece p ts) (sized_with d p number cs ts s)
 
 -- a program has at most as many steps as the counts of its tree allow
 pub steps_bounded : (d : Direction) (pieces : List Piece) → length (steps_of d pieces) ≤ most_steps (tree_of pieces)
 steps_bounded d pieces = sized_top (codes_from d 0 pieces []) (with_pieces pieces []) (sized_from d 0 pieces [] [] tt)
 
-pub parts_bounded : (pieces : List Piece) (lookaheads : List (Vec Step)) → AllParts pieces lookaheads → AllBounded pieces lookaheads
-parts_bounded pieces lookaheads parts number negated steps at there = omega (arith, ap length (the_part pieces lookaheads number negated steps parts at there), steps_bounded Backward (take number pieces))
+pub parts_bounded : (pieces : List Piece) (lookaheads : List (Vec Step)) → AllParts pieces lookaheads
+    → AllBounded pieces lookaheads
+parts_bounded pieces lookaheads parts number negated steps at there =
+    omega (
+      arith,
+      ap length (the_part pieces lookaheads number negated steps parts at there),
+      steps_bounded Backward (take number pieces),
+    )

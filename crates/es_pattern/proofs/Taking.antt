@@ -2,15 +2,51 @@
 use Rattle.std.proofs.Common.{◌≡◌, ℕ, List, ◌∷◌, refl}
 use Rattle.es_pattern.specs.Tree.{Tree}
 use Rattle.es_pattern.specs.declared.mode.Mode.{Mode}
-use Rattle.es_pattern.specs.declared.mode.Mode.TheVariants.{Term, Atom, Quantified, Zero, Braces, Escape, Paren, ParenQuestion, ClassOpen, ClassFirst, ClassNext, ClassNextDash, ClassNextDashes}
+use Rattle.es_pattern.specs.declared.mode.Mode.TheVariants.{
+  Term,
+  Atom,
+  Quantified,
+  Zero,
+  Braces,
+  Escape,
+  Paren,
+  ParenQuestion,
+  ClassOpen,
+  ClassFirst,
+  ClassNext,
+  ClassNextDash,
+  ClassNextDashes,
+}
 use Rattle.es_pattern.specs.declared.mode.Mode.TheVariants as modes
 use Rattle.es_pattern.specs.Reading.{Reading, step, step_in}
 use Rattle.es_pattern.proofs.Sound.{Completes, CompletesIn, Taken}
 use Rattle.es_pattern.proofs.Sane.{IsSane, IsSaneIn}
-use Rattle.es_pattern.proofs.TakingTerms.{taking_term, taking_atom, taking_quantified, taking_zero, taking_braces, taking_escape, taking_paren, taking_paren_question}
-use Rattle.es_pattern.proofs.TakingClasses.{taking_hex, taking_class_open, taking_class_first, taking_class_next, taking_class_next_dash, taking_class_next_dashes, taking_class_char, taking_class_dash, taking_class_zero, taking_class_escape, taking_class_hex}
+use Rattle.es_pattern.proofs.TakingTerms.{
+  taking_term,
+  taking_atom,
+  taking_quantified,
+  taking_zero,
+  taking_braces,
+  taking_escape,
+  taking_paren,
+  taking_paren_question,
+}
+use Rattle.es_pattern.proofs.TakingClasses.{
+  taking_hex,
+  taking_class_open,
+  taking_class_first,
+  taking_class_next,
+  taking_class_next_dash,
+  taking_class_next_dashes,
+  taking_class_char,
+  taking_class_dash,
+  taking_class_zero,
+  taking_class_escape,
+  taking_class_hex,
+}
 
-taking_in : (m : Mode) (c : ℕ) (r : Reading) (w : List ℕ) (t : Tree) → r.mode ≡ m → IsSaneIn m r → CompletesIn m r (c ∷ w) t → Taken (step_in m c r) w t
+taking_in : (m : Mode) (c : ℕ) (r : Reading) (w : List ℕ) (t : Tree) → r.mode ≡ m → IsSaneIn m r
+    → CompletesIn m r (c ∷ w) t → Taken (step_in m c r) w t
 taking_in Term c r w t m sane h = taking_term c r w t m h
 taking_in Atom c r w t m sane h = taking_atom c r w t m h
 taking_in Quantified c r w t m sane h = taking_quantified c r w t m h

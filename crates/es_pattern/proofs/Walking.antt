@@ -1,14 +1,56 @@
 -- Programs of parts walk as the parts do.
-use Rattle.std.proofs.Common.{◌≡◌, ℕ, zero, suc, ◌+◌, ◌-◌, ◌<◌, ◌≤◌, List, [], ◌∷◌, ◌++◌, ◌⊎◌, inl, inr, length, Some, None, Option, option_map, refl, sym, subst, ◌∙◌, arith, length-append, add-zero, add-one, append_assoc}
+use Rattle.std.proofs.Common.{
+  ◌≡◌,
+  ℕ,
+  zero,
+  suc,
+  ◌+◌,
+  ◌-◌,
+  ◌<◌,
+  ◌≤◌,
+  List,
+  [],
+  ◌∷◌,
+  ◌++◌,
+  ◌⊎◌,
+  inl,
+  inr,
+  length,
+  Some,
+  None,
+  Option,
+  option_map,
+  refl,
+  sym,
+  subst,
+  ◌∙◌,
+  arith,
+  length-append,
+  add-zero,
+  add-one,
+  append_assoc,
+}
 use Rattle.std.specs.Prelude.{slice_get}
 use Rattle.std.proofs.lemmas.Option.{slice_get_within, same_Some}
 use Rattle.es_pattern.specs.declared.step.Step.{Step}
 use Rattle.es_pattern.specs.declared.step.Step.TheVariants.{Pass, Fork, Jump, Back}
-use Rattle.es_pattern.specs.Program.{Does, Runs, Stands, Walks, choice_steps, maybe_steps, star_steps, plus_steps, copies, repetition_steps}
+use Rattle.es_pattern.specs.Program.{
+  Does,
+  Runs,
+  Stands,
+  Walks,
+  choice_steps,
+  maybe_steps,
+  star_steps,
+  plus_steps,
+  copies,
+  repetition_steps,
+}
 use Rattle.es_pattern.specs.Spans.{Chain, IsUpTo}
 
 -- where two parts stand, each stands
-stands_within : (program : List Step) (at : ℕ) (steps : List Step) → Stands program at steps → at + length steps ≤ length program
+stands_within : (program : List Step) (at : ℕ) (steps : List Step) → Stands program at steps
+    → at + length steps ≤ length program
 stands_within p at [] h = omega arith
 stands_within p at (s ∷ steps) h = omega (arith, stands_within p (suc at) steps h.1)
 
@@ -19,9 +61,11 @@ stands_first : (program : List Step) (at : ℕ) (a b : List Step) → Stands pro
 stands_first p at [] b h = omega (arith, stands_within p at b h)
 stands_first p at (s ∷ a) b h = (h.0, stands_first p (suc at) a b h.1)
 
-stands_second : (program : List Step) (at : ℕ) (a b : List Step) → Stands program at (a ++ b) → Stands program (at + length a) b
+stands_second : (program : List Step) (at : ℕ) (a b : List Step) → Stands program at (a ++ b)
+    → Stands program (at + length a) b
 stands_second p at [] b h = rw add-zero h
-stands_second p at (s ∷ a) b h = stands_at p b (suc at + length a) (at + suc (length a)) (omega arith) (stands_second p (suc at) a b h.1)
+stands_second p at (s ∷ a) b h =
+    stands_at p b (suc at + length a) (at + suc (length a)) (omega arith) (stands_second p (suc at) a b h.1)
 
 module _ (passes : ℕ → ℕ → ℕ → Type 0) (goal : ℕ) where
   -- a step that stands is no end
@@ -29,7 +73,8 @@ module _ (passes : ℕ → ℕ → ℕ → Type 0) (goal : ℕ) where
   no_end p at s h e = omega (arith, slice_get_within p at s h)
 
   -- what a step that stands does first
-  first_step : (program : List Step) (at : ℕ) (s : Step) → slice_get program at ≡ Some s → (i n : ℕ) → Runs passes goal program n at i
+  first_step : (program : List Step) (at : ℕ) (s : Step) → slice_get program at ≡ Some s → (i n : ℕ)
+      → Runs passes goal program n at i
       → (k : ℕ) × (n ≡ suc k) × (next : ℕ) × (j : ℕ) × Does passes s at i next j × Runs passes goal program k next j
   first_step p at s h i zero r = absurd (no_end p at s h r.0)
   first_step p at s h i (suc k) r =
@@ -44,7 +89,8 @@ module _ (passes : ℕ → ℕ → ℕ → Type 0) (goal : ℕ) where
   runs_from p n x i j e r = subst (λ (z : ℕ). Runs passes goal p n x z) e r
 
   -- one step and a run from there
-  longer : (p : List Step) (at : ℕ) (s : Step) → slice_get p at ≡ Some s → (i next j n : ℕ) → Does passes s at i next j → Runs passes goal p n next j → (m : ℕ) × Runs passes goal p m at i
+  longer : (p : List Step) (at : ℕ) (s : Step) → slice_get p at ≡ Some s → (i next j n : ℕ) → Does passes s at i next j
+      → Runs passes goal p n next j → (m : ℕ) × Runs passes goal p m at i
   longer p at s h i next j n d r = (suc n, (next, j, record { step = s; stands = h; does = d }, r))
 
   pub walks_nothing : Walks passes goal [] (λ i j. i ≡ j)
@@ -55,7 +101,8 @@ module _ (passes : ℕ → ℕ → ℕ → Type 0) (goal : ℕ) where
 
   pub walks_piece : (number : ℕ) → Walks passes goal (Pass number ∷ []) (passes number)
   walks_piece number = record {
-    enters = λ p at h i j n e r. longer p at (Pass number) h.0 i (suc at) j n (refl, e) (runs_at p n j (at + 1) (suc at) (omega arith) r);
+    enters = λ p at h i j n e r. longer p at (Pass number) h.0 i (suc at) j n (refl, e)
+        (runs_at p n j (at + 1) (suc at) (omega arith) r);
     leaves = λ p at h i n r.
         let f = first_step p at (Pass number) h.0 i n r in
         (f.3, f.0, f.4.1, omega (arith, f.1), runs_at p f.0 f.3 f.2 (at + 1) (omega (arith, f.4.0)) f.5);
@@ -65,7 +112,8 @@ module _ (passes : ℕ → ℕ → ℕ → Type 0) (goal : ℕ) where
     pub walks_sequence : Walks passes goal (a ++ b) (λ i j. (x : ℕ) × A i x × B x j)
     walks_sequence = record {
       enters = λ p at h i j n e r.
-          let within_b = wb.enters p (at + length a) (stands_second p at a b h) e.0 j n e.2 (runs_at p n j (at + length (a ++ b)) (at + length a + length b) (omega (arith, length-append a b)) r) in
+          let within_b = wb.enters p (at + length a) (stands_second p at a b h) e.0 j n e.2
+          (runs_at p n j (at + length (a ++ b)) (at + length a + length b) (omega (arith, length-append a b)) r) in
           wa.enters p at (stands_first p at a b h) i e.0 within_b.0 e.1 within_b.1;
       leaves = λ p at h i n r.
           let after_a = wa.leaves p at (stands_first p at a b h) i n r in
@@ -74,47 +122,67 @@ module _ (passes : ℕ → ℕ → ℕ → Type 0) (goal : ℕ) where
             after_b.1,
             (after_a.0, after_a.2, after_b.2),
             omega (arith, after_a.3, after_b.3),
-            runs_at p after_b.1 after_b.0 (at + length a + length b) (at + length (a ++ b)) (omega (arith, length-append a b)) after_b.4,
+            runs_at p after_b.1 after_b.0 (at + length a + length b) (at + length (a ++ b))
+                (omega (arith, length-append a b)) after_b.4,
           );
     }
 
     stands_one : (p : List Step) (at : ℕ) → Stands p at (choice_steps a b) → Stands p (suc at) a
     stands_one p at h = stands_first p (suc at) a (Jump (length b + 1) ∷ b) h.1
 
-    stands_jump : (p : List Step) (at : ℕ) → Stands p at (choice_steps a b) → slice_get p (suc at + length a) ≡ Some (Jump (length b + 1))
+    stands_jump : (p : List Step) (at : ℕ) → Stands p at (choice_steps a b)
+        → slice_get p (suc at + length a) ≡ Some (Jump (length b + 1))
     stands_jump p at h = (stands_second p (suc at) a (Jump (length b + 1) ∷ b) h.1).0
 
     stands_other : (p : List Step) (at : ℕ) → Stands p at (choice_steps a b) → Stands p (at + (length a + 2)) b
-    stands_other p at h = stands_at p b (suc (suc at + length a)) (at + (length a + 2)) (omega arith) (stands_second p (suc at) a (Jump (length b + 1) ∷ b) h.1).1
+    stands_other p at h = stands_at p b (suc (suc at + length a)) (at + (length a + 2)) (omega arith)
+        (stands_second p (suc at) a (Jump (length b + 1) ∷ b) h.1).1
 
     length_either : length (choice_steps a b) ≡ length a + length b + 2
     length_either = omega (arith, length-append a (Jump (length b + 1) ∷ b))
 
-    enters_either : (p : List Step) (at : ℕ) → Stands p at (choice_steps a b) → (i j n : ℕ) → A i j ⊎ B i j → Runs passes goal p n (at + length (choice_steps a b)) j → (m : ℕ) × Runs passes goal p m at i
+    enters_either : (p : List Step) (at : ℕ) → Stands p at (choice_steps a b) → (i j n : ℕ) → A i j ⊎ B i j
+        → Runs passes goal p n (at + length (choice_steps a b)) j → (m : ℕ) × Runs passes goal p m at i
     enters_either p at h i j n (inl e) r =
-        let jumped = longer p (suc at + length a) (Jump (length b + 1)) (stands_jump p at h) j (at + length (choice_steps a b)) j n (omega (arith, length_either), refl) r in
+        let jumped = longer p (suc at + length a) (Jump (length b + 1)) (stands_jump p at h) j
+        (at + length (choice_steps a b)) j n (omega (arith, length_either), refl) r in
         let entered = wa.enters p (suc at) (stands_one p at h) i j jumped.0 e jumped.1 in
         longer p at (Fork (length a + 2)) h.0 i (suc at) i entered.0 (inl refl, refl) entered.1
     enters_either p at h i j n (inr e) r =
-        let entered = wb.enters p (at + (length a + 2)) (stands_other p at h) i j n e (runs_at p n j (at + length (choice_steps a b)) (at + (length a + 2) + length b) (omega (arith, length_either)) r) in
+        let entered = wb.enters p (at + (length a + 2)) (stands_other p at h) i j n e
+        (runs_at p n j (at + length (choice_steps a b)) (at + (length a + 2) + length b)
+        (omega (arith, length_either)) r) in
         longer p at (Fork (length a + 2)) h.0 i (at + (length a + 2)) i entered.0 (inr refl, refl) entered.1
 
     abbrev Left : List Step → ℕ → ℕ → ℕ → Type 0
-    Left p at i n = (j : ℕ) × (m : ℕ) × (A i j ⊎ B i j) × (m ≤ n) × Runs passes goal p m (at + length (choice_steps a b)) j
+    Left p at i n =
+        (j : ℕ) × (m : ℕ) × (A i j ⊎ B i j) × (m ≤ n) × Runs passes goal p m (at + length (choice_steps a b)) j
 
-    leaves_by : (p : List Step) (at : ℕ) → Stands p at (choice_steps a b) → (i next j k : ℕ) → ((next ≡ suc at) ⊎ (next ≡ at + (length a + 2))) → j ≡ i → Runs passes goal p k next j → Left p at i (suc k)
+    leaves_by : (p : List Step) (at : ℕ) → Stands p at (choice_steps a b) → (i next j k : ℕ)
+        → ((next ≡ suc at) ⊎ (next ≡ at + (length a + 2))) → j ≡ i → Runs passes goal p k next j → Left p at i (suc k)
     leaves_by p at h i next j k (inl e) same r =
-        let after_a = wa.leaves p (suc at) (stands_one p at h) i k (runs_from p k (suc at) j i same (runs_at p k j next (suc at) e r)) in
-        let jump = first_step p (suc at + length a) (Jump (length b + 1)) (stands_jump p at h) after_a.0 after_a.1 after_a.4 in (
+        let after_a = wa.leaves p (suc at) (stands_one p at h) i k
+        (runs_from p k (suc at) j i same (runs_at p k j next (suc at) e r)) in
+        let jump = first_step p (suc at + length a) (Jump (length b + 1)) (stands_jump p at h) after_a.0 after_a.1
+        after_a.4 in (
           after_a.0,
           jump.0,
           inl after_a.2,
           omega (arith, after_a.3, jump.1),
-          runs_from p jump.0 (at + length (choice_steps a b)) jump.3 after_a.0 jump.4.1 (runs_at p jump.0 jump.3 jump.2 (at + length (choice_steps a b)) (omega (arith, jump.4.0, length_either)) jump.5),
+          runs_from p jump.0 (at + length (choice_steps a b)) jump.3 after_a.0 jump.4.1
+              (runs_at p jump.0 jump.3 jump.2 (at + length (choice_steps a b)) (omega (arith, jump.4.0, length_either))
+              jump.5),
         )
     leaves_by p at h i next j k (inr e) same r =
-        let after_b = wb.leaves p (at + (length a + 2)) (stands_other p at h) i k (runs_from p k (at + (length a + 2)) j i same (runs_at p k j next (at + (length a + 2)) e r)) in
-        (after_b.0, after_b.1, inr after_b.2, omega (arith, after_b.3), runs_at p after_b.1 after_b.0 (at + (length a + 2) + length b) (at + length (choice_steps a b)) (omega (arith, length_either)) after_b.4)
+        let after_b = wb.leaves p (at + (length a + 2)) (stands_other p at h) i k
+        (runs_from p k (at + (length a + 2)) j i same (runs_at p k j next (at + (length a + 2)) e r)) in (
+          after_b.0,
+          after_b.1,
+          inr after_b.2,
+          omega (arith, after_b.3),
+          runs_at p after_b.1 after_b.0 (at + (length a + 2) + length b) (at + length (choice_steps a b))
+              (omega (arith, length_either)) after_b.4,
+        )
 
     shorter : (p : List Step) (at i k n : ℕ) → n ≡ suc k → Left p at i (suc k) → Left p at i n
     shorter p at i k n e l = (l.0, l.1, l.2, omega (arith, l.3), l.4)
@@ -129,20 +197,32 @@ module _ (passes : ℕ → ℕ → ℕ → Type 0) (goal : ℕ) where
 
   module _ (a : List Step) (A : ℕ → ℕ → Type 0) (wa : Walks passes goal a A) where
     -- no time or once
-    enters_maybe : (p : List Step) (at : ℕ) → Stands p at (maybe_steps a) → (i j n : ℕ) → (i ≡ j) ⊎ A i j → Runs passes goal p n (at + length (maybe_steps a)) j → (m : ℕ) × Runs passes goal p m at i
-    enters_maybe p at h i j n (inl e) r = longer p at (Fork (length a + 1)) h.0 i (at + (length a + 1)) j n (inr refl, sym e) (runs_at p n j (at + length (maybe_steps a)) (at + (length a + 1)) (omega arith) r)
+    enters_maybe : (p : List Step) (at : ℕ) → Stands p at (maybe_steps a) → (i j n : ℕ) → (i ≡ j) ⊎ A i j
+        → Runs passes goal p n (at + length (maybe_steps a)) j → (m : ℕ) × Runs passes goal p m at i
+    enters_maybe p at h i j n (inl e) r = longer p at (Fork (length a + 1)) h.0 i (at + (length a + 1)) j n
+        (inr refl, sym e) (runs_at p n j (at + length (maybe_steps a)) (at + (length a + 1)) (omega arith) r)
     enters_maybe p at h i j n (inr e) r =
-        let entered = wa.enters p (suc at) h.1 i j n e (runs_at p n j (at + length (maybe_steps a)) (suc at + length a) (omega arith) r) in
+        let entered = wa.enters p (suc at) h.1 i j n e (runs_at p n j (at + length (maybe_steps a)) (suc at + length a)
+        (omega arith) r) in
         longer p at (Fork (length a + 1)) h.0 i (suc at) i entered.0 (inl refl, refl) entered.1
 
     abbrev LeftMaybe : List Step → ℕ → ℕ → ℕ → Type 0
-    LeftMaybe p at i n = (j : ℕ) × (m : ℕ) × ((i ≡ j) ⊎ A i j) × (m ≤ n) × Runs passes goal p m (at + length (maybe_steps a)) j
+    LeftMaybe p at i n =
+        (j : ℕ) × (m : ℕ) × ((i ≡ j) ⊎ A i j) × (m ≤ n) × Runs passes goal p m (at + length (maybe_steps a)) j
 
-    leaves_maybe_by : (p : List Step) (at : ℕ) → Stands p at (maybe_steps a) → (i next j k : ℕ) → ((next ≡ suc at) ⊎ (next ≡ at + (length a + 1))) → j ≡ i → Runs passes goal p k next j → LeftMaybe p at i (suc k)
+    leaves_maybe_by : (p : List Step) (at : ℕ) → Stands p at (maybe_steps a) → (i next j k : ℕ)
+        → ((next ≡ suc at) ⊎ (next ≡ at + (length a + 1))) → j ≡ i → Runs passes goal p k next j
+        → LeftMaybe p at i (suc k)
     leaves_maybe_by p at h i next j k (inl e) same r =
-        let after = wa.leaves p (suc at) h.1 i k (runs_from p k (suc at) j i same (runs_at p k j next (suc at) e r)) in
-        (after.0, after.1, inr after.2, omega (arith, after.3), runs_at p after.1 after.0 (suc at + length a) (at + length (maybe_steps a)) (omega arith) after.4)
-    leaves_maybe_by p at h i next j k (inr e) same r = (j, k, inl (sym same), omega arith, runs_at p k j next (at + length (maybe_steps a)) (omega (arith, e)) r)
+        let after = wa.leaves p (suc at) h.1 i k (runs_from p k (suc at) j i same (runs_at p k j next (suc at) e r)) in (
+          after.0,
+          after.1,
+          inr after.2,
+          omega (arith, after.3),
+          runs_at p after.1 after.0 (suc at + length a) (at + length (maybe_steps a)) (omega arith) after.4,
+        )
+    leaves_maybe_by p at h i next j k (inr e) same r =
+        (j, k, inl (sym same), omega arith, runs_at p k j next (at + length (maybe_steps a)) (omega (arith, e)) r)
 
     pub walks_maybe : Walks passes goal (maybe_steps a) (λ i j. (i ≡ j) ⊎ A i j)
     walks_maybe = record {
@@ -160,17 +240,22 @@ module _ (passes : ℕ → ℕ → ℕ → Type 0) (goal : ℕ) where
     stands_turn : (p : List Step) (at : ℕ) → Stands p at (star_steps a) → Stands p (suc at) a
     stands_turn p at h = stands_first p (suc at) a (Back (length a + 1) ∷ []) h.1
 
-    stands_back : (p : List Step) (at : ℕ) → Stands p at (star_steps a) → slice_get p (suc at + length a) ≡ Some (Back (length a + 1))
+    stands_back : (p : List Step) (at : ℕ) → Stands p at (star_steps a)
+        → slice_get p (suc at + length a) ≡ Some (Back (length a + 1))
     stands_back p at h = (stands_second p (suc at) a (Back (length a + 1) ∷ []) h.1).0
 
     length_star : length (star_steps a) ≡ length a + 2
     length_star = omega (arith, length-append a (Back (length a + 1) ∷ []))
 
-    enters_star : (p : List Step) (at : ℕ) → Stands p at (star_steps a) → (c i j n : ℕ) → Chain A c i j → Runs passes goal p n (at + length (star_steps a)) j → (m : ℕ) × Runs passes goal p m at i
-    enters_star p at h zero i j n e r = longer p at (Fork (length a + 2)) h.0 i (at + (length a + 2)) j n (inr refl, sym e) (runs_at p n j (at + length (star_steps a)) (at + (length a + 2)) (omega (arith, length_star)) r)
+    enters_star : (p : List Step) (at : ℕ) → Stands p at (star_steps a) → (c i j n : ℕ) → Chain A c i j
+        → Runs passes goal p n (at + length (star_steps a)) j → (m : ℕ) × Runs passes goal p m at i
+    enters_star p at h zero i j n e r = longer p at (Fork (length a + 2)) h.0 i (at + (length a + 2)) j n
+        (inr refl, sym e) (runs_at p n j (at + length (star_steps a)) (at + (length a + 2)) (omega (arith, length_star))
+        r)
     enters_star p at h (suc c) i j n e r =
         let later = enters_star p at h c e.0 j n e.2 r in
-        let back = longer p (suc at + length a) (Back (length a + 1)) (stands_back p at h) e.0 at e.0 later.0 (omega arith, refl) later.1 in
+        let back = longer p (suc at + length a) (Back (length a + 1)) (stands_back p at h) e.0 at e.0 later.0
+        (omega arith, refl) later.1 in
         let entered = wa.enters p (suc at) (stands_turn p at h) i e.0 back.0 e.1 back.1 in
         longer p at (Fork (length a + 2)) h.0 i (suc at) i entered.0 (inl refl, refl) entered.1
 
@@ -180,23 +265,36 @@ module _ (passes : ℕ → ℕ → ℕ → Type 0) (goal : ℕ) where
     one_more : (p : List Step) (at i x n k : ℕ) → A i x → k ≤ n → LeftStar p at x k → LeftStar p at i n
     one_more p at i x n k e le l = (l.0, l.1, (suc l.2.0, (x, e, l.2.1)), omega (arith, l.3), l.4)
 
-    leaves_star_by : (bound : ℕ) (p : List Step) (at : ℕ) → Stands p at (star_steps a) → ((i n : ℕ) → n ≤ bound → Runs passes goal p n at i → LeftStar p at i n)
-        → (i next j k : ℕ) → k ≤ bound → ((next ≡ suc at) ⊎ (next ≡ at + (length a + 2))) → j ≡ i → Runs passes goal p k next j → LeftStar p at i (suc k)
+    leaves_star_by : (bound : ℕ) (p : List Step) (at : ℕ) → Stands p at (star_steps a)
+        → ((i n : ℕ) → n ≤ bound → Runs passes goal p n at i → LeftStar p at i n)
+        → (i next j k : ℕ) → k ≤ bound → ((next ≡ suc at) ⊎ (next ≡ at + (length a + 2))) → j ≡ i
+        → Runs passes goal p k next j → LeftStar p at i (suc k)
     leaves_star_by bound p at h again i next j k le (inl e) same r =
-        let after = wa.leaves p (suc at) (stands_turn p at h) i k (runs_from p k (suc at) j i same (runs_at p k j next (suc at) e r)) in
-        let back = first_step p (suc at + length a) (Back (length a + 1)) (stands_back p at h) after.0 after.1 after.4 in
-        let later = again after.0 back.0 (omega (arith, after.3, back.1)) (runs_from p back.0 at back.3 after.0 back.4.1 (runs_at p back.0 back.3 back.2 at (omega (arith, back.4.0)) back.5)) in
+        let after = wa.leaves p (suc at) (stands_turn p at h) i k
+        (runs_from p k (suc at) j i same (runs_at p k j next (suc at) e r)) in
+        let back =
+        first_step p (suc at + length a) (Back (length a + 1)) (stands_back p at h) after.0 after.1 after.4 in
+        let later = again after.0 back.0 (omega (arith, after.3, back.1))
+        (runs_from p back.0 at back.3 after.0 back.4.1 (runs_at p back.0 back.3 back.2 at (omega (arith, back.4.0))
+        back.5)) in
         one_more p at i after.0 (suc k) back.0 after.2 (omega (arith, after.3, back.1)) later
-    leaves_star_by bound p at h again i next j k le (inr e) same r =
-        (j, k, (zero, sym same), omega arith, runs_at p k j next (at + length (star_steps a)) (omega (arith, e, length_star)) r)
+    leaves_star_by bound p at h again i next j k le (inr e) same r = (
+      j,
+      k,
+      (zero, sym same),
+      omega arith,
+      runs_at p k j next (at + length (star_steps a)) (omega (arith, e, length_star)) r,
+    )
 
     -- a run of at most so many steps
-    leaves_star : (bound : ℕ) (p : List Step) (at : ℕ) → Stands p at (star_steps a) → (i n : ℕ) → n ≤ bound → Runs passes goal p n at i → LeftStar p at i n
+    leaves_star : (bound : ℕ) (p : List Step) (at : ℕ) → Stands p at (star_steps a) → (i n : ℕ) → n ≤ bound
+        → Runs passes goal p n at i → LeftStar p at i n
     leaves_star zero p at h i n le r =
         let f = first_step p at (Fork (length a + 2)) h.0 i n r in absurd (omega (arith, f.1))
     leaves_star (suc bound) p at h i n le r =
         let f = first_step p at (Fork (length a + 2)) h.0 i n r in
-        let l = leaves_star_by bound p at h (leaves_star bound p at h) i f.2 f.3 f.0 (omega (arith, f.1)) f.4.0 f.4.1 f.5 in
+        let l =
+        leaves_star_by bound p at h (leaves_star bound p at h) i f.2 f.3 f.0 (omega (arith, f.1)) f.4.0 f.4.1 f.5 in
         (l.0, l.1, l.2, omega (arith, l.3, f.1), l.4)
 
     pub walks_star : Walks passes goal (star_steps a) AnyChain
@@ -215,43 +313,63 @@ module _ (passes : ℕ → ℕ → ℕ → Type 0) (goal : ℕ) where
     stands_fork : (p : List Step) (at : ℕ) → Stands p at (plus_steps a) → slice_get p (at + length a) ≡ Some (Fork 2)
     stands_fork p at h = (stands_second p at a (Fork 2 ∷ Back (length a + 1) ∷ []) h).0
 
-    stands_return : (p : List Step) (at : ℕ) → Stands p at (plus_steps a) → slice_get p (suc (at + length a)) ≡ Some (Back (length a + 1))
+    stands_return : (p : List Step) (at : ℕ) → Stands p at (plus_steps a)
+        → slice_get p (suc (at + length a)) ≡ Some (Back (length a + 1))
     stands_return p at h = (stands_second p at a (Fork 2 ∷ Back (length a + 1) ∷ []) h).1.0
 
     length_plus : length (plus_steps a) ≡ length a + 2
     length_plus = omega (arith, length-append a (Fork 2 ∷ Back (length a + 1) ∷ []))
 
-    enters_plus : (p : List Step) (at : ℕ) → Stands p at (plus_steps a) → (c i j n : ℕ) → Chain A (suc c) i j → Runs passes goal p n (at + length (plus_steps a)) j → (m : ℕ) × Runs passes goal p m at i
+    enters_plus : (p : List Step) (at : ℕ) → Stands p at (plus_steps a) → (c i j n : ℕ) → Chain A (suc c) i j
+        → Runs passes goal p n (at + length (plus_steps a)) j → (m : ℕ) × Runs passes goal p m at i
     enters_plus p at h zero i j n e r =
-        let out = longer p (at + length a) (Fork 2) (stands_fork p at h) j (at + length (plus_steps a)) j n (inr (omega (arith, length_plus)), refl) r in
+        let out = longer p (at + length a) (Fork 2) (stands_fork p at h) j (at + length (plus_steps a)) j n
+        (inr (omega (arith, length_plus)), refl) r in
         wa.enters p at (stands_once p at h) i j out.0 (subst (λ (y : ℕ). A i y) e.2 e.1) out.1
     enters_plus p at h (suc c) i j n e r =
         let later = enters_plus p at h c e.0 j n e.2 r in
-        let back = longer p (suc (at + length a)) (Back (length a + 1)) (stands_return p at h) e.0 at e.0 later.0 (omega arith, refl) later.1 in
-        let again = longer p (at + length a) (Fork 2) (stands_fork p at h) e.0 (suc (at + length a)) e.0 back.0 (inl refl, refl) back.1 in
+        let back = longer p (suc (at + length a)) (Back (length a + 1)) (stands_return p at h) e.0 at e.0 later.0
+        (omega arith, refl) later.1 in
+        let again = longer p (at + length a) (Fork 2) (stands_fork p at h) e.0 (suc (at + length a)) e.0 back.0
+        (inl refl, refl) back.1 in
         wa.enters p at (stands_once p at h) i e.0 again.0 e.1 again.1
 
     abbrev LeftPlus : List Step → ℕ → ℕ → ℕ → Type 0
-    LeftPlus p at i n = (j : ℕ) × (m : ℕ) × SomeChain i j × (m ≤ n) × Runs passes goal p m (at + length (plus_steps a)) j
+    LeftPlus p at i n =
+        (j : ℕ) × (m : ℕ) × SomeChain i j × (m ≤ n) × Runs passes goal p m (at + length (plus_steps a)) j
 
-    leaves_plus_by : (bound : ℕ) (p : List Step) (at : ℕ) → Stands p at (plus_steps a) → ((i n : ℕ) → n ≤ bound → Runs passes goal p n at i → LeftPlus p at i n)
-        → (i x next j n k : ℕ) → A i x → k < n → n ≤ suc bound → ((next ≡ suc (at + length a)) ⊎ (next ≡ at + length a + 2)) → j ≡ x → Runs passes goal p k next j → LeftPlus p at i n
+    leaves_plus_by : (bound : ℕ) (p : List Step) (at : ℕ) → Stands p at (plus_steps a)
+        → ((i n : ℕ) → n ≤ bound → Runs passes goal p n at i → LeftPlus p at i n)
+        → (i x next j n k : ℕ) → A i x → k < n → n ≤ suc bound
+        → ((next ≡ suc (at + length a)) ⊎ (next ≡ at + length a + 2)) → j ≡ x → Runs passes goal p k next j
+        → LeftPlus p at i n
     leaves_plus_by bound p at h again i x next j n k e lt le (inl at_back) same r =
-        let back = first_step p (suc (at + length a)) (Back (length a + 1)) (stands_return p at h) x k (runs_from p k (suc (at + length a)) j x same (runs_at p k j next (suc (at + length a)) at_back r)) in
-        let l = again x back.0 (omega (arith, back.1, lt, le)) (runs_from p back.0 at back.3 x back.4.1 (runs_at p back.0 back.3 back.2 at (omega (arith, back.4.0)) back.5)) in
+        let back = first_step p (suc (at + length a)) (Back (length a + 1)) (stands_return p at h) x k
+        (runs_from p k (suc (at + length a)) j x same (runs_at p k j next (suc (at + length a)) at_back r)) in
+        let l = again x back.0 (omega (arith, back.1, lt, le))
+        (runs_from p back.0 at back.3 x back.4.1 (runs_at p back.0 back.3 back.2 at (omega (arith, back.4.0))
+        back.5)) in
         (l.0, l.1, (suc l.2.0, (x, e, l.2.1)), omega (arith, l.3, back.1, lt), l.4)
-    leaves_plus_by bound p at h again i x next j n k e lt le (inr at_end) same r =
-        (j, k, (zero, (x, e, sym same)), omega (arith, lt), runs_at p k j next (at + length (plus_steps a)) (omega (arith, at_end, length_plus)) r)
+    leaves_plus_by bound p at h again i x next j n k e lt le (inr at_end) same r = (
+      j,
+      k,
+      (zero, (x, e, sym same)),
+      omega (arith, lt),
+      runs_at p k j next (at + length (plus_steps a)) (omega (arith, at_end, length_plus)) r,
+    )
 
     -- a run of at most so many steps
-    leaves_plus : (bound : ℕ) (p : List Step) (at : ℕ) → Stands p at (plus_steps a) → (i n : ℕ) → n ≤ bound → Runs passes goal p n at i → LeftPlus p at i n
+    leaves_plus : (bound : ℕ) (p : List Step) (at : ℕ) → Stands p at (plus_steps a) → (i n : ℕ) → n ≤ bound
+        → Runs passes goal p n at i → LeftPlus p at i n
     leaves_plus zero p at h i n le r =
         let after = wa.leaves p at (stands_once p at h) i n r in
-        let f = first_step p (at + length a) (Fork 2) (stands_fork p at h) after.0 after.1 after.4 in absurd (omega (arith, f.1, after.3, le))
+        let f = first_step p (at + length a) (Fork 2) (stands_fork p at h) after.0 after.1 after.4 in
+        absurd (omega (arith, f.1, after.3, le))
     leaves_plus (suc bound) p at h i n le r =
         let after = wa.leaves p at (stands_once p at h) i n r in
         let f = first_step p (at + length a) (Fork 2) (stands_fork p at h) after.0 after.1 after.4 in
-        leaves_plus_by bound p at h (leaves_plus bound p at h) i after.0 f.2 f.3 n f.0 after.2 (omega (arith, f.1, after.3)) le f.4.0 f.4.1 f.5
+        leaves_plus_by bound p at h (leaves_plus bound p at h) i after.0 f.2 f.3 n f.0 after.2
+        (omega (arith, f.1, after.3)) le f.4.0 f.4.1 f.5
 
     pub walks_plus : Walks passes goal (plus_steps a) SomeChain
     walks_plus = record {
@@ -275,7 +393,8 @@ module _ (R : ℕ → ℕ → Type 0) where
   -- two chains in a row
   pub chain_joined : (m n i x j : ℕ) → Chain R m i x → Chain R n x j → Chain R (m + n) i j
   chain_joined zero n i x j e d = counted n (0 + n) i j (omega arith) (subst (λ (y : ℕ). Chain R n y j) (sym e) d)
-  chain_joined (suc m) n i x j c d = counted (suc (m + n)) (suc m + n) i j (omega arith) (c.0, c.1, chain_joined m n c.0 x j c.2 d)
+  chain_joined (suc m) n i x j c d =
+      counted (suc (m + n)) (suc m + n) i j (omega arith) (c.0, c.1, chain_joined m n c.0 x j c.2 d)
 
   pub chain_split : (m n i j : ℕ) → Chain R (m + n) i j → (x : ℕ) × Chain R m i x × Chain R n x j
   chain_split zero n i j c = (i, refl, counted (0 + n) n i j (omega arith) c)
@@ -307,7 +426,8 @@ module _ (R : ℕ → ℕ → Type 0) where
 
 module _ (passes : ℕ → ℕ → ℕ → Type 0) (goal : ℕ) where
   -- steps that walk as one relation says walk as another does that says the same
-  pub walks_same : (a : List Step) (A B : ℕ → ℕ → Type 0) → Walks passes goal a A → ((i j : ℕ) → A i j → B i j) → ((i j : ℕ) → B i j → A i j) → Walks passes goal a B
+  pub walks_same : (a : List Step) (A B : ℕ → ℕ → Type 0) → Walks passes goal a A → ((i j : ℕ) → A i j → B i j)
+      → ((i j : ℕ) → B i j → A i j) → Walks passes goal a B
   walks_same a A B w to from = record {
     enters = λ p at h i j n e r. w.enters p at h i j n (from i j e) r;
     leaves = λ p at h i n r. let l = w.leaves p at h i n r in (l.0, l.1, to i l.0 l.2, l.3, l.4);
@@ -316,7 +436,8 @@ module _ (passes : ℕ → ℕ → ℕ → Type 0) (goal : ℕ) where
   module _ (a : List Step) (A : ℕ → ℕ → Type 0) (wa : Walks passes goal a A) where
     pub walks_copies : (n : ℕ) → Walks passes goal (copies n a) (Chain A n)
     walks_copies zero = walks_nothing passes goal
-    walks_copies (suc n) = walks_same (copies n a ++ a) (λ i j. (x : ℕ) × Chain A n i x × A x j) (Chain A (suc n)) (walks_sequence passes goal (copies n a) a (Chain A n) A (walks_copies n) wa)
+    walks_copies (suc n) = walks_same (copies n a ++ a) (λ i j. (x : ℕ) × Chain A n i x × A x j) (Chain A (suc n))
+        (walks_sequence passes goal (copies n a) a (Chain A n) A (walks_copies n) wa)
         (λ i j l. chain_more A n i l.0 j l.1 l.2) (λ i j c. chain_last A n i j c)
 
   module _ (a : List Step) (A : ℕ → ℕ → Type 0) (wa : Walks passes goal a A) where
@@ -324,19 +445,27 @@ module _ (passes : ℕ → ℕ → ℕ → Type 0) (goal : ℕ) where
     Times least more i j = (n : ℕ) × (least ≤ n) × IsUpTo (option_map (λ m. least + m) more) n × Chain A n i j
 
     -- at least so many times
-    pub walks_repetition : (least : ℕ) (more : Option ℕ) → Walks passes goal (repetition_steps least more a) (Times least more)
+    pub walks_repetition : (least : ℕ) (more : Option ℕ)
+        → Walks passes goal (repetition_steps least more a) (Times least more)
     walks_repetition least (Some more) =
-        walks_same (copies least a ++ copies more (maybe_steps a)) (λ i j. (x : ℕ) × Chain A least i x × Chain (λ i j. (i ≡ j) ⊎ A i j) more x j) (Times least (Some more))
-        (walks_sequence passes goal (copies least a) (copies more (maybe_steps a)) (Chain A least) (Chain (λ i j. (i ≡ j) ⊎ A i j) more) (walks_copies a A wa least) (walks_copies (maybe_steps a) (λ i j. (i ≡ j) ⊎ A i j) (walks_maybe passes goal a A wa) more))
-        (λ i j l. let c = chain_from_maybe A more l.0 j l.2 in (least + c.0, omega arith, omega (arith, c.1), chain_joined A least c.0 i l.0 j l.1 c.2))
+        walks_same (copies least a ++ copies more (maybe_steps a))
+        (λ i j. (x : ℕ) × Chain A least i x × Chain (λ i j. (i ≡ j) ⊎ A i j) more x j) (Times least (Some more))
+        (walks_sequence passes goal (copies least a) (copies more (maybe_steps a)) (Chain A least)
+        (Chain (λ i j. (i ≡ j) ⊎ A i j) more) (walks_copies a A wa least)
+        (walks_copies (maybe_steps a) (λ i j. (i ≡ j) ⊎ A i j) (walks_maybe passes goal a A wa) more))
+        (λ i j l. let c = chain_from_maybe A more l.0 j l.2 in
+        (least + c.0, omega arith, omega (arith, c.1), chain_joined A least c.0 i l.0 j l.1 c.2))
         (λ i j c.
         let e : c.0 ≡ least + (c.0 - least) = omega (arith, c.1) in
         let s = chain_split A least (c.0 - least) i j (subst (λ (k : ℕ). Chain A k i j) e c.3) in
         (s.0, s.1, chain_to_maybe A more (c.0 - least) s.0 j (omega (arith, c.1, c.2)) s.2))
-    walks_repetition zero None = walks_same (star_steps a) (λ i j. (n : ℕ) × Chain A n i j) (Times zero None) (walks_star passes goal a A wa) (λ i j c. (c.0, omega arith, tt, c.1)) (λ i j c. (c.0, c.3))
+    walks_repetition zero None = walks_same (star_steps a) (λ i j. (n : ℕ) × Chain A n i j) (Times zero None)
+        (walks_star passes goal a A wa) (λ i j c. (c.0, omega arith, tt, c.1)) (λ i j c. (c.0, c.3))
     walks_repetition (suc before) None =
-        walks_same (copies before a ++ plus_steps a) (λ i j. (x : ℕ) × Chain A before i x × ((n : ℕ) × Chain A (suc n) x j)) (Times (suc before) None)
-        (walks_sequence passes goal (copies before a) (plus_steps a) (Chain A before) (λ i j. (n : ℕ) × Chain A (suc n) i j) (walks_copies a A wa before) (walks_plus passes goal a A wa))
+        walks_same (copies before a ++ plus_steps a) (λ i j. (x : ℕ) × Chain A before i x
+        × ((n : ℕ) × Chain A (suc n) x j)) (Times (suc before) None)
+        (walks_sequence passes goal (copies before a) (plus_steps a) (Chain A before)
+        (λ i j. (n : ℕ) × Chain A (suc n) i j) (walks_copies a A wa before) (walks_plus passes goal a A wa))
         (λ i j l. (before + suc l.2.0, omega arith, tt, chain_joined A before (suc l.2.0) i l.0 j l.1 l.2.1))
         (λ i j c.
         let e : c.0 ≡ before + suc (c.0 - suc before) = omega (arith, c.1) in

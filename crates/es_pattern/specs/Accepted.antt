@@ -4,7 +4,8 @@ use Rattle.es_pattern.specs.Tree.{Tree}
 use Rattle.es_pattern.specs.Reading.{Reading, step, start, finished, overcounts_at}
 use Rattle.es_pattern.specs.Refusals.{is_unsupported, is_too_deep}
 
--- the character and the rest begin a form that isn't supported or a group too deep, or the character ends a quantifier that counts too much
+-- the character and the rest begin a form that isn't supported or a group too deep, or the character ends a quantifier
+-- that counts too much
 abbrev pub is_refused : ℕ → List ℕ → Reading → Bool
 is_refused c rest r =
     is_unsupported r.mode (c ∷ rest) || (is_too_deep (length r.groups) r.mode (c ∷ rest) || overcounts_at c r)

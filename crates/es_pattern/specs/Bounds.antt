@@ -17,4 +17,5 @@ Counts digits (Some count) = (n : ℕ) × (number digits ≡ Some n) × (count �
 -- the bounds that were read, each count above the limit as the first above it
 abbrev pub Bounded : Option (ℕ × Option ℕ) → Option Bounds → Type 0
 Bounded bounds None = bounds ≡ None
-Bounded bounds (Some b) = (n : ℕ) × (m : Option ℕ) × (bounds ≡ Some (n, m)) × (b.least ≡ min n 1001) × (b.most ≡ option_map (λ k. min k 1001) m) × IsUpTo m n
+Bounded bounds (Some b) = (n : ℕ) × (m : Option ℕ) × (bounds ≡ Some (n, m)) × (b.least ≡ min n 1001)
+    × (b.most ≡ option_map (λ k. min k 1001) m) × IsUpTo m n

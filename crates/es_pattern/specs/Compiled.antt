@@ -1,4 +1,5 @@
--- The programs of a pattern's parts: the program of the part that was built last, and of those before it. Contracts of private functions alone cite it.
+-- The programs of a pattern's parts: the program of the part that was built last, and of those before it. Contracts of
+-- private functions alone cite it.
 use Rattle.std.specs.Prelude.{◌≡◌, ℕ, suc, ◌≤◌, Bool, List, [], ◌∷◌, map, reverse, slice_get, Some, take}
 use Rattle.std.specs.Global.{Vec, Global}
 use Rattle.std.specs.declared.collections.VecDeque.{VecDeque}
@@ -7,7 +8,17 @@ use Rattle.es_pattern.specs.declared.step.Step.TheVariants.{Pass}
 use Rattle.es_pattern.specs.declared.step.Direction.{Direction}
 use Rattle.es_pattern.specs.declared.step.Direction.TheVariants.{Forward, Backward}
 use Rattle.es_pattern.specs.declared.piece.Piece.{Piece}
-use Rattle.es_pattern.specs.declared.piece.Piece.TheVariants.{Nothing, OneOf, TextStart, TextEnd, WordBoundary, Sequence, Choice, Repetition, Lookahead}
+use Rattle.es_pattern.specs.declared.piece.Piece.TheVariants.{
+  Nothing,
+  OneOf,
+  TextStart,
+  TextEnd,
+  WordBoundary,
+  Sequence,
+  Choice,
+  Repetition,
+  Lookahead,
+}
 use Rattle.es_pattern.specs.declared.compile.Program.{Program}
 use Rattle.es_pattern.specs.Program.{sequence_steps, choice_steps, repetition_steps}
 use Rattle.es_pattern.specs.Passing.{AllClassed}
@@ -59,7 +70,9 @@ part_steps d pieces number = steps_of d (take number pieces)
 
 -- each lookahead's part has its program, backward
 abbrev pub AllParts : List Piece → List (Vec Step) → Type 0
-AllParts pieces lookaheads = (number : ℕ) (negated : Bool) → slice_get pieces number ≡ Some (Lookahead negated) → (steps : Vec Step) × (slice_get lookaheads number ≡ Some steps) × (steps.items ≡ part_steps Backward pieces number)
+AllParts pieces lookaheads = (number : ℕ) (negated : Bool) → slice_get pieces number ≡ Some (Lookahead negated)
+    → (steps : Vec Step) × (slice_get lookaheads number ≡ Some steps)
+    × (steps.items ≡ part_steps Backward pieces number)
 
 -- a program is that of the pieces
 pub record IsProgramOf (pieces : List Piece) (program : Program) : Type 0 where

@@ -1,6 +1,22 @@
 -- What escapes stand for, as in ECMAScript (ECMA-262, CharacterClassEscape and CharacterEscape).
 use Prim.Native.Char.{code}
-use Rattle.std.specs.Prelude.{ℕ, ◌+◌, ◌-◌, ◌&&◌, ◌==◌, Bool, nat_le, nat_lt, List, [], ◌∷◌, Option, Some, None, if◌then◌else◌}
+use Rattle.std.specs.Prelude.{
+  ℕ,
+  ◌+◌,
+  ◌-◌,
+  ◌&&◌,
+  ◌==◌,
+  Bool,
+  nat_le,
+  nat_lt,
+  List,
+  [],
+  ◌∷◌,
+  Option,
+  Some,
+  None,
+  if◌then◌else◌,
+}
 pub use Rattle.std.specs.Char.{is_ascii_digit, is_ascii_punctuation}
 use Rattle.std.specs.Char.{digit_value}
 use Rattle.es_pattern.specs.Tree.{CharRange}
@@ -24,13 +40,16 @@ digits = range (code "0") (code "9") ∷ []
 
 -- the letters and digits of ASCII, and `_`
 abbrev pub word_chars : List CharRange
-word_chars = range (code "0") (code "9") ∷ range (code "A") (code "Z") ∷ range (code "_") (code "_") ∷ range (code "a") (code "z") ∷ []
+word_chars = range (code "0") (code "9") ∷ range (code "A") (code "Z") ∷ range (code "_") (code "_") ∷ range (code "a")
+    (code "z") ∷ []
 
 -- white space and line ends (WhiteSpace and LineTerminator), by their code points in Unicode
 abbrev pub spaces : List CharRange
-spaces = range 0x9 0xd ∷ range 0x20 0x20 ∷ range 0xa0 0xa0 ∷ range 0x1680 0x1680 ∷ range 0x2000 0x200a ∷ range 0x2028 0x2029 ∷ range 0x202f 0x202f ∷ range 0x205f 0x205f ∷ range 0x3000 0x3000 ∷ range 0xfeff 0xfeff ∷ []
+spaces = range 0x9 0xd ∷ range 0x20 0x20 ∷ range 0xa0 0xa0 ∷ range 0x1680 0x1680 ∷ range 0x2000 0x200a ∷ range 0x2028
+    0x2029 ∷ range 0x202f 0x202f ∷ range 0x205f 0x205f ∷ range 0x3000 0x3000 ∷ range 0xfeff 0xfeff ∷ []
 
--- the set of characters that an escape stands for, by its letter: those of `\d`, `\w` and `\s`, and their complements by the letter in upper case
+-- the set of characters that an escape stands for, by its letter: those of `\d`, `\w` and `\s`, and their complements
+-- by the letter in upper case
 abbrev pub set_of : ℕ → Option (List CharRange)
 set_of letter =
     if letter == code "d" then Some digits
@@ -41,7 +60,8 @@ set_of letter =
     else if letter == code "S" then Some (complement spaces)
     else None
 
--- the character that an escape stands for, by its letter: tab, line feed, vertical tab, form feed and carriage return, and ASCII punctuation for itself
+-- the character that an escape stands for, by its letter: tab, line feed, vertical tab, form feed and carriage return,
+-- and ASCII punctuation for itself
 abbrev pub escaped : ℕ → Option ℕ
 escaped letter =
     if letter == code "t" then Some (code "\t")

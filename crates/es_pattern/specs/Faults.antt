@@ -1,5 +1,26 @@
--- Which texts are refused, with which fault, and at which place. The leftmost fault is told; of faults that share a place a form that isn't supported comes first, and a syntax fault last. A place here counts characters, and the answer counts bytes.
-use Rattle.std.specs.Prelude.{◌≡◌, ℕ, ◌+◌, ◌≤◌, ◌<◌, ◌||◌, true, List, ◌++◌, codes, length, take, drop, encode_utf8_all, Option, Result, MatchResult, ◌⊎◌}
+-- Which texts are refused, with which fault, and at which place. The leftmost fault is told; of faults that share a
+-- place a form that isn't supported comes first, and a syntax fault last. A place here counts characters, and the
+-- answer counts bytes.
+use Rattle.std.specs.Prelude.{
+  ◌≡◌,
+  ℕ,
+  ◌+◌,
+  ◌≤◌,
+  ◌<◌,
+  ◌||◌,
+  true,
+  List,
+  ◌++◌,
+  codes,
+  length,
+  take,
+  drop,
+  encode_utf8_all,
+  Option,
+  Result,
+  MatchResult,
+  ◌⊎◌,
+}
 use Rattle.es_pattern.specs.declared.error.PatternError.{PatternError}
 use Rattle.es_pattern.specs.declared.error.PatternError.TheVariants.{Syntax, Unsupported, CountTooLarge, NoMemory}
 use Rattle.es_pattern.specs.Tree.{Tree}
@@ -19,11 +40,15 @@ BeginsPattern text = (rest : List ℕ) × (tree : Tree) × IsPattern (text ++ re
 -- a form that isn't supported begins at the place, where an escape or a group can begin
 abbrev pub IsUnsupportedAt : List ℕ → ℕ → Type 0
 IsUnsupportedAt text p =
-    ((depth : ℕ) × Stands text (groups depth) (drop p text) × ((begins_unsupported_escape (drop p text) || begins_named_group (drop p text)) ≡ true)) ⊎ ((depth : ℕ) × Stands text (class_in_groups depth) (drop p text) × (begins_unsupported_escape (drop p text) ≡ true))
+    ((depth : ℕ) × Stands text (groups depth) (drop p text)
+    × ((begins_unsupported_escape (drop p text) || begins_named_group (drop p text)) ≡ true))
+    ⊎ ((depth : ℕ) × Stands text (class_in_groups depth) (drop p text)
+    × (begins_unsupported_escape (drop p text) ≡ true))
 
 -- a group begins at the place within 200 others
 abbrev pub IsTooDeepAt : List ℕ → ℕ → Type 0
-IsTooDeepAt text p = (depth : ℕ) × Stands text (groups depth) (drop p text) × (200 ≤ depth) × (begins_group (drop p text) ≡ true)
+IsTooDeepAt text p =
+    (depth : ℕ) × Stands text (groups depth) (drop p text) × (200 ≤ depth) × (begins_group (drop p text) ≡ true)
 
 -- a quantifier in braces stands at the place, with these bounds between its braces
 pub record IsQuantifierAt (text : List ℕ) (p : ℕ) (bounds : List ℕ) (least : ℕ) (most : Option ℕ) : Type 0 where
@@ -35,19 +60,24 @@ pub record IsQuantifierAt (text : List ℕ) (p : ℕ) (bounds : List ℕ) (least
 
 -- one of its counts is above the limit
 abbrev pub IsCountAt : List ℕ → ℕ → Type 0
-IsCountAt text p = (bounds : List ℕ) × (least : ℕ) × (most : Option ℕ) × IsQuantifierAt text p bounds least most × (is_above_limit least most ≡ true)
+IsCountAt text p = (bounds : List ℕ) × (least : ℕ) × (most : Option ℕ) × IsQuantifierAt text p bounds least most
+    × (is_above_limit least most ≡ true)
 
--- at its end the product of nested counts has passed the limit: patterns begin with the text up to and including the quantifier, and in each of them it has. The first such quantifier is the one that passes it
+-- at its end the product of nested counts has passed the limit: patterns begin with the text up to and including the
+-- quantifier, and in each of them it has. The first such quantifier is the one that passes it
 abbrev pub IsProductAt : List ℕ → ℕ → Type 0
 IsProductAt text p =
-    (bounds : List ℕ) × (least : ℕ) × (most : Option ℕ) × IsQuantifierAt text p bounds least most × BeginsPattern (take (p + (length bounds + 2)) text)
-    × ((rest : List ℕ) (tree : Tree) → IsPattern (take (p + (length bounds + 2)) text ++ rest) tree → 100000 < product_of tree)
+    (bounds : List ℕ) × (least : ℕ) × (most : Option ℕ) × IsQuantifierAt text p bounds least most
+    × BeginsPattern (take (p + (length bounds + 2)) text)
+    × ((rest : List ℕ) (tree : Tree) → IsPattern (take (p + (length bounds + 2)) text ++ rest) tree
+    → 100000 < product_of tree)
 
 -- too many groups, too large a count, or too large a product
 abbrev pub IsTooLargeAt : List ℕ → ℕ → Type 0
 IsTooLargeAt text p = IsTooDeepAt text p ⊎ (IsCountAt text p ⊎ IsProductAt text p)
 
--- no pattern begins with the text up to and including the character at the place, the first such, or the text is over there and is no pattern, but begins one
+-- no pattern begins with the text up to and including the character at the place, the first such, or the text is over
+-- there and is no pattern, but begins one
 pub record IsSyntaxAt (text : List ℕ) (p : ℕ) : Type 0 where
   pub within : p ≤ length text
   pub begins : BeginsPattern (take p text)
@@ -62,9 +92,12 @@ pub record IsClearBefore (text : List ℕ) (p : ℕ) : Type 0 where
 
 -- the first fault of a text
 abbrev pub IsFirstFault : List ℕ → PatternError → Type 0
-IsFirstFault text (Unsupported place) = (p : ℕ) × (place ≡ byte_place text p) × IsClearBefore text p × IsUnsupportedAt text p
-IsFirstFault text (CountTooLarge place) = (p : ℕ) × (place ≡ byte_place text p) × IsClearBefore text p × (IsUnsupportedAt text p → ⊥) × IsTooLargeAt text p
-IsFirstFault text (Syntax place) = (p : ℕ) × (place ≡ byte_place text p) × IsClearBefore text p × (IsUnsupportedAt text p → ⊥) × (IsTooLargeAt text p → ⊥) × IsSyntaxAt text p
+IsFirstFault text (Unsupported place) =
+    (p : ℕ) × (place ≡ byte_place text p) × IsClearBefore text p × IsUnsupportedAt text p
+IsFirstFault text (CountTooLarge place) =
+    (p : ℕ) × (place ≡ byte_place text p) × IsClearBefore text p × (IsUnsupportedAt text p → ⊥) × IsTooLargeAt text p
+IsFirstFault text (Syntax place) = (p : ℕ) × (place ≡ byte_place text p) × IsClearBefore text p
+    × (IsUnsupportedAt text p → ⊥) × (IsTooLargeAt text p → ⊥) × IsSyntaxAt text p
 -- being out of memory is no fault of the text
 IsFirstFault text NoMemory = ⊥
 

@@ -1,6 +1,23 @@
 -- The text that forms begin with which are refused: those of ECMAScript that aren't supported, and groups.
 use Prim.Native.Char.{code}
-use Rattle.std.specs.Prelude.{ℕ, ◌+◌, ◌*◌, ◌==◌, ◌&&◌, ◌||◌, Bool, false, nat_eq, nat_le, List, [], ◌∷◌, codes, Option, Some}
+use Rattle.std.specs.Prelude.{
+  ℕ,
+  ◌+◌,
+  ◌*◌,
+  ◌==◌,
+  ◌&&◌,
+  ◌||◌,
+  Bool,
+  false,
+  nat_eq,
+  nat_le,
+  List,
+  [],
+  ◌∷◌,
+  codes,
+  Option,
+  Some,
+}
 use Rattle.std.specs.List.{starts_with}
 use Rattle.es_pattern.specs.Escapes.{hex_value, is_surrogate}
 
@@ -19,7 +36,8 @@ begins_surrogate (a ∷ b ∷ c ∷ d ∷ rest) = make_surrogate (hex_value a) (
 
 -- `k`, `p`, `P`, `c`, and `1` to `9`
 abbrev pub is_unsupported_letter : ℕ → Bool
-is_unsupported_letter c = (c == code "k") || (c == code "p") || (c == code "P") || (c == code "c") || nat_le (code "1") c && nat_le c (code "9")
+is_unsupported_letter c = (c == code "k") || (c == code "p") || (c == code "P") || (c == code "c")
+    || nat_le (code "1") c && nat_le c (code "9")
 
 -- `\k`, `\p`, `\P`, `\c`, `\1` to `\9`, and `\u` of a surrogate
 abbrev pub begins_unsupported_escape : List ℕ → Bool

@@ -1,6 +1,43 @@
 -- Whether a pattern is found in a text, as a function: by the places where the parts end that begin at a place.
-use Rattle.std.specs.Prelude.{ℕ, zero, suc, ◌+◌, ◌-◌, ◌&&◌, ◌||◌, ◌==◌, Bool, true, false, nat_lt, nat_le, min, List, [], ◌∷◌, ◌++◌, length, slice_index, flat_map, Option, Some, None, if◌then◌else◌}
-use Rattle.es_pattern.specs.Tree.{Tree, nothing, one_of, text_start, text_end, word_boundary, sequence, choice, repetition, lookahead}
+use Rattle.std.specs.Prelude.{
+  ℕ,
+  zero,
+  suc,
+  ◌+◌,
+  ◌-◌,
+  ◌&&◌,
+  ◌||◌,
+  ◌==◌,
+  Bool,
+  true,
+  false,
+  nat_lt,
+  nat_le,
+  min,
+  List,
+  [],
+  ◌∷◌,
+  ◌++◌,
+  length,
+  slice_index,
+  flat_map,
+  Option,
+  Some,
+  None,
+  if◌then◌else◌,
+}
+use Rattle.es_pattern.specs.Tree.{
+  Tree,
+  nothing,
+  one_of,
+  text_start,
+  text_end,
+  word_boundary,
+  sequence,
+  choice,
+  repetition,
+  lookahead,
+}
 use Rattle.es_pattern.specs.Spans.{differs, fits, is_boundary}
 
 -- there is a place among them
@@ -22,7 +59,8 @@ abbrev pub up_to_links : (ℕ → List ℕ) → ℕ → List ℕ → List ℕ
 up_to_links next zero places = places
 up_to_links next (suc n) places = places ++ up_to_links next n (flat_map next places)
 
--- where chains lead of so many links. Links that stay where they are can be left out, so behind the least number there are no more than the text has characters.
+-- where chains lead of so many links. Links that stay where they are can be left out, so behind the least number there
+-- are no more than the text has characters.
 abbrev pub repeated : (ℕ → List ℕ) → ℕ → ℕ → Option ℕ → ℕ → List ℕ
 repeated next size least None i = up_to_links next size (after_links next least (i ∷ []))
 repeated next size least (Some most) i =
@@ -32,7 +70,8 @@ repeated next size least (Some most) i =
 -- the places where the parts end that the tree spans from a place on
 abbrev pub ends : Tree → List ℕ → ℕ → List ℕ
 ends nothing text i = i ∷ []
-ends (one_of negated ranges) text i = place_if (nat_lt i (length text) && fits negated ranges (slice_index text i)) (i + 1)
+ends (one_of negated ranges) text i =
+    place_if (nat_lt i (length text) && fits negated ranges (slice_index text i)) (i + 1)
 ends text_start text i = place_if (i == 0) i
 ends text_end text i = place_if (i == length text) i
 ends (word_boundary negated) text i = place_if (differs negated (is_boundary text i)) i

@@ -12,7 +12,8 @@ use Rattle.es_pattern.specs.Accepted.{pattern_of}
 abbrev pub FoundTells : Type 0
 FoundTells = (tree : Tree) (text : List ℕ) → IsTrue (is_found tree text) ↔ IsFound tree text
 
--- a text is a pattern exactly where the grammar gives it that tree and nothing in it is refused, and none exactly where it has a first fault
+-- a text is a pattern exactly where the grammar gives it that tree and nothing in it is refused, and none exactly where
+-- it has a first fault
 pub record PatternTells : Type 0 where
   pub accepted :
       (text : List ℕ) (tree : Tree)

@@ -1,4 +1,5 @@
--- Public clauses cite Tree, Spans, Found, Pieces, Grammar, Faults, Accepted, Laws and Stored, with Places, Limits, Forms, Escapes, Reading and Refusals, on which those stand. The other files are for contracts of private functions.
+-- Public clauses cite Tree, Spans, Found, Pieces, Grammar, Faults, Accepted, Laws and Stored, with Places, Limits,
+-- Forms, Escapes, Reading and Refusals, on which those stand. The other files are for contracts of private functions.
 pub mod Tree
 pub mod Spans
 pub mod Pieces

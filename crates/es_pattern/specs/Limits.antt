@@ -1,6 +1,17 @@
 -- The limits on a pattern's counts: each at most 1,000, and the product of those of nested quantifiers at most 100,000.
 use Rattle.std.specs.Prelude.{ℕ, ◌*◌, ◌||◌, Bool, max, nat_lt, Option, unwrap_or}
-use Rattle.es_pattern.specs.Tree.{Tree, nothing, one_of, text_start, text_end, word_boundary, sequence, choice, repetition, lookahead}
+use Rattle.es_pattern.specs.Tree.{
+  Tree,
+  nothing,
+  one_of,
+  text_start,
+  text_end,
+  word_boundary,
+  sequence,
+  choice,
+  repetition,
+  lookahead,
+}
 
 -- one of a quantifier's bounds is above the limit
 abbrev pub is_above_limit : ℕ → Option ℕ → Bool

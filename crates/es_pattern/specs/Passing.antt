@@ -1,5 +1,28 @@
--- What a single piece of a pattern spans, on a walk in either direction, and what a table tells of it. Contracts of private functions alone cite it.
-use Rattle.std.specs.Prelude.{◌≡◌, ℕ, zero, suc, ◌+◌, ◌-◌, ◌<◌, ◌≤◌, Bool, true, false, List, [], ◌∷◌, length, slice_get, Option, Some, None, MatchBool, if◌then◌else◌}
+-- What a single piece of a pattern spans, on a walk in either direction, and what a table tells of it. Contracts of
+-- private functions alone cite it.
+use Rattle.std.specs.Prelude.{
+  ◌≡◌,
+  ℕ,
+  zero,
+  suc,
+  ◌+◌,
+  ◌-◌,
+  ◌<◌,
+  ◌≤◌,
+  Bool,
+  true,
+  false,
+  List,
+  [],
+  ◌∷◌,
+  length,
+  slice_get,
+  Option,
+  Some,
+  None,
+  MatchBool,
+  if◌then◌else◌,
+}
 use Rattle.std.specs.Global.{Vec}
 use Rattle.es_pattern.specs.Spans.{Spans, fits}
 use Rattle.es_pattern.specs.Tree.{CharRange}
@@ -12,7 +35,17 @@ use Rattle.es_pattern.specs.declared.step.Direction.TheVariants.{Forward, Backwa
 use Rattle.es_pattern.specs.declared.alive.Passing.{Passing}
 use Rattle.es_pattern.specs.declared.alive.Passing.TheVariants.{Stops, Stays, Moves}
 use Rattle.es_pattern.specs.declared.piece.Piece.{Piece}
-use Rattle.es_pattern.specs.declared.piece.Piece.TheVariants.{Nothing, OneOf, TextStart, TextEnd, WordBoundary, Sequence, Choice, Repetition, Lookahead}
+use Rattle.es_pattern.specs.declared.piece.Piece.TheVariants.{
+  Nothing,
+  OneOf,
+  TextStart,
+  TextEnd,
+  WordBoundary,
+  Sequence,
+  Choice,
+  Repetition,
+  Lookahead,
+}
 
 -- a piece that spans a character, or the empty part, by itself
 abbrev pub IsSingle : Piece → Type 0
@@ -45,8 +78,10 @@ After Backward i j = i ≡ j + 1
 -- all that the piece of that number does at a place
 abbrev pub PassesAs : Direction → List Piece → List ℕ → ℕ → ℕ → Passing → Type 0
 PassesAs direction pieces text number i Stops = (j : ℕ) → Passes direction pieces text number i j → ⊥
-PassesAs direction pieces text number i Stays = Passes direction pieces text number i i × ((j : ℕ) → Passes direction pieces text number i j → j ≡ i)
-PassesAs direction pieces text number i Moves = (next : ℕ) × After direction i next × (next ≤ length text) × Passes direction pieces text number i next × ((j : ℕ) → Passes direction pieces text number i j → j ≡ next)
+PassesAs direction pieces text number i Stays =
+    Passes direction pieces text number i i × ((j : ℕ) → Passes direction pieces text number i j → j ≡ i)
+PassesAs direction pieces text number i Moves = (next : ℕ) × After direction i next × (next ≤ length text)
+    × Passes direction pieces text number i next × ((j : ℕ) → Passes direction pieces text number i j → j ≡ next)
 
 -- what a piece does that spans the empty part, by whether it does so there
 abbrev pub stays : Bool → Passing
@@ -60,7 +95,8 @@ class_passing negated ranges (Some c) = if fits negated ranges c then Moves else
 
 -- what a lookahead's answer at a place says
 abbrev pub Answers : List Piece → List ℕ → ℕ → ℕ → Bool → Type 0
-Answers pieces text number i holds = MatchBool holds (Spans (tree_at pieces number) text i i) (Spans (tree_at pieces number) text i i → ⊥)
+Answers pieces text number i holds =
+    MatchBool holds (Spans (tree_at pieces number) text i i) (Spans (tree_at pieces number) text i i → ⊥)
 
 -- the table of a lookahead has, for each number of characters behind a place, whether the lookahead holds there
 pub record Tells (pieces : List Piece) (text : List ℕ) (number : ℕ) (table : List Bool) : Type 0 where
@@ -74,7 +110,8 @@ IsTold tables number = (table : Vec Bool) × (slice_get tables number ≡ Some (
 -- there is room for a table for each piece, and those of lookaheads tell
 pub record AllTell (pieces : List Piece) (text : List ℕ) (tables : List (Option (Vec Bool))) : Type 0 where
   pub counted : length tables ≡ length pieces
-  pub each : (number : ℕ) (negated : Bool) (table : Vec Bool) → slice_get pieces number ≡ Some (Lookahead negated) → slice_get tables number ≡ Some (Some table) → Tells pieces text number table.items
+  pub each : (number : ℕ) (negated : Bool) (table : Vec Bool) → slice_get pieces number ≡ Some (Lookahead negated)
+      → slice_get tables number ≡ Some (Some table) → Tells pieces text number table.items
 
 -- the piece of that number is a lookahead that isn't told yet
 pub record IsUntold (pieces : List Piece) (tables : List (Option (Vec Bool))) (number : ℕ) : Type 0 where
@@ -83,10 +120,11 @@ pub record IsUntold (pieces : List Piece) (tables : List (Option (Vec Bool))) (n
   pub untold : slice_get tables number ≡ Some None
 
 -- such a piece is passed by one of the steps
-pub record IsAsked (pieces : List Piece) (tables : List (Option (Vec Bool))) (steps : List Step) (number : ℕ) : Type 0 where
-  pub at : ℕ
-  pub passes : slice_get steps at ≡ Some (Pass number)
-  pub untold : IsUntold pieces tables number
+pub record IsAsked (pieces : List Piece) (tables : List (Option (Vec Bool))) (steps : List Step) (number : ℕ) : Type 0
+  where
+    pub at : ℕ
+    pub passes : slice_get steps at ≡ Some (Pass number)
+    pub untold : IsUntold pieces tables number
 
 -- how many pieces have no table
 abbrev pub untold_count : List (Option (Vec Bool)) → ℕ
@@ -102,5 +140,6 @@ ahead_of Backward text (suc i) = slice_get text i
 
 -- the class of each piece has, for each character of ASCII, whether it fits
 abbrev pub AllClassed : List Piece → List (Vec Bool) → Type 0
-AllClassed pieces classes = (number c : ℕ) (negated : Bool) (ranges : Vec CharRange) (class : Vec Bool) → slice_get pieces number ≡ Some (OneOf negated ranges) → slice_get classes number ≡ Some class → c < 128
+AllClassed pieces classes = (number c : ℕ) (negated : Bool) (ranges : Vec CharRange) (class : Vec Bool)
+    → slice_get pieces number ≡ Some (OneOf negated ranges) → slice_get classes number ≡ Some class → c < 128
     → slice_get class.items c ≡ Some (fits negated ranges.items c)

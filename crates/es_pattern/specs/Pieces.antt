@@ -1,8 +1,29 @@
 -- The tree that a pattern's pieces build. Each piece stands after the pieces that it joins.
 use Rattle.std.specs.Prelude.{ℕ, suc, ◌+◌, List, [], ◌∷◌, option_map, take}
-use Rattle.es_pattern.specs.Tree.{Tree, nothing, one_of, text_start, text_end, word_boundary, sequence, choice, repetition, lookahead}
+use Rattle.es_pattern.specs.Tree.{
+  Tree,
+  nothing,
+  one_of,
+  text_start,
+  text_end,
+  word_boundary,
+  sequence,
+  choice,
+  repetition,
+  lookahead,
+}
 use Rattle.es_pattern.specs.declared.piece.Piece.{Piece}
-use Rattle.es_pattern.specs.declared.piece.Piece.TheVariants.{Nothing, OneOf, TextStart, TextEnd, WordBoundary, Sequence, Choice, Repetition, Lookahead}
+use Rattle.es_pattern.specs.declared.piece.Piece.TheVariants.{
+  Nothing,
+  OneOf,
+  TextStart,
+  TextEnd,
+  WordBoundary,
+  Sequence,
+  Choice,
+  Repetition,
+  Lookahead,
+}
 
 -- the tree that was built last
 abbrev pub top : List Tree → Tree

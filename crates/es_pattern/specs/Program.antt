@@ -1,5 +1,25 @@
--- A program that walks over a text, and what it means that one walks as a relation says. Contracts of private functions alone cite it.
-use Rattle.std.specs.Prelude.{◌≡◌, ℕ, zero, suc, ◌+◌, ◌≤◌, Bool, true, List, [], ◌∷◌, ◌++◌, ◌⊎◌, length, slice_get, Option, Some, None}
+-- A program that walks over a text, and what it means that one walks as a relation says. Contracts of private functions
+-- alone cite it.
+use Rattle.std.specs.Prelude.{
+  ◌≡◌,
+  ℕ,
+  zero,
+  suc,
+  ◌+◌,
+  ◌≤◌,
+  Bool,
+  true,
+  List,
+  [],
+  ◌∷◌,
+  ◌++◌,
+  ◌⊎◌,
+  length,
+  slice_get,
+  Option,
+  Some,
+  None,
+}
 use Rattle.es_pattern.specs.declared.step.Direction.{Direction}
 use Rattle.es_pattern.specs.declared.step.Direction.TheVariants.{Forward, Backward}
 use Rattle.es_pattern.specs.declared.step.Step.{Step}
@@ -21,12 +41,14 @@ pub record Goes (passes : ℕ → ℕ → ℕ → Type 0) (program : List Step) 
 -- in that many steps to the program's end, at the place `goal`
 abbrev pub Runs : (ℕ → ℕ → ℕ → Type 0) → ℕ → List Step → ℕ → ℕ → ℕ → Type 0
 Runs passes goal program zero at i = (at ≡ length program) × (i ≡ goal)
-Runs passes goal program (suc n) at i = (next : ℕ) × (j : ℕ) × Goes passes program at i next j × Runs passes goal program n next j
+Runs passes goal program (suc n) at i =
+    (next : ℕ) × (j : ℕ) × Goes passes program at i next j × Runs passes goal program n next j
 
 -- in that many steps from the program's start, at a place where walks begin, to a step at a place
 abbrev pub Comes : (ℕ → ℕ → ℕ → Type 0) → (ℕ → Bool) → List Step → ℕ → ℕ → ℕ → Type 0
 Comes passes begins program zero at i = (at ≡ 0) × (begins i ≡ true)
-Comes passes begins program (suc n) at i = (before : ℕ) × (j : ℕ) × Comes passes begins program n before j × Goes passes program before j at i
+Comes passes begins program (suc n) at i =
+    (before : ℕ) × (j : ℕ) × Comes passes begins program n before j × Goes passes program before j at i
 
 -- the step is alive at the place: a walk from some beginning comes to it there
 abbrev pub IsAlive : (ℕ → ℕ → ℕ → Type 0) → (ℕ → Bool) → List Step → ℕ → ℕ → Type 0
@@ -44,8 +66,10 @@ Stands program at (s ∷ steps) = (slice_get program at ≡ Some s) × Stands pr
 
 -- wherever the steps stand, they lead from one place to another just as the relation says
 pub record Walks (passes : ℕ → ℕ → ℕ → Type 0) (goal : ℕ) (steps : List Step) (R : ℕ → ℕ → Type 0) : Type 0 where
-  pub enters : (program : List Step) (at : ℕ) → Stands program at steps → (i j n : ℕ) → R i j → Runs passes goal program n (at + length steps) j → (m : ℕ) × Runs passes goal program m at i
-  pub leaves : (program : List Step) (at : ℕ) → Stands program at steps → (i n : ℕ) → Runs passes goal program n at i → (j : ℕ) × (m : ℕ) × R i j × (m ≤ n) × Runs passes goal program m (at + length steps) j
+  pub enters : (program : List Step) (at : ℕ) → Stands program at steps → (i j n : ℕ) → R i j
+      → Runs passes goal program n (at + length steps) j → (m : ℕ) × Runs passes goal program m at i
+  pub leaves : (program : List Step) (at : ℕ) → Stands program at steps → (i n : ℕ) → Runs passes goal program n at i
+      → (j : ℕ) × (m : ℕ) × R i j × (m ≤ n) × Runs passes goal program m (at + length steps) j
 
 -- the steps of one part and the other, as a walk in that direction comes to them
 abbrev pub sequence_steps : Direction → List Step → List Step → List Step

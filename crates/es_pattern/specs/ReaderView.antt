@@ -6,13 +6,45 @@ use Rattle.es_pattern.specs.declared.reader.Taken.TheVariants.{Yes, No, TooLarge
 use Rattle.es_pattern.specs.declared.piece.Piece.{Piece}
 use Rattle.es_pattern.specs.Tree.{Tree}
 use Rattle.es_pattern.specs.declared.mode.Mode.{Mode}
-use Rattle.es_pattern.specs.declared.mode.Mode.TheVariants.{Term, Atom, Quantified, Zero, Braces, Escape, Hex, Paren, ParenQuestion, ClassOpen, ClassFirst, ClassNext, ClassNextDash, ClassNextDashes, ClassChar, ClassDash, ClassZero, ClassEscape, ClassHex}
+use Rattle.es_pattern.specs.declared.mode.Mode.TheVariants.{
+  Term,
+  Atom,
+  Quantified,
+  Zero,
+  Braces,
+  Escape,
+  Hex,
+  Paren,
+  ParenQuestion,
+  ClassOpen,
+  ClassFirst,
+  ClassNext,
+  ClassNextDash,
+  ClassNextDashes,
+  ClassChar,
+  ClassDash,
+  ClassZero,
+  ClassEscape,
+  ClassHex,
+}
 use Rattle.es_pattern.specs.Pieces.{top, with_piece, with_pieces}
 use Rattle.es_pattern.specs.Reading.{Reading}
 
 -- what the reader that the code keeps has read
 abbrev pub reading : Reader → Reading
-reading r = record { trees = with_pieces r.pieces.items []; groups = reverse (map (λ g. g.kind) r.groups.items); mode = r.mode; braces = r.braces.items; negated = r.negated; ranges = r.ranges.items; product = r.product; atom_product = r.atom_product; products = reverse (map (λ g. g.product) r.groups.items) }
+reading r = record {
+  trees = with_pieces r.pieces.items [];
+  groups = reverse (map (λ g. g.kind) r.groups.items);
+  mode =
+      r.mode;
+  braces = r.braces.items;
+  negated = r.negated;
+  ranges = r.ranges.items;
+  product = r.product;
+  atom_product =
+      r.atom_product;
+  products = reverse (map (λ g. g.product) r.groups.items);
+}
 
 -- what was read, with the tree that a piece builds on it
 abbrev pub pushed : Piece → Reading → Reading

@@ -1,8 +1,49 @@
 -- How a pattern's text is read, one character after another: what was read so far, and what each character makes of it.
 use Prim.Native.Char.{code}
-use Rattle.std.specs.Prelude.{length, max, ℕ, ◌+◌, ◌-◌, ◌*◌, ◌==◌, Bool, true, false, not, nat_le, nat_lt, ◌&&◌, ◌||◌, List, [], ◌∷◌, ◌++◌, take, drop, position, Option, Some, None, option_map, option_and_then, if◌then◌else◌}
+use Rattle.std.specs.Prelude.{
+  length,
+  max,
+  ℕ,
+  ◌+◌,
+  ◌-◌,
+  ◌*◌,
+  ◌==◌,
+  Bool,
+  true,
+  false,
+  not,
+  nat_le,
+  nat_lt,
+  ◌&&◌,
+  ◌||◌,
+  List,
+  [],
+  ◌∷◌,
+  ◌++◌,
+  take,
+  drop,
+  position,
+  Option,
+  Some,
+  None,
+  option_map,
+  option_and_then,
+  if◌then◌else◌,
+}
 use Rattle.std.specs.List.{list_any}
-use Rattle.es_pattern.specs.Tree.{Tree, CharRange, nothing, one_of, text_start, text_end, word_boundary, sequence, choice, repetition, lookahead}
+use Rattle.es_pattern.specs.Tree.{
+  Tree,
+  CharRange,
+  nothing,
+  one_of,
+  text_start,
+  text_end,
+  word_boundary,
+  sequence,
+  choice,
+  repetition,
+  lookahead,
+}
 use Rattle.es_pattern.specs.Pieces.{top, below}
 use Rattle.es_pattern.specs.Escapes.{range, is_ascii_digit, set_of, escaped, hex_value, is_surrogate}
 use Rattle.es_pattern.specs.Grammar.{never, char, any, number}
@@ -10,9 +51,30 @@ use Rattle.es_pattern.specs.Limits.{is_above_limit, count_of}
 use Rattle.es_pattern.specs.declared.mode.Open.{Open}
 use Rattle.es_pattern.specs.declared.mode.Open.TheVariants.{Group, Ahead}
 use Rattle.es_pattern.specs.declared.mode.Mode.{Mode}
-use Rattle.es_pattern.specs.declared.mode.Mode.TheVariants.{Term, Atom, Quantified, Zero, Braces, Escape, Hex, Paren, ParenQuestion, ClassOpen, ClassFirst, ClassNext, ClassNextDash, ClassNextDashes, ClassChar, ClassDash, ClassZero, ClassEscape, ClassHex}
+use Rattle.es_pattern.specs.declared.mode.Mode.TheVariants.{
+  Term,
+  Atom,
+  Quantified,
+  Zero,
+  Braces,
+  Escape,
+  Hex,
+  Paren,
+  ParenQuestion,
+  ClassOpen,
+  ClassFirst,
+  ClassNext,
+  ClassNextDash,
+  ClassNextDashes,
+  ClassChar,
+  ClassDash,
+  ClassZero,
+  ClassEscape,
+  ClassHex,
+}
 
--- The trees: for each open group, and for the whole, the last alternative's terms and the alternatives before it, and an atom that no term follows yet; the last one first. The groups, the last one first.
+-- The trees: for each open group, and for the whole, the last alternative's terms and the alternatives before it, and
+-- an atom that no term follows yet; the last one first. The groups, the last one first.
 pub record Reading : Type 0 where
   pub trees : List Tree
   pub groups : List Open
@@ -20,7 +82,8 @@ pub record Reading : Type 0 where
   pub braces : List ℕ
   pub negated : Bool
   pub ranges : List CharRange
-  -- the greatest products of the counts of nested quantifiers: in the alternatives that are open, in the atom, and before each open group
+  -- the greatest products of the counts of nested quantifiers: in the alternatives that are open, in the atom, and
+  -- before each open group
   pub product : ℕ
   pub atom_product : ℕ
   pub products : List ℕ
@@ -82,13 +145,26 @@ products_below (p ∷ ps) = ps
 -- the group that was opened last as an atom, or as an assertion where it looks ahead; where none is open, nothing
 abbrev pub closed_by : List Open → Reading → Option Reading
 closed_by [] r = None
-closed_by (Group ∷ gs) r = Some (at Atom (chosen (record r { groups = gs; products = products_below r.products; product = top_product r.products; atom_product = r.product })))
+closed_by (Group ∷ gs) r = Some (at Atom (chosen (record r {
+  groups = gs;
+  products = products_below r.products;
+  product = top_product r.products;
+  atom_product = r.product;
+})))
 closed_by (Ahead negated ∷ gs) r =
-    Some (at Term (joined (record r { groups = gs; products = products_below r.products; product = max r.product (top_product r.products); trees = lookahead negated (choice (top (below r.trees)) (top r.trees)) ∷ below (below r.trees) })))
+    Some (at Term (joined (record r {
+      groups = gs;
+      products = products_below r.products;
+      product =
+          max r.product (top_product r.products);
+      trees =
+          lookahead negated (choice (top (below r.trees)) (top r.trees)) ∷ below (below r.trees);
+    })))
 
 -- the last atom under a quantifier, joined to the terms before it
 abbrev pub quantified : ℕ → Option ℕ → Reading → Reading
-quantified least most r = at Quantified (joined (record r { trees = repetition least most (top r.trees) ∷ below r.trees }))
+quantified least most r =
+    at Quantified (joined (record r { trees = repetition least most (top r.trees) ∷ below r.trees }))
 
 -- a quantifier, with the product that it makes
 abbrev pub marked : Bool → ℕ → ℕ → Option ℕ → Reading → Option Reading
@@ -168,7 +244,8 @@ flushed_chars (c ∷ cs) r = flushed_chars cs (with_atom (char c) (with_term r))
 
 -- a `{` and what follows it, each for itself
 abbrev pub flushed : Bool → Reading → Reading
-flushed after_atom r = flushed_chars r.braces (record (with_atom (char (code "{")) (settled after_atom r)) { braces = [] })
+flushed after_atom r =
+    flushed_chars r.braces (record (with_atom (char (code "{")) (settled after_atom r)) { braces = [] })
 
 -- what a number in braces, or two, say
 abbrev pub pair_bounds : Option ℕ → Option ℕ → Option (ℕ × Option ℕ)
@@ -192,7 +269,8 @@ bounds_of text = bounds_by (position (λ c. c == code ",") text) text
 
 -- the `}` of braces: a quantifier where they have bounds, else each of their characters for itself
 abbrev pub in_braces_end : Option (ℕ × Option ℕ) → Bool → ℕ → Reading → Option Reading
-in_braces_end (Some bounds) after_atom c r = marked after_atom (r.atom_product * count_of bounds.0 bounds.1) bounds.0 bounds.1 r
+in_braces_end (Some bounds) after_atom c r =
+    marked after_atom (r.atom_product * count_of bounds.0 bounds.1) bounds.0 bounds.1 r
 in_braces_end None after_atom c r = plain true false c (flushed after_atom r)
 
 -- digits stand in the braces, and no comma
@@ -246,7 +324,8 @@ class_char (Some first) c r =
 abbrev pub range_end : ℕ → ℕ → Reading → Option Reading
 range_end first c r =
     if c == code "\\" then (if nat_le first 0xffff then Some (at (ClassEscape (Some first)) r) else None)
-    else if c == code "-" then (if nat_le first (code "-") then Some (at ClassNext (ranged first (code "-") r)) else None)
+    else if c == code "-" then (if nat_le first (code "-") then Some (at ClassNext (ranged first (code "-") r)) else
+    None)
     else class_char (Some first) c r
 
 -- a character after one of a class and `-`
@@ -296,11 +375,13 @@ class_set None first c r =
     else if c == code "0" then class_zero first r
     else class_char_if first (escaped c) r
 
--- hexadecimal digits so far in a class, as a character where none is left, if they can still make one that the range can end with
+-- hexadecimal digits so far in a class, as a character where none is left, if they can still make one that the range
+-- can end with
 abbrev pub class_hex_to : Option ℕ → Option ℕ → ℕ → ℕ → Reading → Option Reading
 class_hex_to None first value left r = None
 class_hex_to (Some greatest) first value left r =
-    if can_end first greatest then (if left == 0 then class_char first greatest r else Some (at (ClassHex first value left) r))
+    if can_end first greatest then (if left == 0 then class_char first greatest r else Some
+    (at (ClassHex first value left) r))
     else None
 
 -- one hexadecimal digit more in a class, if it is one
@@ -367,12 +448,23 @@ finished r = finished_in r.mode r
 
 -- nothing is read yet
 abbrev pub start : Reading
-start = begun (record { trees = []; groups = []; mode = Term; braces = []; negated = false; ranges = []; product = 1; atom_product = 1; products = [] })
+start = begun (record {
+  trees = [];
+  groups = [];
+  mode = Term;
+  braces = [];
+  negated = false;
+  ranges = [];
+  product = 1;
+  atom_product = 1;
+  products = [];
+})
 
 -- a quantifier's bounds count above 1,000, or, with what the atom's quantifiers count, above 100,000
 abbrev pub overcounts : Option (ℕ × Option ℕ) → Bool → Reading → Bool
 overcounts None after_atom r = false
-overcounts (Some bounds) after_atom r = is_above_limit bounds.0 bounds.1 || after_atom && nat_lt 100000 (r.atom_product * count_of bounds.0 bounds.1)
+overcounts (Some bounds) after_atom r =
+    is_above_limit bounds.0 bounds.1 || after_atom && nat_lt 100000 (r.atom_product * count_of bounds.0 bounds.1)
 
 -- the character ends a quantifier that counts too much
 abbrev pub overcounts_in : Mode → ℕ → Reading → Bool

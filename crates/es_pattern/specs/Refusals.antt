@@ -2,7 +2,19 @@
 use Rattle.std.specs.Prelude.{ℕ, ◌+◌, ◌&&◌, ◌||◌, Bool, true, false, nat_le, List}
 use Rattle.es_pattern.specs.Forms.{begins_unsupported_escape, begins_named_group, begins_group}
 use Rattle.es_pattern.specs.declared.mode.Mode.{Mode}
-use Rattle.es_pattern.specs.declared.mode.Mode.TheVariants.{Term, Atom, Quantified, Zero, Braces, Escape, Hex, Paren, ParenQuestion, ClassEscape, ClassHex}
+use Rattle.es_pattern.specs.declared.mode.Mode.TheVariants.{
+  Term,
+  Atom,
+  Quantified,
+  Zero,
+  Braces,
+  Escape,
+  Hex,
+  Paren,
+  ParenQuestion,
+  ClassEscape,
+  ClassHex,
+}
 
 -- an escape may begin where none has begun, and not behind `(?`
 abbrev pub may_escape : Mode → Bool

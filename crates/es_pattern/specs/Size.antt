@@ -5,10 +5,22 @@ use Rattle.es_pattern.specs.declared.piece.Piece.{Piece}
 use Rattle.es_pattern.specs.declared.piece.Piece.TheVariants.{Lookahead}
 use Rattle.es_pattern.specs.declared.step.Step.{Step}
 use Rattle.es_pattern.specs.Pieces.{tree_of}
-use Rattle.es_pattern.specs.Tree.{Tree, nothing, one_of, text_start, text_end, word_boundary, sequence, choice, repetition, lookahead}
+use Rattle.es_pattern.specs.Tree.{
+  Tree,
+  nothing,
+  one_of,
+  text_start,
+  text_end,
+  word_boundary,
+  sequence,
+  choice,
+  repetition,
+  lookahead,
+}
 use Rattle.es_pattern.specs.Limits.{count_of}
 
--- the steps of each part as often as its quantifiers count, and at most two more for each of those times and for each choice
+-- the steps of each part as often as its quantifiers count, and at most two more for each of those times and for each
+-- choice
 abbrev pub most_steps : Tree → ℕ
 most_steps nothing = 0
 most_steps (one_of negated ranges) = 1
@@ -22,4 +34,6 @@ most_steps (lookahead negated a) = 1
 
 -- each lookahead's program is at most as long as its part allows, which the pieces before it build
 abbrev pub AllBounded : List Piece → List (Vec Step) → Type 0
-AllBounded pieces lookaheads = (number : ℕ) (negated : Bool) (steps : Vec Step) → slice_get pieces number ≡ Some (Lookahead negated) → slice_get lookaheads number ≡ Some steps → length steps.items ≤ most_steps (tree_of (take number pieces))
+AllBounded pieces lookaheads = (number : ℕ) (negated : Bool) (steps : Vec Step)
+    → slice_get pieces number ≡ Some (Lookahead negated) → slice_get lookaheads number ≡ Some steps
+    → length steps.items ≤ most_steps (tree_of (take number pieces))

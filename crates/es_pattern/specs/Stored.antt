@@ -2,7 +2,19 @@
 use Rattle.std.specs.Prelude.{◌≡◌, ℕ, zero, suc, Bool, false, List, [], ◌∷◌, ◌++◌, Option, None, refl}
 use Rattle.std.specs.Coded.{Coded, code_by, coded×, coded_ℕ, coded_bool, coded_list, coded_option}
 use Rattle.std.proofs.Common.{ap, ◌∙◌}
-use Rattle.es_pattern.specs.Tree.{Tree, CharRange, nothing, one_of, text_start, text_end, word_boundary, sequence, choice, repetition, lookahead}
+use Rattle.es_pattern.specs.Tree.{
+  Tree,
+  CharRange,
+  nothing,
+  one_of,
+  text_start,
+  text_end,
+  word_boundary,
+  sequence,
+  choice,
+  repetition,
+  lookahead,
+}
 use Rattle.es_pattern.specs.Pieces.{top, below}
 
 -- a part: its kind, whether it is negated, its bounds, and its ranges
@@ -32,10 +44,14 @@ with_kind (suc zero) negated least most ranges ts = one_of negated ranges ∷ ts
 with_kind (suc (suc zero)) negated least most ranges ts = text_start ∷ ts
 with_kind (suc (suc (suc zero))) negated least most ranges ts = text_end ∷ ts
 with_kind (suc (suc (suc (suc zero)))) negated least most ranges ts = word_boundary negated ∷ ts
-with_kind (suc (suc (suc (suc (suc zero))))) negated least most ranges ts = sequence (top (below ts)) (top ts) ∷ below (below ts)
-with_kind (suc (suc (suc (suc (suc (suc zero)))))) negated least most ranges ts = choice (top (below ts)) (top ts) ∷ below (below ts)
-with_kind (suc (suc (suc (suc (suc (suc (suc zero))))))) negated least most ranges ts = repetition least most (top ts) ∷ below ts
-with_kind (suc (suc (suc (suc (suc (suc (suc (suc n)))))))) negated least most ranges ts = lookahead negated (top ts) ∷ below ts
+with_kind (suc (suc (suc (suc (suc zero))))) negated least most ranges ts =
+    sequence (top (below ts)) (top ts) ∷ below (below ts)
+with_kind (suc (suc (suc (suc (suc (suc zero)))))) negated least most ranges ts =
+    choice (top (below ts)) (top ts) ∷ below (below ts)
+with_kind (suc (suc (suc (suc (suc (suc (suc zero))))))) negated least most ranges ts =
+    repetition least most (top ts) ∷ below ts
+with_kind (suc (suc (suc (suc (suc (suc (suc (suc n)))))))) negated least most ranges ts =
+    lookahead negated (top ts) ∷ below ts
 
 -- the trees with all these parts more
 abbrev pub with_parts : List Part → List Tree → List Tree
@@ -53,19 +69,26 @@ with_parts-parts text_start ts = refl
 with_parts-parts text_end ts = refl
 with_parts-parts (word_boundary negated) ts = refl
 with_parts-parts (sequence a b) ts = with_parts-append (parts a) (parts b ++ (part_of 5 false 0 None [] ∷ [])) ts
-    ∙ ap (with_parts (parts b ++ (part_of 5 false 0 None [] ∷ []))) (with_parts-parts a ts) ∙ with_parts-append (parts b) (part_of 5 false 0 None [] ∷ []) (a ∷ ts)
+    ∙ ap (with_parts (parts b ++ (part_of 5 false 0 None [] ∷ []))) (with_parts-parts a ts)
+    ∙ with_parts-append (parts b) (part_of 5 false 0 None [] ∷ []) (a ∷ ts)
     ∙ ap (with_parts (part_of 5 false 0 None [] ∷ [])) (with_parts-parts b (a ∷ ts))
 with_parts-parts (choice a b) ts = with_parts-append (parts a) (parts b ++ (part_of 6 false 0 None [] ∷ [])) ts
-    ∙ ap (with_parts (parts b ++ (part_of 6 false 0 None [] ∷ []))) (with_parts-parts a ts) ∙ with_parts-append (parts b) (part_of 6 false 0 None [] ∷ []) (a ∷ ts)
+    ∙ ap (with_parts (parts b ++ (part_of 6 false 0 None [] ∷ []))) (with_parts-parts a ts)
+    ∙ with_parts-append (parts b) (part_of 6 false 0 None [] ∷ []) (a ∷ ts)
     ∙ ap (with_parts (part_of 6 false 0 None [] ∷ [])) (with_parts-parts b (a ∷ ts))
-with_parts-parts (repetition least most a) ts = with_parts-append (parts a) (part_of 7 false least most [] ∷ []) ts ∙ ap (with_parts (part_of 7 false least most [] ∷ [])) (with_parts-parts a ts)
-with_parts-parts (lookahead negated a) ts = with_parts-append (parts a) (part_of 8 negated 0 None [] ∷ []) ts ∙ ap (with_parts (part_of 8 negated 0 None [] ∷ [])) (with_parts-parts a ts)
+with_parts-parts (repetition least most a) ts = with_parts-append (parts a) (part_of 7 false least most [] ∷ []) ts
+    ∙ ap (with_parts (part_of 7 false least most [] ∷ [])) (with_parts-parts a ts)
+with_parts-parts (lookahead negated a) ts = with_parts-append (parts a) (part_of 8 negated 0 None [] ∷ []) ts
+    ∙ ap (with_parts (part_of 8 negated 0 None [] ∷ [])) (with_parts-parts a ts)
 
 -- a range is stored as its two ends
 abbrev pub range_code : Coded CharRange
-range_code = code_by (ℕ × ℕ) (coded× coded_ℕ coded_ℕ) (λ r. (r.first, r.last)) (λ p. record { first = p.0; last = p.1 }) (λ _. refl)
+range_code = code_by (ℕ × ℕ) (coded× coded_ℕ coded_ℕ) (λ r. (r.first, r.last)) (λ p. record { first = p.0; last = p.1 })
+    (λ _. refl)
 
 -- a tree is stored as its parts
 abbrev pub tree_code : Coded Tree
 tree_code =
-    code_by (List Part) (coded_list (coded× coded_ℕ (coded× coded_bool (coded× coded_ℕ (coded× (coded_option coded_ℕ) (coded_list range_code)))))) parts (λ ps. top (with_parts ps [])) (λ t. ap top (with_parts-parts t []))
+    code_by (List Part) (coded_list (coded× coded_ℕ (coded× coded_bool
+    (coded× coded_ℕ (coded× (coded_option coded_ℕ) (coded_list range_code)))))) parts (λ ps. top (with_parts ps []))
+    (λ t. ap top (with_parts-parts t []))

@@ -18,12 +18,14 @@ turns_if_ahead places piece size = 0
 
 -- until the piece of that number is told, by the program of its part
 abbrev pub piece_turns : ℕ → List Piece → ℕ → ℕ
-piece_turns places pieces number = turns_if_ahead places (slice_get pieces number) (length (part_steps Backward pieces number))
+piece_turns places pieces number =
+    turns_if_ahead places (slice_get pieces number) (length (part_steps Backward pieces number))
 
 -- until all lookaheads are told, where these are the tables from that number on
 abbrev pub turns_from : ℕ → List Piece → ℕ → List (Option (Vec Bool)) → ℕ
 turns_from places pieces number [] = 0
-turns_from places pieces number (None ∷ tables) = piece_turns places pieces number + turns_from places pieces (suc number) tables
+turns_from places pieces number (None ∷ tables) =
+    piece_turns places pieces number + turns_from places pieces (suc number) tables
 turns_from places pieces number (Some table ∷ tables) = turns_from places pieces (suc number) tables
 
 -- until all lookaheads are told, with one more for each that is asked for: the step that asks waits again
@@ -32,4 +34,5 @@ untold_turns places pieces tables = turns_from places pieces 0 tables + untold_c
 
 -- of a whole search: a pass for the whole, and one for each lookahead
 abbrev pub search_turns : ℕ → List Piece → ℕ
-search_turns places pieces = pass_turns places (length (steps_of Forward pieces)) + untold_turns places pieces (replicate (length pieces) None)
+search_turns places pieces =
+    pass_turns places (length (steps_of Forward pieces)) + untold_turns places pieces (replicate (length pieces) None)

@@ -1,5 +1,20 @@
 // The bounds in braces.
-ghost use Rattle.std.specs.Prelude.{◌≡◌, ◌≤◌, ◌<◌, ◌==◌, ◌-◌, ◌↔◌, option_map, ℕ, IsTrue, Some, length, slice_index, IfSome, position};
+ghost use Rattle.std.specs.Prelude.{
+  ◌≡◌,
+  ◌≤◌,
+  ◌<◌,
+  ◌==◌,
+  ◌-◌,
+  ◌↔◌,
+  option_map,
+  ℕ,
+  IsTrue,
+  Some,
+  length,
+  slice_index,
+  IfSome,
+  position,
+};
 ghost use Rattle.es_pattern.specs.Grammar.{number};
 ghost use Rattle.es_pattern.specs.Reading.{bounds_of, second_bounds};
 ghost use Rattle.es_pattern.specs.Bounds.{Bounded, Counts, padded};

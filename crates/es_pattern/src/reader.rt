@@ -49,7 +49,17 @@ impl Reader {
     ghost use Rattle.std.specs.Prelude.{◌≡◌, ◌+◌, OnOk, IfOk, length, option_map};
     ghost use Rattle.es_pattern.specs.Tree.{one_of};
     ghost use Rattle.es_pattern.specs.Grammar.{char};
-    ghost use Rattle.es_pattern.specs.Reading.{at, ended, finished, joined, overcounts_at, settled, start, step, with_atom};
+    ghost use Rattle.es_pattern.specs.Reading.{
+      at,
+      ended,
+      finished,
+      joined,
+      overcounts_at,
+      settled,
+      start,
+      step,
+      with_atom,
+    };
     ghost use Rattle.es_pattern.specs.Pieces.{tree_of};
     ghost use Rattle.es_pattern.specs.ReaderView.{EndsAs, Takes, pushed, reading};
     ghost use Rattle.es_pattern.specs.Refusals.{may_escape, may_open, pending};

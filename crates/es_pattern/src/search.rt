@@ -1,5 +1,22 @@
 // The search for a pattern: one pass over the text, and one for each lookahead that it comes to.
-ghost use Rattle.std.specs.Prelude.{◌≡◌, ◌≤◌, ◌<◌, ℕ, Bool, IfOk, IsTrue, ◌↔◌, MatchOption, OnOk, OnSome, IfSome, length, slice_get, unwrap_or, slice_index};
+ghost use Rattle.std.specs.Prelude.{
+  ◌≡◌,
+  ◌≤◌,
+  ◌<◌,
+  ℕ,
+  Bool,
+  IfOk,
+  IsTrue,
+  ◌↔◌,
+  MatchOption,
+  OnOk,
+  OnSome,
+  IfSome,
+  length,
+  slice_get,
+  unwrap_or,
+  slice_index,
+};
 ghost use Rattle.std.specs.Str.{chars};
 ghost use Rattle.es_pattern.specs.Spans.{IsFound};
 ghost use Rattle.es_pattern.specs.Pieces.{tree_of};
@@ -63,7 +80,31 @@ struct Search<'a> {
 }
 
 impl<'a> Search<'a> {
-    ghost use Rattle.std.specs.Prelude.{◌≡◌, ◌||◌, ◌≤◌, ◌<◌, ◌/◌, ◌++◌, ◌∷◌, ◌+◌, [], ℕ, Bool, None, false, IfOk, IsTrue, IsNone, ◌↔◌, MatchOption, OnOk, length, replicate, slice_get, Some};
+    ghost use Rattle.std.specs.Prelude.{
+      ◌≡◌,
+      ◌||◌,
+      ◌≤◌,
+      ◌<◌,
+      ◌/◌,
+      ◌++◌,
+      ◌∷◌,
+      ◌+◌,
+      [],
+      ℕ,
+      Bool,
+      None,
+      false,
+      IfOk,
+      IsTrue,
+      IsNone,
+      ◌↔◌,
+      MatchOption,
+      OnOk,
+      length,
+      replicate,
+      slice_get,
+      Some,
+    };
     ghost use Rattle.std.specs.Global.{Vec};
     ghost use Rattle.es_pattern.specs.Tree.{CharRange};
     ghost use Rattle.es_pattern.specs.Spans.{IsFound, fits};
@@ -83,7 +124,16 @@ impl<'a> Search<'a> {
       class_passing,
       untold_count,
     };
-    ghost use Rattle.es_pattern.specs.Alive.{ArrivesBy, IsIdle, PassedBy, SettledBy, Settling, SettlingBy, crowd, weight};
+    ghost use Rattle.es_pattern.specs.Alive.{
+      ArrivesBy,
+      IsIdle,
+      PassedBy,
+      SettledBy,
+      Settling,
+      SettlingBy,
+      crowd,
+      weight,
+    };
     ghost use Rattle.es_pattern.specs.Walk.{IsAskedOn, IsReady, SettledOn, SettlingOn};
     ghost use Rattle.es_pattern.specs.NumberSet.{has};
     ghost use Rattle.es_pattern.specs.Begins.{NoneBegins, may_begin, may_stay, may_take, takes_at};

@@ -455,7 +455,8 @@ fn nested(alloc: Global, open: &str, close: &str, times: u32) -> Result<String, 
     Ok(text)
 }
 
-// Whether a pattern is found in 4,000 times `a`. Each of the following isn't, and would not end where walks are tried one after
+// Whether a pattern is found in 4,000 times `a`. Each of the following isn't, and would not end where walks are tried
+// one after
 // another.
 fn is_found_in_a_row(alloc: Global, pattern: &str) -> Result<bool, Fail> {
     let text = repeated(alloc, "a", 4_000)?;

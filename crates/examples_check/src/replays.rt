@@ -1,4 +1,5 @@
-// Whether the trails of a document's requests decide: whole, without each of their questions, and with the replies of other trees.
+// Whether the trails of a document's requests decide: whole, without each of their questions, and with the replies of
+// other trees.
 ghost use Rattle.std.specs.Prelude.{IfOk, IsTrue};
 ghost use Rattle.tree_core.specs.Question.{fits};
 
@@ -184,7 +185,8 @@ fn put(trail: &mut Trail, question: Question, reply: Reply) -> Result<(), AllocE
     }
 }
 
-// Takes each file out of the tree in turn. The trail's questions with that tree's replies decide the request as that tree does.
+// Takes each file out of the tree in turn. The trail's questions with that tree's replies decide the request as that
+// tree does.
 fn replay_on_others(
     alloc: Global,
     project: &Project<'_>,

@@ -1,5 +1,23 @@
 -- The counts of a project's outcomes.
-use Rattle.std.specs.Prelude.{◌≡◌, ◌+◌, ℕ, Bool, true, false, if◌then◌else◌, List, [], ◌∷◌, ◌++◌, length, count_by, sum_by, map, codes, decimal}
+use Rattle.std.specs.Prelude.{
+  ◌≡◌,
+  ◌+◌,
+  ℕ,
+  Bool,
+  true,
+  false,
+  if◌then◌else◌,
+  List,
+  [],
+  ◌∷◌,
+  ◌++◌,
+  length,
+  count_by,
+  sum_by,
+  map,
+  codes,
+  decimal,
+}
 use Rattle.resolve_stack.specs.declared.verdict.Outcome.{Outcome}
 use Rattle.resolve_stack.specs.declared.verdict.Verdict.{Verdict}
 use Rattle.resolve_stack.specs.declared.verdict.Verdict.TheVariants.{Answered, Refused}

@@ -1,5 +1,23 @@
 -- A project of any size: packages p1, p2 and so on, each of which binds the next one.
-use Rattle.std.specs.Prelude.{ℕ, ◌+◌, ◌<◌, nat_lt, ◌==◌, true, false, if◌then◌else◌, List, [], ◌∷◌, ◌++◌, codes, decimal, map, flat_map, None}
+use Rattle.std.specs.Prelude.{
+  ℕ,
+  ◌+◌,
+  ◌<◌,
+  nat_lt,
+  ◌==◌,
+  true,
+  false,
+  if◌then◌else◌,
+  List,
+  [],
+  ◌∷◌,
+  ◌++◌,
+  codes,
+  decimal,
+  map,
+  flat_map,
+  None,
+}
 use Rattle.std.specs.List.{range_with_len}
 use Rattle.std.specs.FinMap as finite
 use Rattle.sugar_path.specs.Path.{path_in}
@@ -38,7 +56,8 @@ row_place k = codes "{\"packageLocation\":\"./p/" ++ decimal k ++ codes "/\",\"p
 abbrev pub package_row : ℕ → ℕ → List ℕ
 package_row size k = row_front k ++ row_place k ++ bindings size k ++ codes "]}]]]"
 
--- the manifest up to the packages' rows: no roots, no fallback, no pattern, no exclusions, no pool, and the top level binds p1
+-- the manifest up to the packages' rows: no roots, no fallback, no pattern, no exclusions, no pool, and the top level
+-- binds p1
 unfoldable pub manifest_front : List ℕ
 manifest_front =
     codes "const RAW_RUNTIME_STATE =\n'{\"dependencyTreeRoots\":[],\"enableTopLevelFallback\":false,\"ignorePatternData\":null,\"fallbackExclusionList\":[],\"fallbackPool\":[],\"packageRegistryData\":[[null,[[null,{\"packageLocation\":\"./\",\"packageDependencies\":[[\"p1\",\"npm:1.0.0\"]]}]]]"

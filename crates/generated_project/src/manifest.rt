@@ -1,6 +1,13 @@
 // The manifest of a generated project.
 ghost use Rattle.std.specs.Prelude.{◌≡◌, ◌+◌, ◌^◌, ◌<◌, IfOk, string_bytes};
-ghost use Rattle.generated_project.specs.Generated.{binding, bindings, manifest_text, package_row, row_front, row_place};
+ghost use Rattle.generated_project.specs.Generated.{
+  binding,
+  bindings,
+  manifest_text,
+  package_row,
+  row_front,
+  row_place,
+};
 
 use std::alloc::{AllocError, Global};
 

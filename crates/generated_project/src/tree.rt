@@ -1,6 +1,13 @@
 // The files of a generated project.
 ghost use Rattle.std.specs.Prelude.{◌≡◌, IfOk, OnOk, string_bytes};
-ghost use Rattle.generated_project.specs.Generated.{generated_tree, numbers, package_file, top_files, with_packages, with_text};
+ghost use Rattle.generated_project.specs.Generated.{
+  generated_tree,
+  numbers,
+  package_file,
+  top_files,
+  with_packages,
+  with_text,
+};
 
 use crate::manifest::manifest_text;
 use std::alloc::{AllocError, Global};
@@ -38,7 +45,8 @@ fn put_packages(alloc: Global, tree: &mut MemoryTree, size: usize) -> Result<(),
     Ok(())
 }
 
-// Puts one file in. No path of the project is refused, but that isn't shown here: a refusal would count as want of memory.
+// Puts one file in. No path of the project is refused, but that isn't shown here: a refusal would count as want of
+// memory.
 fn put(tree: &mut MemoryTree, path: &str, text: &str) -> Result<(), AllocError>
     ensures { OnOk result (tree.new.files ≡ with_text tree.old.files path.now text.now) }
 {

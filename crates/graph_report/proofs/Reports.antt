@@ -16,26 +16,37 @@ use Rattle.graph_report.specs.Lines.{step_lines}
 use Rattle.graph_report.specs.Report.{graph_report, lines_by}
 
 -- the report on a document whose fields are refused, and on one of whose files is
-pub report_stopped : (bytes : List ℕ) (e : DocumentError) → Meets {A = GraphDocument} (Err e) (fields_in bytes) → Meets {A = List ℕ} (Err e) (graph_report bytes)
+pub report_stopped : (bytes : List ℕ) (e : DocumentError) → Meets {A = GraphDocument} (Err e) (fields_in bytes)
+    → Meets {A = List ℕ} (Err e) (graph_report bytes)
 unfolding graph_report graph_document
 report_stopped bytes (Refused cause) found = rw found refl
 report_stopped bytes ended.NoMemory found = tt
 
-pub report_untreed : (bytes : List ℕ) (fields : GraphDocument) (e : DocumentError) → fields_in bytes ≡ Ok fields → Meets {A = Files} (Err e) (put_files finite.empty fields.project.files) → Meets {A = List ℕ} (Err e) (graph_report bytes)
+pub report_untreed : (bytes : List ℕ) (fields : GraphDocument) (e : DocumentError) → fields_in bytes ≡ Ok fields
+    → Meets {A = Files} (Err e) (put_files finite.empty fields.project.files)
+    → Meets {A = List ℕ} (Err e) (graph_report bytes)
 unfolding graph_report graph_document
 report_untreed bytes fields (Refused cause) read found = rw (read, found) refl
 report_untreed bytes fields ended.NoMemory read found = tt
 
 -- the report by a document's settings, on the tree of its files
-pub report_by : (bytes : List ℕ) (fields : GraphDocument) (t : Files) (result : Result (List ℕ) DocumentError) → fields_in bytes ≡ Ok fields → put_files finite.empty fields.project.files ≡ Ok t
-    → Meets result (lines_by t fields.entries fields.capacity fields.steps (project_in (settings_in fields.project.settings fields.project.lock))) → Meets result (graph_report bytes)
+pub report_by : (bytes : List ℕ) (fields : GraphDocument) (t : Files) (result : Result (List ℕ) DocumentError)
+    → fields_in bytes ≡ Ok fields → put_files finite.empty fields.project.files ≡ Ok t
+    → Meets result (lines_by t fields.entries fields.capacity fields.steps
+    (project_in (settings_in fields.project.settings fields.project.lock))) → Meets result (graph_report bytes)
 unfolding graph_report graph_document
-report_by bytes fields t result read filed lines = rw (read, filed) (by_project (project_in (settings_in fields.project.settings fields.project.lock)) lines)
+report_by bytes fields t result read filed lines =
+    rw (read, filed) (by_project (project_in (settings_in fields.project.settings fields.project.lock)) lines)
   where
     given_by : ProjectSettings → Result Given Cause
     given_by project = Ok (record {
       session = record {
-        session = record { project = project; tree = record { files = t; questions = 0 }; capacity = fields.capacity; kept = [] };
+        session = record {
+          project = project;
+          tree = record { files = t; questions = 0 };
+          capacity = fields.capacity;
+          kept = [];
+        };
         entries = fields.entries;
       };
       steps = fields.steps;
@@ -44,11 +55,15 @@ report_by bytes fields t result read filed lines = rw (read, filed) (by_project 
     lines_given : Given → Result (List ℕ) Cause
     lines_given given = Ok (step_lines given.session given.steps)
 
-    by_project : (made : Result ProjectSettings Cause) → Meets result (lines_by t fields.entries fields.capacity fields.steps made) → Meets result ((made >>= given_by) >>= lines_given)
+    by_project : (made : Result ProjectSettings Cause)
+        → Meets result (lines_by t fields.entries fields.capacity fields.steps made)
+        → Meets result ((made >>= given_by) >>= lines_given)
     by_project (Ok project) told = told
     by_project (Err cause) told = told
 
 -- the lines in a project that is refused
-pub lines_refused : (t : Files) (entries : List (List ℕ)) (capacity : ℕ) (steps : List GraphStep) (made : Result ProjectSettings Cause) (e : DocumentError) → Meets {A = ProjectSettings} (Err e) made → Meets {A = List ℕ} (Err e) (lines_by t entries capacity steps made)
+pub lines_refused : (t : Files) (entries : List (List ℕ)) (capacity : ℕ) (steps : List GraphStep)
+    (made : Result ProjectSettings Cause) (e : DocumentError) → Meets {A = ProjectSettings} (Err e) made
+    → Meets {A = List ℕ} (Err e) (lines_by t entries capacity steps made)
 lines_refused t entries capacity steps made (Refused cause) found = rw found refl
 lines_refused t entries capacity steps made ended.NoMemory found = tt

@@ -33,7 +33,8 @@ graph_value g = object
     (member (codes "missing") (array (items_of (map string g.missing)))
     (member (codes "nodes") (array (items_of (map node_value g.nodes))) no_members))
 
--- the line of a step, by the graph session before it: of a graph that on the tree as it is then, and of an edit that of the session
+-- the line of a step, by the graph session before it: of a graph that on the tree as it is then, and of an edit that of
+-- the session
 abbrev pub step_line : GraphState → GraphStep → List ℕ
 step_line s Graph = line_of (graph_value (graph_of imports_of s))
 step_line s (Put file) = edits.step_line s.session (edit.Put file)

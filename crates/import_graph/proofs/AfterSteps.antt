@@ -8,18 +8,32 @@ use Rattle.tree_core.specs.declared.tree.TreeFile.{TreeFile}
 use Rattle.session_core.specs.Session.{Session, after_remove, put_unless}
 use Rattle.import_graph.specs.Graph.{graph_on}
 use Rattle.import_graph.specs.GraphState.{GraphState, graph_of, requests_of}
-use Rattle.import_graph.specs.GraphSteps.{Step, Put, Remove, Ask, GraphAfterSteps, after_step, after_steps, files_after, files_after_all, files_unless}
+use Rattle.import_graph.specs.GraphSteps.{
+  Step,
+  Put,
+  Remove,
+  Ask,
+  GraphAfterSteps,
+  after_step,
+  after_steps,
+  files_after,
+  files_after_all,
+  files_unless,
+}
 use Rattle.import_graph.proofs.Asked.{same-asks}
 
-put-files : (s : Session) (path : List ℕ) (file : TreeFile) (o : Option PutError) → (put_unless s path file o).tree.files ≡ files_unless s.tree.files path file o
+put-files : (s : Session) (path : List ℕ) (file : TreeFile) (o : Option PutError)
+    → (put_unless s path file o).tree.files ≡ files_unless s.tree.files path file o
 put-files s path file None = refl
 put-files s path file (Some error) = refl
 
-put-project : (s : Session) (path : List ℕ) (file : TreeFile) (o : Option PutError) → (put_unless s path file o).project ≡ s.project
+put-project : (s : Session) (path : List ℕ) (file : TreeFile) (o : Option PutError)
+    → (put_unless s path file o).project ≡ s.project
 put-project s path file None = refl
 put-project s path file (Some error) = refl
 
-removed-files : (s : Session) (path : List ℕ) (b : Bool) → (cond b (after_remove s path) s).tree.files ≡ cond b (finite.remove s.tree.files path) s.tree.files
+removed-files : (s : Session) (path : List ℕ) (b : Bool)
+    → (cond b (after_remove s path) s).tree.files ≡ cond b (finite.remove s.tree.files path) s.tree.files
 removed-files s path true = refl
 removed-files s path false = refl
 
@@ -47,12 +61,16 @@ stepped imports s Ask =
 pub graph_after_steps : GraphAfterSteps
 graph_after_steps = all
   where
-    all : (imports : List ℕ → List (List ℕ)) (s : GraphState) (steps : List Step) → graph_of imports (after_steps imports s steps) ≡ graph_on imports (files_after_all s.session.tree.files steps) s.session.project s.entries
+    all : (imports : List ℕ → List (List ℕ)) (s : GraphState) (steps : List Step)
+        → graph_of imports (after_steps imports s steps) ≡ graph_on imports (files_after_all s.session.tree.files steps)
+        s.session.project s.entries
     all imports s [] = refl
     all imports s (step ∷ steps) =
         let u = after_step imports s step in
         let is = stepped imports s step in
         all imports u steps
         ∙ ap (λ t. graph_on imports (files_after_all t steps) u.session.project u.entries) is.files
-        ∙ ap (λ p. graph_on imports (files_after_all (files_after s.session.tree.files step) steps) p u.entries) is.project
-        ∙ ap (λ es. graph_on imports (files_after_all (files_after s.session.tree.files step) steps) s.session.project es) is.entries
+        ∙ ap (λ p. graph_on imports (files_after_all (files_after s.session.tree.files step) steps) p u.entries)
+        is.project
+        ∙ ap (λ es. graph_on imports (files_after_all (files_after s.session.tree.files step) steps) s.session.project
+        es) is.entries

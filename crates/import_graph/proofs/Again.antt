@@ -1,12 +1,44 @@
 -- Lists that keep what was used last in front: keys that are used once more leave what they left before.
-use Rattle.std.proofs.Common.{◌≡◌, ◌≤◌, ◌<◌, ◌-◌, ◌&&◌, ◌||◌, ℕ, zero, suc, Bool, true, false, not, cond, List, [], ◌∷◌, length, map, take, filter, Option, Some, None, refl, sym, ap, ◌∙◌, subst, arith}
+use Rattle.std.proofs.Common.{
+  ◌≡◌,
+  ◌≤◌,
+  ◌<◌,
+  ◌-◌,
+  ◌&&◌,
+  ◌||◌,
+  ℕ,
+  zero,
+  suc,
+  Bool,
+  true,
+  false,
+  not,
+  cond,
+  List,
+  [],
+  ◌∷◌,
+  length,
+  map,
+  take,
+  filter,
+  Option,
+  Some,
+  None,
+  refl,
+  sym,
+  ap,
+  ◌∙◌,
+  subst,
+  arith,
+}
 use Rattle.std.specs.List.{find, list_any, AllByRecursion, IsDistinct}
 use Rattle.std.proofs.lemmas.List.{take_all}
 use Rattle.std.proofs.lemmas.Map.Keys.{IsDistinct-head, IsDistinct-tail}
 use Rattle.import_graph.proofs.Repeats.{filter-filter}
 use Rattle.import_graph.proofs.Runs as runs
 
-module _ {X K : Type 0} (key : X → K) (eq : K → K → Bool) (exact : (a b : K) → eq a b ≡ true → a ≡ b) (same : (a : K) → eq a a ≡ true) (make : K → X) (made : (k : K) → key (make k) ≡ k) where
+module _ {X K : Type 0} (key : X → K) (eq : K → K → Bool) (exact : (a b : K) → eq a b ≡ true → a ≡ b)
+    (same : (a : K) → eq a a ≡ true) (make : K → X) (made : (k : K) → key (make k) ≡ k) where
   abbrev used : ℕ → List X → K → List X
   used room kept k = runs.used key eq exact same make made room kept k
 
@@ -49,7 +81,8 @@ module _ {X K : Type 0} (key : X → K) (eq : K → K → Bool) (exact : (a b : 
       let parts = lacking-here (eq (key x) k) (list_any (λ other. eq other k) (map key xs)) none in
       by_test (p x) parts.0 (lacking-filter k p xs parts.1)
     where
-      by_test : (b : Bool) → eq (key x) k ≡ false → AreLacking k (filter p xs) → AreLacking k (cond b (x ∷ filter p xs) (filter p xs))
+      by_test : (b : Bool) → eq (key x) k ≡ false → AreLacking k (filter p xs)
+          → AreLacking k (cond b (x ∷ filter p xs) (filter p xs))
       by_test true one rest = ap (λ b. b || list_any (λ other. eq other k) (map key (filter p xs))) one ∙ rest
       by_test false one rest = rest
 
@@ -57,7 +90,8 @@ module _ {X K : Type 0} (key : X → K) (eq : K → K → Bool) (exact : (a b : 
   lacking-left k [] = refl
   lacking-left k (x ∷ xs) = by_test (eq (key x) k) refl (lacking-left k xs)
     where
-      by_test : (b : Bool) → eq (key x) k ≡ b → AreLacking k (filter (lacks k) xs) → AreLacking k (cond (not b) (x ∷ filter (lacks k) xs) (filter (lacks k) xs))
+      by_test : (b : Bool) → eq (key x) k ≡ b → AreLacking k (filter (lacks k) xs)
+          → AreLacking k (cond (not b) (x ∷ filter (lacks k) xs) (filter (lacks k) xs))
       by_test true is rest = rest
       by_test false is rest = ap (λ b. b || list_any (λ other. eq other k) (map key (filter (lacks k) xs))) is ∙ rest
 
@@ -65,7 +99,8 @@ module _ {X K : Type 0} (key : X → K) (eq : K → K → Bool) (exact : (a b : 
   apart-filter p [] apart = tt
   apart-filter p (x ∷ xs) apart = by_test (p x) (lacking-filter (key x) p xs apart.0) (apart-filter p xs apart.1)
     where
-      by_test : (b : Bool) → AreLacking (key x) (filter p xs) → AreApart (filter p xs) → AreApart (cond b (x ∷ filter p xs) (filter p xs))
+      by_test : (b : Bool) → AreLacking (key x) (filter p xs) → AreApart (filter p xs)
+          → AreApart (cond b (x ∷ filter p xs) (filter p xs))
       by_test true one rest = (one, rest)
       by_test false one rest = rest
 
@@ -79,7 +114,10 @@ module _ {X K : Type 0} (key : X → K) (eq : K → K → Bool) (exact : (a b : 
 
   -- a new one in front of those with other keys
   apart-first : (k : K) (xs : List X) → AreApart xs → AreApart (make k ∷ filter (lacks k) xs)
-  apart-first k xs apart = (subst (λ (j : K). AreLacking j (filter (lacks k) xs)) (sym (made k)) (lacking-left k xs), apart-filter (lacks k) xs apart)
+  apart-first k xs apart = (
+    subst (λ (j : K). AreLacking j (filter (lacks k) xs)) (sym (made k)) (lacking-left k xs),
+    apart-filter (lacks k) xs apart,
+  )
 
   made-first : (k : K) (xs : List X) → AreMade xs → AreMade (make k ∷ filter (lacks k) xs)
   made-first k xs all = (ap make (made k), made-filter (lacks k) xs all)
@@ -98,19 +136,23 @@ module _ {X K : Type 0} (key : X → K) (eq : K → K → Bool) (exact : (a b : 
   made-whole xs (k ∷ ks) all = made-whole (make k ∷ filter (lacks k) xs) ks (made-first k xs all)
 
   -- ---- a list with an end is the front of one without
-  cut-lacking : (r : ℕ) (k : K) (xs : List X) → AreLacking k xs → take r (filter (lacks k) (take r xs)) ≡ take r (filter (lacks k) xs)
+  cut-lacking : (r : ℕ) (k : K) (xs : List X) → AreLacking k xs
+      → take r (filter (lacks k) (take r xs)) ≡ take r (filter (lacks k) xs)
   cut-lacking zero k xs none = refl
   cut-lacking (suc r) k [] none = refl
   cut-lacking (suc r) k (x ∷ xs) none =
       let parts = lacking-here (eq (key x) k) (list_any (λ other. eq other k) (map key xs)) none in
       rw parts.0 (ap (λ ys. x ∷ ys) (cut-lacking r k xs parts.1))
 
-  cut : (r : ℕ) (k : K) (xs : List X) → AreApart xs → take r (filter (lacks k) (take (suc r) xs)) ≡ take r (filter (lacks k) xs)
+  cut : (r : ℕ) (k : K) (xs : List X) → AreApart xs
+      → take r (filter (lacks k) (take (suc r) xs)) ≡ take r (filter (lacks k) xs)
   cut r k [] apart = refl
   cut r k (x ∷ xs) apart = by_test r (eq (key x) k) refl (λ n. cut n k xs apart.1)
     where
-      by_test : (n : ℕ) (b : Bool) → eq (key x) k ≡ b → ((m : ℕ) → take m (filter (lacks k) (take (suc m) xs)) ≡ take m (filter (lacks k) xs))
-          → take n (cond (not b) (x ∷ filter (lacks k) (take n xs)) (filter (lacks k) (take n xs))) ≡ take n (cond (not b) (x ∷ filter (lacks k) xs) (filter (lacks k) xs))
+      by_test : (n : ℕ) (b : Bool) → eq (key x) k ≡ b
+          → ((m : ℕ) → take m (filter (lacks k) (take (suc m) xs)) ≡ take m (filter (lacks k) xs))
+          → take n (cond (not b) (x ∷ filter (lacks k) (take n xs)) (filter (lacks k) (take n xs))) ≡ take n
+          (cond (not b) (x ∷ filter (lacks k) xs) (filter (lacks k) xs))
       by_test n true is rest = cut-lacking n k xs (subst (λ (j : K). AreLacking j xs) (exact (key x) k is) apart.0)
       by_test zero false is rest = refl
       by_test (suc m) false is rest = ap (λ ys. x ∷ ys) (rest m)
@@ -119,7 +161,8 @@ module _ {X K : Type 0} (key : X → K) (eq : K → K → Bool) (exact : (a b : 
   found-made k [] x all e = cc
   found-made k (y ∷ xs) x all e = by_test (eq (key y) k) refl e (found-made k xs x all.1)
     where
-      by_test : (b : Bool) → eq (key y) k ≡ b → cond b (Some y) (find (λ z. eq (key z) k) xs) ≡ Some x → (find (λ z. eq (key z) k) xs ≡ Some x → make k ≡ x) → make k ≡ x
+      by_test : (b : Bool) → eq (key y) k ≡ b → cond b (Some y) (find (λ z. eq (key z) k) xs) ≡ Some x
+          → (find (λ z. eq (key z) k) xs ≡ Some x → make k ≡ x) → make k ≡ x
       by_test true is h rest = let y_is : y ≡ x = cc in ap make (sym (exact (key y) k is)) ∙ all.0 ∙ y_is
       by_test false is h rest = rest h
 
@@ -132,7 +175,9 @@ module _ {X K : Type 0} (key : X → K) (eq : K → K → Bool) (exact : (a b : 
   none-found k [] e = refl
   none-found k (x ∷ xs) e = by_test (eq (key x) k) refl e (none-found k xs)
     where
-      by_test : (b : Bool) → eq (key x) k ≡ b → cond b (Some x) (find (λ z. eq (key z) k) xs) ≡ None → (find (λ z. eq (key z) k) xs ≡ None → filter (lacks k) xs ≡ xs) → cond (not b) (x ∷ filter (lacks k) xs) (filter (lacks k) xs) ≡ x ∷ xs
+      by_test : (b : Bool) → eq (key x) k ≡ b → cond b (Some x) (find (λ z. eq (key z) k) xs) ≡ None
+          → (find (λ z. eq (key z) k) xs ≡ None → filter (lacks k) xs ≡ xs)
+          → cond (not b) (x ∷ filter (lacks k) xs) (filter (lacks k) xs) ≡ x ∷ xs
       by_test true is h rest = cc
       by_test false is h rest = ap (λ ys. x ∷ ys) (rest h)
 
@@ -142,34 +187,44 @@ module _ {X K : Type 0} (key : X → K) (eq : K → K → Bool) (exact : (a b : 
   shorter k (suc n) [] = omega arith
   shorter k (suc n) (x ∷ xs) = by_test (eq (key x) k) (shorter k n xs)
     where
-      by_test : (b : Bool) → length (filter (lacks k) (take n xs)) ≤ n → length (cond (not b) (x ∷ filter (lacks k) (take n xs)) (filter (lacks k) (take n xs))) ≤ suc n
+      by_test : (b : Bool) → length (filter (lacks k) (take n xs)) ≤ n
+          → length (cond (not b) (x ∷ filter (lacks k) (take n xs)) (filter (lacks k) (take n xs))) ≤ suc n
       by_test true rest = omega (arith, rest)
       by_test false rest = omega (arith, rest)
 
-  found-shorter : (k : K) (r : ℕ) (xs : List X) (x : X) → find (λ y. eq (key y) k) (take (suc r) xs) ≡ Some x → length (filter (lacks k) (take (suc r) xs)) ≤ r
+  found-shorter : (k : K) (r : ℕ) (xs : List X) (x : X) → find (λ y. eq (key y) k) (take (suc r) xs) ≡ Some x
+      → length (filter (lacks k) (take (suc r) xs)) ≤ r
   found-shorter k r [] x e = cc
   found-shorter k r (y ∷ xs) x e = by_test r (eq (key y) k) refl e (λ n. found-shorter k n xs x)
     where
-      by_test : (n : ℕ) (b : Bool) → eq (key y) k ≡ b → cond b (Some y) (find (λ z. eq (key z) k) (take n xs)) ≡ Some x → ((m : ℕ) → find (λ z. eq (key z) k) (take (suc m) xs) ≡ Some x → length (filter (lacks k) (take (suc m) xs)) ≤ m)
+      by_test : (n : ℕ) (b : Bool) → eq (key y) k ≡ b → cond b (Some y) (find (λ z. eq (key z) k) (take n xs)) ≡ Some x
+          → ((m : ℕ) → find (λ z. eq (key z) k) (take (suc m) xs) ≡ Some x
+          → length (filter (lacks k) (take (suc m) xs)) ≤ m)
           → length (cond (not b) (y ∷ filter (lacks k) (take n xs)) (filter (lacks k) (take n xs))) ≤ n
       by_test n true is h rest = shorter k n xs
       by_test zero false is h rest = cc
       by_test (suc m) false is h rest = let less = rest m h in omega (arith, less)
 
-  used-cut : (r : ℕ) (k : K) (xs : List X) → AreApart xs → AreMade xs → used (suc r) (take (suc r) xs) k ≡ take (suc r) (make k ∷ filter (lacks k) xs)
+  used-cut : (r : ℕ) (k : K) (xs : List X) → AreApart xs → AreMade xs
+      → used (suc r) (take (suc r) xs) k ≡ take (suc r) (make k ∷ filter (lacks k) xs)
   used-cut r k xs apart all = by_found (find (λ y. eq (key y) k) (take (suc r) xs)) refl
     where
-      by_found : (o : Option X) → find (λ y. eq (key y) k) (take (suc r) xs) ≡ o → runs.used_by key eq exact same make made (suc r) (take (suc r) xs) k o ≡ make k ∷ take r (filter (lacks k) xs)
+      by_found : (o : Option X) → find (λ y. eq (key y) k) (take (suc r) xs) ≡ o
+          → runs.used_by key eq exact same make made (suc r) (take (suc r) xs) k o ≡ make k ∷ take r
+          (filter (lacks k) xs)
       by_found (Some x) is =
-          ap (λ y. y ∷ filter (lacks k) (take (suc r) xs)) (sym (found-made k (take (suc r) xs) x (made-take (suc r) xs all) is))
-          ∙ ap (λ ys. make k ∷ ys) (sym (take_all r (filter (lacks k) (take (suc r) xs)) (found-shorter k r xs x is)) ∙ cut r k xs apart)
+          ap (λ y. y ∷ filter (lacks k) (take (suc r) xs)) (sym
+          (found-made k (take (suc r) xs) x (made-take (suc r) xs all) is))
+          ∙ ap (λ ys. make k ∷ ys) (sym (take_all r (filter (lacks k) (take (suc r) xs)) (found-shorter k r xs x is))
+          ∙ cut r k xs apart)
       by_found None is =
           let less : suc r - 1 ≡ r = omega arith in
           ap (λ n. make k ∷ take n (take (suc r) xs)) less
           ∙ ap (λ ys. make k ∷ take r ys) (sym (none-found k (take (suc r) xs) is))
           ∙ ap (λ ys. make k ∷ ys) (cut r k xs apart)
 
-  run-cut : (r : ℕ) (xs : List X) (ks : List K) → AreApart xs → AreMade xs → used_all (suc r) (take (suc r) xs) ks ≡ take (suc r) (used_whole xs ks)
+  run-cut : (r : ℕ) (xs : List X) (ks : List K) → AreApart xs → AreMade xs
+      → used_all (suc r) (take (suc r) xs) ks ≡ take (suc r) (used_whole xs ks)
   run-cut r xs [] apart all = refl
   run-cut r xs (k ∷ ks) apart all =
       ap (λ ys. used_all (suc r) ys ks) (used-cut r k xs apart all)
@@ -199,11 +254,14 @@ module _ {X K : Type 0} (key : X → K) (eq : K → K → Bool) (exact : (a b : 
       all-pass (y ∷ ys) = ap (λ zs. y ∷ zs) (all-pass ys)
   whole-is xs (k ∷ ks) new =
       whole-is (make k ∷ filter (lacks k) xs) ks new.1
-      ∙ ap (λ b. in_front ks (cond b (make k ∷ filter (outside ks) (filter (lacks k) xs)) (filter (outside ks) (filter (lacks k) xs)))) (outside-made ks k false new.0)
-      ∙ ap (λ ys. in_front ks (make k ∷ ys)) (filter-filter (outside ks) (lacks k) (outside (k ∷ ks)) xs (λ x. not-or (eq (key x) k) (list_any (eq (key x)) ks)))
+      ∙ ap (λ b. in_front ks (cond b (make k ∷ filter (outside ks) (filter (lacks k) xs))
+      (filter (outside ks) (filter (lacks k) xs)))) (outside-made ks k false new.0)
+      ∙ ap (λ ys. in_front ks (make k ∷ ys)) (filter-filter (outside ks) (lacks k) (outside (k ∷ ks)) xs
+      (λ x. not-or (eq (key x) k) (list_any (eq (key x)) ks)))
 
   -- none of those in front is outside their keys
-  front-outside : (all ks : List K) (xs : List X) → AllByRecursion (λ k. list_any (eq k) all ≡ true) ks → filter (outside all) (in_front ks xs) ≡ filter (outside all) xs
+  front-outside : (all ks : List K) (xs : List X) → AllByRecursion (λ k. list_any (eq k) all ≡ true) ks
+      → filter (outside all) (in_front ks xs) ≡ filter (outside all) xs
   front-outside all [] xs among = refl
   front-outside all (k ∷ ks) xs among =
       front-outside all ks (make k ∷ xs) among.1
@@ -217,7 +275,8 @@ module _ {X K : Type 0} (key : X → K) (eq : K → K → Bool) (exact : (a b : 
       one true = refl
       one false = refl
 
-      more : (js : List K) → AllByRecursion (λ j. list_any (eq j) ks ≡ true) js → AllByRecursion (λ j. (eq j k || list_any (eq j) ks) ≡ true) js
+      more : (js : List K) → AllByRecursion (λ j. list_any (eq j) ks ≡ true) js
+          → AllByRecursion (λ j. (eq j k || list_any (eq j) ks) ≡ true) js
       more [] all = tt
       more (j ∷ js) all = (ap (λ b. eq j k || b) all.0 ∙ one (eq j k), more js all.1)
 
@@ -234,23 +293,27 @@ module _ {X K : Type 0} (key : X → K) (eq : K → K → Bool) (exact : (a b : 
       ∙ filter-filter (outside ks) (outside ks) (outside ks) xs (λ x. and-itself (outside ks x)))
       ∙ sym (whole-is xs ks new)
 
-  again-suc : (r : ℕ) (kept : List X) (ks : List K) → length kept ≤ suc r → AreApart kept → AreMade kept → AreNew ks → used_all (suc r) (used_all (suc r) kept ks) ks ≡ used_all (suc r) kept ks
+  again-suc : (r : ℕ) (kept : List X) (ks : List K) → length kept ≤ suc r → AreApart kept → AreMade kept → AreNew ks
+      → used_all (suc r) (used_all (suc r) kept ks) ks ≡ used_all (suc r) kept ks
   again-suc r kept ks few apart all new =
-      let whole : used_all (suc r) kept ks ≡ take (suc r) (used_whole kept ks) = ap (λ xs. used_all (suc r) xs ks) (sym (take_all (suc r) kept few)) ∙ run-cut r kept ks apart all in
+      let whole : used_all (suc r) kept ks ≡ take (suc r) (used_whole kept ks) =
+      ap (λ xs. used_all (suc r) xs ks) (sym (take_all (suc r) kept few)) ∙ run-cut r kept ks apart all in
       ap (λ xs. used_all (suc r) xs ks) whole
       ∙ run-cut r (used_whole kept ks) ks (apart-whole kept ks apart) (made-whole kept ks all)
       ∙ ap (take (suc r)) (whole-again kept ks new)
       ∙ sym whole
 
   -- what is kept after some keys were used stays when they are used again
-  pub used-again : (room : ℕ) (kept : List X) (ks : List K) → 0 < room → length kept ≤ room → AreApart kept → AreMade kept → AreNew ks → used_all room (used_all room kept ks) ks ≡ used_all room kept ks
+  pub used-again : (room : ℕ) (kept : List X) (ks : List K) → 0 < room → length kept ≤ room → AreApart kept
+      → AreMade kept → AreNew ks → used_all room (used_all room kept ks) ks ≡ used_all room kept ks
   used-again zero kept ks some few apart all new = let no : ⊥ = omega (arith, some) in absurd no
   used-again (suc r) kept ks some few apart all new = again-suc r kept ks few apart all new
 
   -- ---- lists of which no two have one key
   pub new-keys : (ks : List K) → IsDistinct eq ks → AreNew ks
   new-keys [] distinct = tt
-  new-keys (k ∷ ks) distinct = (none ks (IsDistinct-head eq k ks distinct), new-keys ks (IsDistinct-tail eq k ks distinct))
+  new-keys (k ∷ ks) distinct =
+      (none ks (IsDistinct-head eq k ks distinct), new-keys ks (IsDistinct-tail eq k ks distinct))
     where
       none : (js : List K) → AllByRecursion (λ j. eq k j ≡ false) js → list_any (eq k) js ≡ false
       none [] all = refl

@@ -1,5 +1,30 @@
 -- What asking for the edges of a graph leaves in a session.
-use Rattle.std.proofs.Common.{◌≡◌, ◌≤◌, ◌&&◌, ℕ, Bool, true, false, bytes_eq, ◌||◌, List, [], ◌∷◌, ◌++◌, length, map, Option, Some, None, is_some, refl, sym, ap, ◌∙◌, subst}
+use Rattle.std.proofs.Common.{
+  ◌≡◌,
+  ◌≤◌,
+  ◌&&◌,
+  ℕ,
+  Bool,
+  true,
+  false,
+  bytes_eq,
+  ◌||◌,
+  List,
+  [],
+  ◌∷◌,
+  ◌++◌,
+  length,
+  map,
+  Option,
+  Some,
+  None,
+  is_some,
+  refl,
+  sym,
+  ap,
+  ◌∙◌,
+  subst,
+}
 use Rattle.std.specs.List.{flat_map, list_any, AllByRecursion, IsDistinct}
 use Rattle.std.proofs.lemmas.List.Elements.{All-from_recursion, recursion_from_All}
 use Rattle.std.proofs.lemmas.Slice.Eq.{bytes_eq-Decides}
@@ -51,7 +76,8 @@ both false b h = cc
 exact : (a b : Key) → same_key a b ≡ true → a ≡ b
 exact a b h =
     let parts = both (name_eq a.0 b.0) (bytes_eq a.1 b.1) h in
-    ap (λ (n : FileName). (n, a.1)) (name-is a.0 b.0 parts.0) ∙ ap (λ (s : List ℕ). (b.0, s)) ((bytes_eq-Decides a.1 b.1).0 parts.1)
+    ap (λ (n : FileName). (n, a.1)) (name-is a.0 b.0 parts.0)
+    ∙ ap (λ (s : List ℕ). (b.0, s)) ((bytes_eq-Decides a.1 b.1).0 parts.1)
 
 itself : (a : Key) → same_key a a ≡ true
 itself a = rw (name-itself a.0) ((bytes_eq-Decides a.1 a.1).1 refl)
@@ -70,7 +96,8 @@ same-then a b c first second = record {
   capacity = second.capacity ∙ first.capacity;
 }
 
-same-by : (s : Session) (importer : FileName) (specifier : List ℕ) (o : Option Entry) → IsSameBut s (asked_by s importer specifier o)
+same-by : (s : Session) (importer : FileName) (specifier : List ℕ) (o : Option Entry)
+    → IsSameBut s (asked_by s importer specifier o)
 same-by s importer specifier (Some e) = record { project = refl; files = refl; capacity = refl }
 same-by s importer specifier None = record { project = refl; files = refl; capacity = refl }
 
@@ -79,9 +106,11 @@ same-ask s importer specifier = same-by s importer specifier (kept_for importer 
 
 pub same-asks : (s : Session) (requests : List Key) → IsSameBut s (after_asks s requests)
 same-asks s [] = same-refl s
-same-asks s (r ∷ requests) = same-then s (after_ask s r.0 r.1) (after_asks s (r ∷ requests)) (same-ask s r.0 r.1) (same-asks (after_ask s r.0 r.1) requests)
+same-asks s (r ∷ requests) = same-then s (after_ask s r.0 r.1) (after_asks s (r ∷ requests)) (same-ask s r.0 r.1)
+    (same-asks (after_ask s r.0 r.1) requests)
 
-pub asks-append : (s : Session) (first second : List Key) → after_asks s (first ++ second) ≡ after_asks (after_asks s first) second
+pub asks-append : (s : Session) (first second : List Key)
+    → after_asks s (first ++ second) ≡ after_asks (after_asks s first) second
 asks-append s [] second = refl
 asks-append s (r ∷ first) second = asks-append (after_ask s r.0 r.1) first second
 
@@ -97,28 +126,41 @@ kept-run s [] = refl
 kept-run s (r ∷ requests) = by_found (kept_for r.0 r.1 s.kept) (λ u. kept-run u requests)
   where
     by_found : (o : Option Entry) → ((u : Session) → (after_asks u requests).kept ≡ run_from u requests)
-        → (after_asks (asked_by s r.0 r.1 o) requests).kept ≡ runs.used_all key_of same_key exact itself (made s.tree.files s.project) (λ k. refl) s.capacity (runs.used_by key_of same_key exact itself (made s.tree.files s.project) (λ k. refl) s.capacity s.kept r o) requests
+        → (after_asks (asked_by s r.0 r.1 o) requests).kept ≡ runs.used_all key_of same_key exact itself
+        (made s.tree.files s.project) (λ k. refl) s.capacity
+        (runs.used_by key_of same_key exact itself (made s.tree.files s.project) (λ k. refl) s.capacity s.kept r o)
+        requests
     by_found (Some e) rest = rest (asked_by s r.0 r.1 (Some e))
     by_found None rest = rest (asked_by s r.0 r.1 None)
 
 -- what a session keeps is of different requests, each outcome the one that is made for its request
-apart-kept : (t : Files) (project : ProjectSettings) (kept : List Entry) → IsDistinct same_request kept → again.AreApart key_of same_key exact itself (made t project) (λ k. refl) kept
+apart-kept : (t : Files) (project : ProjectSettings) (kept : List Entry) → IsDistinct same_request kept
+    → again.AreApart key_of same_key exact itself (made t project) (λ k. refl) kept
 apart-kept t project [] distinct = tt
-apart-kept t project (e ∷ kept) distinct = (none kept (IsDistinct-head same_request e kept distinct), apart-kept t project kept (IsDistinct-tail same_request e kept distinct))
+apart-kept t project (e ∷ kept) distinct = (
+  none kept (IsDistinct-head same_request e kept distinct),
+  apart-kept t project kept (IsDistinct-tail same_request e kept distinct),
+)
   where
-    none : (es : List Entry) → AllByRecursion (λ other. same_request e other ≡ false) es → list_any (λ other. same_key other (key_of e)) (map key_of es) ≡ false
+    none : (es : List Entry) → AllByRecursion (λ other. same_request e other ≡ false) es
+        → list_any (λ other. same_key other (key_of e)) (map key_of es) ≡ false
     none [] all = refl
-    none (other ∷ es) all = ap (λ b. b || list_any (λ other. same_key other (key_of e)) (map key_of es)) all.0 ∙ none es all.1
+    none (other ∷ es) all =
+        ap (λ b. b || list_any (λ other. same_key other (key_of e)) (map key_of es)) all.0 ∙ none es all.1
 
-made-kept : (t : Files) (project : ProjectSettings) (kept : List Entry) → AllByRecursion (λ e. e.outcome ≡ outcome_on t project e.importer e.specifier) kept → again.AreMade key_of same_key exact itself (made t project) (λ k. refl) kept
+made-kept : (t : Files) (project : ProjectSettings) (kept : List Entry)
+    → AllByRecursion (λ e. e.outcome ≡ outcome_on t project e.importer e.specifier) kept
+    → again.AreMade key_of same_key exact itself (made t project) (λ k. refl) kept
 made-kept t project [] right = tt
 made-kept t project (e ∷ kept) right = (one e right.0, made-kept t project kept right.1)
   where
-    one : (other : Entry) → other.outcome ≡ outcome_on t project other.importer other.specifier → made t project (key_of other) ≡ other
+    one : (other : Entry) → other.outcome ≡ outcome_on t project other.importer other.specifier
+        → made t project (key_of other) ≡ other
     one other is = ap (λ o. record other { outcome = o }) (sym is)
 
 -- what is kept stays when requests, each another, are asked again
-kept-again : (s u : Session) (requests : List Key) → IsSession s → IsSameBut s u → IsDistinct same_key requests → u.kept ≡ (after_asks s requests).kept → u.kept ≡ (after_asks u requests).kept
+kept-again : (s u : Session) (requests : List Key) → IsSession s → IsSameBut s u → IsDistinct same_key requests
+    → u.kept ≡ (after_asks s requests).kept → u.kept ≡ (after_asks u requests).kept
 kept-again s u requests held same new left =
     let is : u.kept ≡ run_from s requests = left ∙ kept-run s requests in
     sym (
@@ -127,24 +169,38 @@ kept-again s u requests held same new left =
     ∙ ap (λ p. run_by s.tree.files p u.capacity u.kept requests) same.project
     ∙ ap (λ n. run_by s.tree.files s.project n u.kept requests) same.capacity
     ∙ ap (λ kept. run_by s.tree.files s.project s.capacity kept requests) is
-    ∙ again.used-again key_of same_key exact itself (made s.tree.files s.project) (λ k. refl) s.capacity s.kept requests held.some held.few
-    (apart-kept s.tree.files s.project s.kept held.apart) (made-kept s.tree.files s.project s.kept (recursion_from_All _ s.kept held.right)) (again.new-keys key_of same_key exact itself (made s.tree.files s.project) (λ k. refl) requests new)
+    ∙ again.used-again key_of same_key exact itself (made s.tree.files s.project) (λ k. refl) s.capacity s.kept requests
+    held.some held.few
+    (apart-kept s.tree.files s.project s.kept held.apart) (made-kept s.tree.files s.project s.kept
+    (recursion_from_All _ s.kept held.right)) (again.new-keys key_of same_key exact itself
+    (made s.tree.files s.project) (λ k. refl) requests new)
     ∙ sym is)
 
 abbrev are_kept : List Entry → List Key → Type 0
 are_kept kept requests = AllByRecursion (λ r. is_some (kept_for r.0 r.1 kept) ≡ true) requests
 
 -- where all that is asked for is kept, no question is put
-unasked-run : (s : Session) (requests : List Key) → are_kept s.kept requests → (after_asks s requests).tree.questions ≡ s.tree.questions
+unasked-run : (s : Session) (requests : List Key) → are_kept s.kept requests
+    → (after_asks s requests).tree.questions ≡ s.tree.questions
 unasked-run s [] kept = refl
-unasked-run s (r ∷ requests) kept = by_found (kept_for r.0 r.1 s.kept) kept.0 (more requests kept.1) (λ u. unasked-run u requests)
+unasked-run s (r ∷ requests) kept =
+    by_found (kept_for r.0 r.1 s.kept) kept.0 (more requests kept.1) (λ u. unasked-run u requests)
   where
-    more : (rs : List Key) → are_kept s.kept rs → are_kept (runs.used key_of same_key exact itself (made s.tree.files s.project) (λ k. refl) s.capacity s.kept r) rs
+    more : (rs : List Key) → are_kept s.kept rs
+        → are_kept (runs.used key_of same_key exact itself (made s.tree.files s.project) (λ k. refl) s.capacity s.kept
+        r) rs
     more [] all = tt
-    more (q ∷ rs) all = (runs.stays-kept key_of same_key exact itself (made s.tree.files s.project) (λ k. refl) s.capacity s.kept r q kept.0 all.0, more rs all.1)
+    more (q ∷ rs) all = (
+      runs.stays-kept key_of same_key exact itself (made s.tree.files s.project) (λ k. refl)
+          s.capacity s.kept r q kept.0 all.0,
+      more rs all.1,
+    )
 
-    by_found : (o : Option Entry) → is_some o ≡ true → are_kept (runs.used_by key_of same_key exact itself (made s.tree.files s.project) (λ k. refl) s.capacity s.kept r o) requests
-        → ((u : Session) → are_kept u.kept requests → (after_asks u requests).tree.questions ≡ u.tree.questions) → (after_asks (asked_by s r.0 r.1 o) requests).tree.questions ≡ s.tree.questions
+    by_found : (o : Option Entry) → is_some o ≡ true
+        → are_kept (runs.used_by key_of same_key exact itself (made s.tree.files s.project) (λ k. refl) s.capacity
+        s.kept r o) requests
+        → ((u : Session) → are_kept u.kept requests → (after_asks u requests).tree.questions ≡ u.tree.questions)
+        → (after_asks (asked_by s r.0 r.1 o) requests).tree.questions ≡ s.tree.questions
     by_found (Some e) there all rest = rest (asked_by s r.0 r.1 (Some e)) all
     by_found None there all rest = cc
 
@@ -156,32 +212,44 @@ map-map f g (x ∷ xs) = ap (λ ys. f (g x) ∷ ys) (map-map f g xs)
 abbrev request : List ℕ → List ℕ → Key
 request file text = (Real file, text)
 
-pub requests-at : (imports : List ℕ → List (List ℕ)) (t : Files) (project : ProjectSettings) (file : List ℕ) → requests_at (node_on imports t project file) ≡ map (request file) (imported imports t file)
-requests-at imports t project file = map-map (λ e. (Real file, e.specifier)) (edge_on t project file) (imported imports t file)
+pub requests-at : (imports : List ℕ → List (List ℕ)) (t : Files) (project : ProjectSettings) (file : List ℕ)
+    → requests_at (node_on imports t project file) ≡ map (request file) (imported imports t file)
+requests-at imports t project file =
+    map-map (λ e. (Real file, e.specifier)) (edge_on t project file) (imported imports t file)
 
-requests-are : (imports : List ℕ → List (List ℕ)) (t : Files) (project : ProjectSettings) (files : List (List ℕ)) → flat_map requests_at (map (node_on imports t project) files) ≡ flat_map (λ file. map (request file) (imported imports t file)) files
+requests-are : (imports : List ℕ → List (List ℕ)) (t : Files) (project : ProjectSettings) (files : List (List ℕ))
+    → flat_map requests_at (map (node_on imports t project) files) ≡ flat_map
+    (λ file. map (request file) (imported imports t file)) files
 requests-are imports t project [] = refl
 requests-are imports t project (file ∷ files) =
     ap (λ rs. rs ++ flat_map requests_at (map (node_on imports t project) files)) (requests-at imports t project file)
     ∙ ap (λ rs. map (request file) (imported imports t file) ++ rs) (requests-are imports t project files)
 
-pub requests-new : (imports : List ℕ → List (List ℕ)) (t : Files) (project : ProjectSettings) (entries : List (List ℕ)) → IsDistinct same_key (requests_of (graph_on imports t project entries))
+pub requests-new : (imports : List ℕ → List (List ℕ)) (t : Files) (project : ProjectSettings) (entries : List (List ℕ))
+    → IsDistinct same_key (requests_of (graph_on imports t project entries))
 requests-new imports t project entries =
     subst (IsDistinct same_key) (sym (requests-are imports t project (files_reached imports t project entries)))
-    (runs.distinct-all-pairs key_of same_key exact itself (made t project) (λ k. refl) request (λ a b c d. refl) (imported imports t) (files_reached imports t project entries) (λ file. once-distinct _) (reached_once imports t project entries))
+    (runs.distinct-all-pairs key_of same_key exact itself (made t project) (λ k. refl) request (λ a b c d. refl)
+    (imported imports t) (files_reached imports t project entries) (λ file. once-distinct _)
+    (reached_once imports t project entries))
 
-pub graph-asked : (imports : List ℕ → List (List ℕ)) (s u : Session) (entries : List (List ℕ)) (g : Graph) → g ≡ graph_on imports s.tree.files s.project entries → u ≡ after_asks s (requests_of g) → IsAsked g s u
+pub graph-asked : (imports : List ℕ → List (List ℕ)) (s u : Session) (entries : List (List ℕ)) (g : Graph)
+    → g ≡ graph_on imports s.tree.files s.project entries → u ≡ after_asks s (requests_of g) → IsAsked g s u
 graph-asked imports s u entries g is asked = rw asked (record {
   same = same-asks s (requests_of g);
   left = refl;
-  kept = λ few. All-from_recursion _ (requests_of g) (subst (λ (kept : List Entry). are_kept kept (requests_of g)) (sym (kept-run s (requests_of g)))
-      (runs.all-kept key_of same_key exact itself (made s.tree.files s.project) (λ k. refl) s.capacity s.kept (requests_of g)
-      (runs.new-distinct key_of same_key exact itself (made s.tree.files s.project) (λ k. refl) (requests_of g) (rw is (requests-new imports s.tree.files s.project entries))) few));
+  kept = λ few. All-from_recursion _ (requests_of g) (subst (λ (kept : List Entry). are_kept kept (requests_of g))
+      (sym (kept-run s (requests_of g)))
+      (runs.all-kept key_of same_key exact itself (made s.tree.files s.project) (λ k. refl) s.capacity s.kept
+      (requests_of g)
+      (runs.new-distinct key_of same_key exact itself (made s.tree.files s.project) (λ k. refl) (requests_of g)
+      (rw is (requests-new imports s.tree.files s.project entries))) few));
   unasked = λ kept. unasked-run s (requests_of g) (recursion_from_All _ (requests_of g) kept);
 })
 
 -- a graph whose edges were asked for stays so
-pub asked-again : (g : Graph) (s u : Session) → IsSession s → IsDistinct same_key (requests_of g) → IsAsked g s u → IsAsked g u u
+pub asked-again : (g : Graph) (s u : Session) → IsSession s → IsDistinct same_key (requests_of g) → IsAsked g s u
+    → IsAsked g u u
 asked-again g s u held new asked = record {
   same = same-refl u;
   left = kept-again s u (requests_of g) held asked.same new asked.left;

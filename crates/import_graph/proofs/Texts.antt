@@ -17,5 +17,7 @@ as_text-none bytes h = by_test (is_utf8 bytes) refl
     by_test false is = refl
 
 -- what the lines import with one more
-pub with-line : (lines : List (List ℕ)) (line : List ℕ) (found : Option (List ℕ)) → import_of line ≡ found → filter_map import_of (lines ++ line ∷ []) ≡ filter_map import_of lines ++ cons_option found []
-with-line lines line found is = filter_map-append import_of lines (line ∷ []) ∙ ap (λ o. filter_map import_of lines ++ cons_option o []) is
+pub with-line : (lines : List (List ℕ)) (line : List ℕ) (found : Option (List ℕ)) → import_of line ≡ found
+    → filter_map import_of (lines ++ line ∷ []) ≡ filter_map import_of lines ++ cons_option found []
+with-line lines line found is =
+    filter_map-append import_of lines (line ∷ []) ∙ ap (λ o. filter_map import_of lines ++ cons_option o []) is

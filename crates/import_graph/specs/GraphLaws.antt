@@ -10,7 +10,8 @@ use Rattle.import_graph.specs.Levels.{IsWalk, among, level_at}
 -- a file is reached exactly where a walk along edges leads to it from an entry that is a file
 abbrev pub ReachedByWalks : Type 0
 ReachedByWalks =
-    (imports : List ℕ → List (List ℕ)) (t : Files) (project : ProjectSettings) (entries : List (List ℕ)) (file : List ℕ) →
+    (imports : List ℕ → List (List ℕ)) (t : Files) (project : ProjectSettings) (entries : List (List ℕ)) (file : List ℕ)
+    →
     IsTrue (among file (files_reached imports t project entries))
     ↔ ((walk : List (List ℕ)) × IsWalk (leads_to imports t project) (first_files t entries) (file ∷ walk))
 

@@ -15,7 +15,8 @@ pub data Step : Type 0 where
   Remove : List ℕ → Step
   Ask : Step
 
--- the graph session after a step, by what bytes import: edits are those of the session, and where the graph is asked for, each of its edges is, in order
+-- the graph session after a step, by what bytes import: edits are those of the session, and where the graph is asked
+-- for, each of its edges is, in order
 abbrev pub after_step : (List ℕ → List (List ℕ)) → GraphState → Step → GraphState
 after_step imports s (Put path file) = with_session s (session.after_step s.session (session.Put path file))
 after_step imports s (Remove path) = with_session s (session.after_step s.session (session.Remove path))

@@ -17,14 +17,19 @@ pub record StandsBetween (mark : ℕ) (line text : List ℕ) : Type 0 where
 abbrev pub BetweenLastMarks : Type 0
 BetweenLastMarks = (mark : ℕ) (line text : List ℕ) → (between_last mark line ≡ Some text) ↔ StandsBetween mark line text
 
--- a text stands between the last two quotes of a line, or between its last two apostrophes where nothing stands between quotes
+-- a text stands between the last two quotes of a line, or between its last two apostrophes where nothing stands between
+-- quotes
 abbrev pub StandsQuoted : List ℕ → List ℕ → Type 0
-StandsQuoted line text = StandsBetween (code "\"") line text ⊎ (((other : List ℕ) → StandsBetween (code "\"") line other → ⊥) × StandsBetween (code "'") line text)
+StandsQuoted line text = StandsBetween (code "\"") line text
+    ⊎ (((other : List ℕ) → StandsBetween (code "\"") line other → ⊥) × StandsBetween (code "'") line text)
 
--- a line imports a text exactly where it begins with one of the words behind its blanks, and the text is UTF-8 and stands in it so
+-- a line imports a text exactly where it begins with one of the words behind its blanks, and the text is UTF-8 and
+-- stands in it so
 abbrev pub LineImports : Type 0
-LineImports = (line text : List ℕ) → (import_of line ≡ Some text) ↔ ((begins_import (past_blanks line) ≡ true) × IsUtf8 text × StandsQuoted line text)
+LineImports = (line text : List ℕ) → (import_of line ≡ Some text) ↔
+    ((begins_import (past_blanks line) ≡ true) × IsUtf8 text × StandsQuoted line text)
 
 -- two texts with a line feed between them import what the first imports, and then what the second does
 abbrev pub LinesImportInTurn : Type 0
-LinesImportInTurn = (first second : List ℕ) → imports_of (first ++ (codes "\n" ++ second)) ≡ imports_of first ++ imports_of second
+LinesImportInTurn =
+    (first second : List ℕ) → imports_of (first ++ (codes "\n" ++ second)) ≡ imports_of first ++ imports_of second

@@ -1,6 +1,20 @@
 -- What a file of JavaScript imports, told from its lines alone. Texts are lists of bytes.
 use Prim.Native.Char.{code}
-use Rattle.std.specs.Prelude.{ℕ, ◌==◌, ◌||◌, Bool, nat_eq, if◌then◌else◌, List, drop, codes, Option, Some, None, option_and_then}
+use Rattle.std.specs.Prelude.{
+  ℕ,
+  ◌==◌,
+  ◌||◌,
+  Bool,
+  nat_eq,
+  if◌then◌else◌,
+  List,
+  drop,
+  codes,
+  Option,
+  Some,
+  None,
+  option_and_then,
+}
 use Rattle.std.specs.List.{after_last, before_last, filter_map, list_any, prefix_len, slice_split, starts_with}
 use Rattle.std.specs.Option.{option_or}
 use Rattle.std.specs.Str.{is_utf8}
@@ -19,7 +33,8 @@ past_blanks line = drop (prefix_len is_blank line) line
 
 -- a text begins with one of the three words that stand in front of what is imported
 abbrev pub begins_import : List ℕ → Bool
-begins_import text = starts_with nat_eq text (codes "import ") || starts_with nat_eq text (codes "export ") || starts_with nat_eq text (codes "} from ")
+begins_import text = starts_with nat_eq text (codes "import ") || starts_with nat_eq text (codes "export ")
+    || starts_with nat_eq text (codes "} from ")
 
 -- the byte is a mark, which is a quote or an apostrophe
 abbrev pub is_mark : ℕ → ℕ → Bool
@@ -41,7 +56,8 @@ quoted line = option_or (between_last (code "\"") line) (between_last (code "'")
 abbrev pub as_text : List ℕ → Option (List ℕ)
 as_text bytes = if is_utf8 bytes then Some bytes else None
 
--- what a line imports: a line that doesn't begin so imports nothing, and neither does one with no text between two marks
+-- what a line imports: a line that doesn't begin so imports nothing, and neither does one with no text between two
+-- marks
 abbrev pub import_of : List ℕ → Option (List ℕ)
 import_of line = if begins_import (past_blanks line) then option_and_then as_text (quoted line) else None
 

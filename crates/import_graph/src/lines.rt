@@ -1,6 +1,15 @@
 // What a file imports, told from its lines.
 ghost use Rattle.std.specs.Prelude.{◌≡◌, IfOk, option_map};
-ghost use Rattle.import_graph.specs.Lines.{as_text, begins_import, between_last, import_of, imports_of, is_blank, past_blanks, quoted};
+ghost use Rattle.import_graph.specs.Lines.{
+  as_text,
+  begins_import,
+  between_last,
+  import_of,
+  imports_of,
+  is_blank,
+  past_blanks,
+  quoted,
+};
 
 use memchr::memrchr;
 use std::alloc::{AllocError, Global};

@@ -1,5 +1,24 @@
 -- The last of the members that have a name.
-use Rattle.std.proofs.Common.{◌≡◌, ℕ, List, [], ◌∷◌, ◌++◌, true, false, cond, Option, Some, None, bytes_eq, Global, refl, sym, ap, ◌∙◌}
+use Rattle.std.proofs.Common.{
+  ◌≡◌,
+  ℕ,
+  List,
+  [],
+  ◌∷◌,
+  ◌++◌,
+  true,
+  false,
+  cond,
+  Option,
+  Some,
+  None,
+  bytes_eq,
+  Global,
+  refl,
+  sym,
+  ap,
+  ◌∙◌,
+}
 use Rattle.std.specs.Borrow.{Bor}
 use Rattle.json.specs.Json.{Json}
 use Rattle.json.specs.Find.{get_member, later_or}
@@ -16,7 +35,8 @@ later-later (Some j) b c = refl
 
 -- the last member is found before the ones above it
 get-last : (name : List ℕ) (ms : List (Bor (List ℕ) × Value Global)) (k : Bor (List ℕ)) (v : Value Global)
-    → get_member name (members_view (ms ++ (k, v) ∷ [])) ≡ later_or (cond (bytes_eq k.now name) (Some (value_view v)) None) (get_member name (members_view ms))
+    → get_member name (members_view (ms ++ (k, v) ∷ [])) ≡ later_or
+    (cond (bytes_eq k.now name) (Some (value_view v)) None) (get_member name (members_view ms))
 get-last name [] k v = later-none (cond (bytes_eq k.now name) (Some (value_view v)) None)
 get-last name (m ∷ ms) k v =
     ap (λ o. later_or o (cond (bytes_eq m.0.now name) (Some (value_view m.1)) None)) (get-last name ms k v)
@@ -28,6 +48,8 @@ pub last-found : (name : List ℕ) (ms : List (Bor (List ℕ) × Value Global)) 
 last-found name ms k v is = sym (get-last name ms k v ∙ rw is refl)
 
 -- a last member of another name is passed over
-pub last-passed : (name : List ℕ) (ms : List (Bor (List ℕ) × Value Global)) (k : Bor (List ℕ)) (v : Value Global) (o : Option Json)
-    → bytes_eq k.now name ≡ false → o ≡ get_member name (members_view ms) → o ≡ get_member name (members_view (ms ++ (k, v) ∷ []))
+pub last-passed : (name : List ℕ) (ms : List (Bor (List ℕ) × Value Global)) (k : Bor (List ℕ)) (v : Value Global)
+    (o : Option Json)
+    → bytes_eq k.now name ≡ false → o ≡ get_member name (members_view ms)
+    → o ≡ get_member name (members_view (ms ++ (k, v) ∷ []))
 last-passed name ms k v o is found = found ∙ sym (get-last name ms k v ∙ rw is refl)

@@ -1,5 +1,23 @@
 -- Entries whose names rise, put into a map one after another.
-use Rattle.std.proofs.Common.{◌≡◌, ℕ, Less, List, [], ◌∷◌, ◌++◌, false, nat_cmp, bytes_eq, is_eq, refl, sym, ap, ◌∙◌, append_assoc, append-nil}
+use Rattle.std.proofs.Common.{
+  ◌≡◌,
+  ℕ,
+  Less,
+  List,
+  [],
+  ◌∷◌,
+  ◌++◌,
+  false,
+  nat_cmp,
+  bytes_eq,
+  is_eq,
+  refl,
+  sym,
+  ap,
+  ◌∙◌,
+  append_assoc,
+  append-nil,
+}
 use Rattle.std.proofs.lemmas.Cmp.{nat_list_cmp_total}
 use Rattle.std.proofs.lemmas.Map.Text.{is_eq-slice_cmp}
 use Rattle.std.specs.Cmp.Lexicographic.{slice_cmp}
@@ -23,19 +41,23 @@ AllBefore done es = AllByRecursion (λ d. AllByRecursion (StandsBefore d.0) es) 
 apart : (k l : List ℕ) → slice_cmp nat_cmp k l ≡ Less → bytes_eq l k ≡ false
 apart k l less = sym (is_eq-slice_cmp l k) ∙ ap is_eq (nat_list_cmp_total.antisymm l k ∙ ap ordering_reverse less)
 
-insert_entry-last : {V : Type 0} (done : List (List ℕ × V)) (k : List ℕ) (v : V) → AllByRecursion (λ d. slice_cmp nat_cmp d.0 k ≡ Less) done → insert_entry bytes_eq done k v ≡ done ++ (k, v) ∷ []
+insert_entry-last : {V : Type 0} (done : List (List ℕ × V)) (k : List ℕ) (v : V)
+    → AllByRecursion (λ d. slice_cmp nat_cmp d.0 k ≡ Less) done → insert_entry bytes_eq done k v ≡ done ++ (k, v) ∷ []
 insert_entry-last [] k v h = refl
 insert_entry-last (d ∷ done) k v h = rw (apart d.0 k h.0) (ap (λ es. d ∷ es) (insert_entry-last done k v h.1))
 
-heads : {V : Type 0} (done : List (List ℕ × V)) (e : List ℕ × V) (es : List (List ℕ × V)) → AllBefore done (e ∷ es) → AllByRecursion (λ d. slice_cmp nat_cmp d.0 e.0 ≡ Less) done
+heads : {V : Type 0} (done : List (List ℕ × V)) (e : List ℕ × V) (es : List (List ℕ × V)) → AllBefore done (e ∷ es)
+    → AllByRecursion (λ d. slice_cmp nat_cmp d.0 e.0 ≡ Less) done
 heads [] e es h = tt
 heads (d ∷ done) e es h = (h.0.0, heads done e es h.1)
 
-tails : {V : Type 0} (done : List (List ℕ × V)) (e : List ℕ × V) (es : List (List ℕ × V)) → AllBefore done (e ∷ es) → AllByRecursion (StandsBefore e.0) es → AllBefore (done ++ e ∷ []) es
+tails : {V : Type 0} (done : List (List ℕ × V)) (e : List ℕ × V) (es : List (List ℕ × V)) → AllBefore done (e ∷ es)
+    → AllByRecursion (StandsBefore e.0) es → AllBefore (done ++ e ∷ []) es
 tails [] e es h first = (first, tt)
 tails (d ∷ done) e es h first = (h.0.1, tails done e es h.1 first)
 
-insert_all-appended : {V : Type 0} (es done : List (List ℕ × V)) → AllBefore done es → IsRising es → insert_all bytes_eq done es ≡ done ++ es
+insert_all-appended : {V : Type 0} (es done : List (List ℕ × V)) → AllBefore done es → IsRising es
+    → insert_all bytes_eq done es ≡ done ++ es
 insert_all-appended [] done all rising = sym (append-nil done)
 insert_all-appended (e ∷ es) done all rising =
     ap (λ table. insert_all bytes_eq table es) (insert_entry-last done e.0 e.1 (heads done e es all))

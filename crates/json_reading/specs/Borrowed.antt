@@ -1,7 +1,23 @@
 -- The data that a tree of borrowed texts stands for (RFC 8259).
 use Rattle.std.specs.Prelude.{Bool, true, false, ◌||◌, Option, Some, None}
 use Rattle.json.specs.Json as json
-use Rattle.serde_json.specs.Data.{Num, unsigned, Data, null, boolean, number, string, array, object, Items, no_items, item, Members, no_members, put}
+use Rattle.serde_json.specs.Data.{
+  Num,
+  unsigned,
+  Data,
+  null,
+  boolean,
+  number,
+  string,
+  array,
+  object,
+  Items,
+  no_items,
+  item,
+  Members,
+  no_members,
+  put,
+}
 use Rattle.serde_json.specs.Read.{number_of}
 
 -- a number, and 0 for one that is too large for a float

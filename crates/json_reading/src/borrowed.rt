@@ -2,7 +2,13 @@
 ghost use Rattle.std.specs.Prelude.{◌≡◌, IfOk};
 ghost use Rattle.json.specs.Value.{items_view, members_view, value_view};
 ghost use Rattle.serde_json.specs.Data.{no_members};
-ghost use Rattle.json_reading.specs.Borrowed.{data_of, data_of_members, has_number, items_have_number, members_have_number};
+ghost use Rattle.json_reading.specs.Borrowed.{
+  data_of,
+  data_of_members,
+  has_number,
+  items_have_number,
+  members_have_number,
+};
 ghost use Rattle.json_reading.specs.Kinds.{NamesRise, listed};
 
 use crate::json_value::JsonValue;

@@ -15,7 +15,8 @@ pub trait FromJson: Drop {
     /// What is read, and nothing where the value is of another kind.
     ghost reads: { Data → Option Self };
 
-    /// What the value is read as. `OtherKind` comes exactly where nothing is read, unless memory runs out before that is told.
+    /// What the value is read as. `OtherKind` comes exactly where nothing is read, unless memory runs out before that
+    /// is told.
     fn from_json<J: JsonValue>(alloc: Global, value: &J) -> Result<Self, FromJsonError>
         ensures { ReadsAs result (reads (J.stands_for value.now)) };
 }

@@ -8,7 +8,8 @@ ghost use Rattle.json_reading.specs.Kinds.{NamesRise, is_null, listed};
 use serde_json::{Map, Value};
 use std::alloc::{AllocError, Global};
 
-/// A JSON value (RFC 8259) that is read: it owns its texts, as `serde_json::Value` does, or borrows them, as `json::Value`.
+/// A JSON value (RFC 8259) that is read: it owns its texts, as `serde_json::Value` does, or borrows them, as
+/// `json::Value`.
 pub trait JsonValue: Sized {
     /// The data that the value stands for.
     ghost stands_for: { Self → Data };

@@ -1,4 +1,5 @@
-//! What can be read from a JSON value: each reader answers what its definition reads, or that the value is of another kind.
+//! What can be read from a JSON value: each reader answers what its definition reads, or that the value is of another
+//! kind.
 #![tactic(auto)]
 
 mod borrowed;

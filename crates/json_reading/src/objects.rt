@@ -12,7 +12,8 @@ use std::alloc::Global;
 use std::marker::Model;
 use sugar_path::Text;
 
-/// An object's members by their names, seen as the list of names and values. An `IndexMap` shows its room too, which no reader
+/// An object's members by their names, seen as the list of names and values. An `IndexMap` shows its room too, which no
+/// reader
 /// promises, so it stands in a type of its own.
 #[derive(Drop)]
 pub struct Object<T> {

@@ -26,7 +26,8 @@ pub enum ReadJson<'a> {
     Owned(Value),
 }
 
-/// The value of a text that reads as JSON of at most 127 levels. `OtherKind` comes where it is none. The scratch takes the texts
+/// The value of a text that reads as JSON of at most 127 levels. `OtherKind` comes where it is none. The scratch takes
+/// the texts
 /// that have escapes.
 pub fn read_text<'a>(
     alloc: Global,

@@ -1,5 +1,26 @@
 -- Where an element stands in a list.
-use Rattle.std.proofs.Common.{◌≡◌, ℕ, Bool, true, false, cond, List, [], ◌∷◌, ◌++◌, Option, Some, bytes_eq, map, refl, sym, ap, ◌∙◌, append_assoc, arith}
+use Rattle.std.proofs.Common.{
+  ◌≡◌,
+  ℕ,
+  Bool,
+  true,
+  false,
+  cond,
+  List,
+  [],
+  ◌∷◌,
+  ◌++◌,
+  Option,
+  Some,
+  bytes_eq,
+  map,
+  refl,
+  sym,
+  ap,
+  ◌∙◌,
+  append_assoc,
+  arith,
+}
 use Rattle.std.specs.Prelude.{Contains, flat_map}
 use Rattle.std.specs.List.{filter_map}
 use Rattle.std.specs.Map.{lookup}
@@ -27,14 +48,16 @@ splits-map f xs x s = record {
   is = ap (map f) s.is ∙ map-append f s.front (x ∷ s.back);
 }
 
-pub splits-filter_map : {A B : Type 0} (h : A → Option B) (xs : List A) (x : A) (y : B) → h x ≡ Some y → Splits xs x → Splits (filter_map h xs) y
+pub splits-filter_map : {A B : Type 0} (h : A → Option B) (xs : List A) (x : A) (y : B) → h x ≡ Some y → Splits xs x
+    → Splits (filter_map h xs) y
 splits-filter_map h xs x y gives s = record {
   front = filter_map h s.front;
   back = filter_map h s.back;
   is = ap (filter_map h) s.is ∙ filter_map-append h s.front (x ∷ s.back) ∙ rw gives refl;
 }
 
-pub splits-flat_map : {A B : Type 0} (f : A → List B) (xs : List A) (x : A) (y : B) → Splits (f x) y → Splits xs x → Splits (flat_map f xs) y
+pub splits-flat_map : {A B : Type 0} (f : A → List B) (xs : List A) (x : A) (y : B) → Splits (f x) y → Splits xs x
+    → Splits (flat_map f xs) y
 splits-flat_map f xs x y inner outer = record {
   front = flat_map f outer.front ++ inner.front;
   back = inner.back ++ flat_map f outer.back;
@@ -45,11 +68,13 @@ splits-flat_map f xs x y inner outer = record {
 }
 
 -- what a look-up finds at a name
-pub splits-lookup : {A : Type 0} (name : List ℕ) (entries : List (List ℕ × A)) (a : A) → lookup (bytes_eq name) entries ≡ Some a → Splits entries (name, a)
+pub splits-lookup : {A : Type 0} (name : List ℕ) (entries : List (List ℕ × A)) (a : A)
+    → lookup (bytes_eq name) entries ≡ Some a → Splits entries (name, a)
 splits-lookup name [] a found = cc
 splits-lookup {A = A} name (e ∷ es) a found = by_test (bytes_eq name e.0) refl (splits-lookup name es a) found
   where
-    by_test : (b : Bool) → bytes_eq name e.0 ≡ b → (lookup (bytes_eq name) es ≡ Some a → Splits es (name, a)) → cond b (Some e.1) (lookup (bytes_eq name) es) ≡ Some a → Splits (e ∷ es) (name, a)
+    by_test : (b : Bool) → bytes_eq name e.0 ≡ b → (lookup (bytes_eq name) es ≡ Some a → Splits es (name, a))
+        → cond b (Some e.1) (lookup (bytes_eq name) es) ≡ Some a → Splits (e ∷ es) (name, a)
     by_test true same rest h =
         let key : name ≡ e.0 = (bytes_eq-Decides name e.0).0 same in
         let value : e.1 ≡ a = cc in

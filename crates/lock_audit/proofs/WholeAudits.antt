@@ -1,5 +1,27 @@
 -- What a whole audit says, from what it asked.
-use Rattle.std.proofs.Common.{◌≡◌, ◌<◌, ◌^◌, ℕ, List, [], length, Option, Some, None, Result, Ok, Err, IsErrAnd, IsTrue, refl, sym, ap, ◌∙◌, subst, arith}
+use Rattle.std.proofs.Common.{
+  ◌≡◌,
+  ◌<◌,
+  ◌^◌,
+  ℕ,
+  List,
+  [],
+  length,
+  Option,
+  Some,
+  None,
+  Result,
+  Ok,
+  Err,
+  IsErrAnd,
+  IsTrue,
+  refl,
+  sym,
+  ap,
+  ◌∙◌,
+  subst,
+  arith,
+}
 use Rattle.std.specs.Prelude.{IfOk}
 use Rattle.sugar_path.specs.Path.{Path}
 use Rattle.tree_core.specs.Asks.{Asking, Asks, AgreeWith, seen}
@@ -25,31 +47,39 @@ use Rattle.lock_audit.specs.Audits.{Audits}
 use Rattle.lock_audit.specs.Refusal.{auditing, of_loading}
 
 -- an error of the reading of a manifest is the audit's
-pub seen_loading : (e : ResolveError HydrationCause) (R : Result Audit AuditError) → IsErrAnd R (λ x. x ≡ of_loading e) → seen auditing R ≡ raised_result NoManifest (seen {A = Audit} resolving (Err e))
+pub seen_loading : (e : ResolveError HydrationCause) (R : Result Audit AuditError) → IsErrAnd R (λ x. x ≡ of_loading e)
+    → seen auditing R ≡ raised_result NoManifest (seen {A = Audit} resolving (Err e))
 seen_loading e (Ok a) from = elim from [ ]
 seen_loading (loading.Refused cause) (Err x) from = rw from refl
 seen_loading loading.TreeFault (Err x) from = rw from refl
 seen_loading loading.NoMemory (Err x) from = rw from refl
 
-module _ {old new : Asking} {plan : Plan (Result Audit Refusal)} (empty : old.trail ≡ []) (agree : AgreeWith old.tree.stands_for new.trail) where
-  answers_on : (s : Result (Result Audit Refusal) ReadError) → Asks old new s plan → IfOk s (λ told. (t : Files) → IsTrue (old.tree.stands_for t) → answer t plan ≡ told)
+module _ {old new : Asking} {plan : Plan (Result Audit Refusal)} (empty : old.trail ≡ [])
+    (agree : AgreeWith old.tree.stands_for new.trail) where
+  answers_on : (s : Result (Result Audit Refusal) ReadError) → Asks old new s plan
+      → IfOk s (λ told. (t : Files) → IsTrue (old.tree.stands_for t) → answer t plan ≡ told)
   answers_on (Ok told) h = λ t stands. sym ((settles empty h).verdict t (agree t stands))
   answers_on (Err e) h = tt
 
-  put_on : (s : Result (Result Audit Refusal) ReadError) → Asks old new s plan → IfOk s (λ told. (t : Files) → IsTrue (old.tree.stands_for t) → new.tree.questions ≡ put_times (length (recorded t [] (asked t plan))) old.tree.questions)
+  put_on : (s : Result (Result Audit Refusal) ReadError) → Asks old new s plan
+      → IfOk s (λ told. (t : Files) → IsTrue (old.tree.stands_for t)
+      → new.tree.questions ≡ put_times (length (recorded t [] (asked t plan))) old.tree.questions)
   put_on (Ok told) h = λ t stands.
-      put_all empty h ∙ ap (λ trail. put_times (length trail) old.tree.questions) ((settles empty h).trail t (agree t stands))
+      put_all empty h ∙ ap (λ trail. put_times (length trail) old.tree.questions)
+      ((settles empty h).trail t (agree t stands))
   put_on (Err e) h = tt
 
 -- a whole audit by a lock
-pub audits_by : {old new : Asking} (lock : Lock) (file : Path) (r : Result (Result Audit HydrationCause) ReadError) (R : Result Audit AuditError) (before after : TreeState)
+pub audits_by : {old new : Asking} (lock : Lock) (file : Path) (r : Result (Result Audit HydrationCause) ReadError)
+    (R : Result Audit AuditError) (before after : TreeState)
     → old.trail ≡ [] → AgreeWith old.tree.stands_for new.trail → Asks old new r (audit_by lock file)
     → seen auditing R ≡ raised_result NoManifest r
     → old.tree ≡ before → new.tree ≡ after
     → Audits (Some lock) file before after R
 audits_by {old = old} {new = new} lock file r R before after empty agree h is was now =
     let P : Result (Result Audit Refusal) ReadError → Type 0 = λ s. Asks old new s (audit (Some lock) file) in
-    let asks : Asks old new (seen auditing R) (audit (Some lock) file) = subst P (sym is) (asks_raised_result NoManifest r h) in
+    let asks : Asks old new (seen auditing R) (audit (Some lock) file) =
+    subst P (sym is) (asks_raised_result NoManifest r h) in
     let here : Audits (Some lock) file old.tree new.tree R = record {
       answers = answers_on empty agree (seen auditing R) asks;
       put = put_on empty agree (seen auditing R) asks;

@@ -22,4 +22,5 @@ unused_of entry = record { name = entry.name; resolved = entry.resolved }
 -- the entries that name no package of a manifest, in the lock's order
 abbrev pub unused_entries : Lock → Contents → List Unused
 unused_entries lock manifest =
-    map unused_of (filter (λ entry. not (has_name lock.version (locators_of manifest.package_registry_data) entry)) lock.entries)
+    map unused_of (filter (λ entry. not (has_name lock.version (locators_of manifest.package_registry_data) entry))
+    lock.entries)

@@ -46,12 +46,14 @@ pub record EdgesAreBindings : Type 0 where
       ≡ option_to_list (option_map (edge owner name) (given (own manifest owner name)))
 
 -- an owner's own row binds a name to a package
-pub record BindsOwn (manifest : Contents) (owner : PackageLocator) (name : List ℕ) (bound : PackageLocator) : Type 0 where
-  pub dependency : PackageDependency
-  pub own : own manifest owner name ≡ Some (Some dependency)
-  pub means : bound ≡ bound_to name dependency
+pub record BindsOwn (manifest : Contents) (owner : PackageLocator) (name : List ℕ) (bound : PackageLocator) : Type 0
+  where
+    pub dependency : PackageDependency
+    pub own : own manifest owner name ≡ Some (Some dependency)
+    pub means : bound ≡ bound_to name dependency
 
--- the registry row or the lock row of the order, asked for an owner and a name that is bound to a package, refuses with a fault
+-- the registry row or the lock row of the order, asked for an owner and a name that is bound to a package, refuses with
+-- a fault
 abbrev pub Refuses : Files → ProjectSettings → Contents → PackageLocator → List ℕ → PackageLocator → EdgeFault → Type 0
 Refuses t project manifest owner name bound fault =
     (checked_on t project manifest owner name bound).result ≡ Err (of_fault bound fault)
@@ -85,15 +87,18 @@ pub record FindingsAreRefusals : Type 0 where
       → found_for t lock manifest owner name ≡ option_to_list (option_and_then
       (λ dependency. finding_on t lock manifest (edge owner name dependency)) (given (own manifest owner name)))
 
--- A name that an owner's own row binds, in a manifest in which nothing is found: the order takes that binding, and these two rows go on with the location of the bound package.
-pub record Passes (t : Files) (project : ProjectSettings) (manifest : Contents) (owner : PackageLocator) (name : List ℕ) (bound : PackageLocator) : Type 0 where
+-- A name that an owner's own row binds, in a manifest in which nothing is found: the order takes that binding, and
+-- these two rows go on with the location of the bound package.
+pub record Passes (t : Files) (project : ProjectSettings) (manifest : Contents) (owner : PackageLocator) (name : List ℕ)
+    (bound : PackageLocator) : Type 0 where
   pub binds : bind manifest owner name ≡ Bound bound
   pub location : List ℕ
   pub passes : (checked_on t project manifest owner name bound).result ≡ Ok location
 
 abbrev pub PassesWithoutFindings : Type 0
 PassesWithoutFindings =
-    (t : Files) (project : ProjectSettings) (lock : Lock) (manifest : Contents) (owner : PackageLocator) (name : List ℕ) (bound : PackageLocator)
+    (t : Files) (project : ProjectSettings) (lock : Lock) (manifest : Contents) (owner : PackageLocator) (name : List ℕ)
+    (bound : PackageLocator)
     → project.lock ≡ Some lock → found_in t lock manifest ≡ []
     → BindsOwn manifest owner name bound
     → Passes t project manifest owner name bound

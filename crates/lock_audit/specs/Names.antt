@@ -26,11 +26,14 @@ is_released_as name version l = is_release l.name (plain_reference l.reference) 
 -- names, with those of more packages
 pub record Adds (old new : Names) (locators : List PackageLocator) : Type 0 where
   pub resolutions : (text : List ℕ) →
-      contains_text new.resolutions text ≡ (list_any (is_resolution text) locators || contains_text old.resolutions text)
+      contains_text new.resolutions text ≡ (list_any (is_resolution text) locators
+      || contains_text old.resolutions text)
   pub releases : (name version : List ℕ) →
-      contains_release new.releases name version ≡ (list_any (is_released_as name version) locators || contains_release old.releases name version)
+      contains_release new.releases name version ≡ (list_any (is_released_as name version) locators
+      || contains_release old.releases name version)
 
 -- the names of packages, and no others
 pub record AreNamesOf (names : Names) (locators : List PackageLocator) : Type 0 where
   pub resolutions : (text : List ℕ) → contains_text names.resolutions text ≡ list_any (is_resolution text) locators
-  pub releases : (name version : List ℕ) → contains_release names.releases name version ≡ list_any (is_released_as name version) locators
+  pub releases : (name version : List ℕ) → contains_release names.releases name version ≡ list_any
+      (is_released_as name version) locators

@@ -1,4 +1,5 @@
--- What an audit comes to on a tree, with its questions, as plain functions of the tree: the laws by which a reader checks the plan.
+-- What an audit comes to on a tree, with its questions, as plain functions of the tree: the laws by which a reader
+-- checks the plan.
 use Rattle.std.specs.Prelude.{◌≡◌, List, Option, Some, None, Result, Ok, Err, flat_map, option_map}
 use Rattle.std.specs.List.{filter_map}
 use Rattle.sugar_path.specs.Path.{Path}

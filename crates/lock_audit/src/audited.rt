@@ -28,7 +28,8 @@ pub struct Unused {
 /// What a lock says of all that a manifest binds.
 #[derive(Debug, Drop)]
 pub struct Audit {
-    /// The bindings that are refused, row by row in the registry's order, and within a row in the order of its bindings.
+    /// The bindings that are refused, row by row in the registry's order, and within a row in the order of its
+    /// bindings.
     pub findings: List<Finding>,
     /// The entries that name no package of the registry, in the lock's order.
     pub unused: List<Unused>,

@@ -13,7 +13,8 @@ use std::alloc::{AllocError, Global};
 use sugar_path::List;
 use tree_core::{Asker, ReadError};
 
-// The edges of a manifest that are refused, in their order. What package.jsons are read to is kept from one edge to the next.
+// The edges of a manifest that are refused, in their order. What package.jsons are read to is kept from one edge to the
+// next.
 pub(crate) fn findings_of<R: Asker>(
     alloc: Global,
     tree: &mut R,

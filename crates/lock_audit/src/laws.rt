@@ -12,7 +12,8 @@ pub fn edges_are_bindings()
     ensures { EdgesAreBindings }
 {}
 
-/// A binding is found exactly where the registry row or the lock row of the order of search, asked for its owner and its name,
+/// A binding is found exactly where the registry row or the lock row of the order of search, asked for its owner and
+/// its name,
 /// refuses, and it is found once.
 pub fn findings_are_refusals()
     ensures { FindingsAreRefusals }

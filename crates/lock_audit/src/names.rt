@@ -14,7 +14,8 @@ use std::collections::HashSet;
 use sugar_path::{Text, after};
 use yarn_lock_parser::Entry;
 
-// The texts that entries of a manifest's packages are resolved to, and the names of those of npm's registry with their versions,
+// The texts that entries of a manifest's packages are resolved to, and the names of those of npm's registry with their
+// versions,
 // as a lock of version 1 has them. Whether an entry names a package is looked up.
 #[derive(Drop)]
 pub(crate) struct Names<'m> {

@@ -13,7 +13,8 @@ fault_in (Ok a) = None
 fault_in (Err fault) = Some fault
 
 -- the first check that refuses the binding of a name that an owner asks for, where one does
-unfoldable pub binding_fault : Option Lock → Contents → PackageLocator → List ℕ → PackageLocator → Plan (Option EdgeFault)
+unfoldable pub binding_fault : Option Lock → Contents → PackageLocator → List ℕ → PackageLocator
+    → Plan (Option EdgeFault)
 binding_fault lock manifest owner name bound = do
   found ← checked_location lock manifest owner name bound
   Done (fault_in found)

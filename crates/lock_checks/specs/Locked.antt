@@ -12,8 +12,10 @@ use Rattle.lock_checks.specs.OnTree.{location_on, range_in_place_on}
 use Rattle.lock_checks.specs.Range.{is_within}
 use Rattle.lock_checks.specs.Reference.{is_npm, is_workspace}
 
--- An entry names the package; and of npm's packages the first such entry has a version that can be read and is within the range that the asking package declares on the tree, where it declares one.
-pub record IsLocked (t : Files) (lock : Lock) (manifest : Contents) (owner : PackageLocator) (name : List ℕ) (bound : PackageLocator) : Type 0 where
+-- An entry names the package; and of npm's packages the first such entry has a version that can be read and is within
+-- the range that the asking package declares on the tree, where it declares one.
+pub record IsLocked (t : Files) (lock : Lock) (manifest : Contents) (owner : PackageLocator) (name : List ℕ)
+    (bound : PackageLocator) : Type 0 where
   pub entry : Entry
   pub first : first_naming lock bound ≡ Some entry
   pub within : (range : Requirement) → is_npm bound.reference ≡ true
@@ -23,7 +25,8 @@ pub record IsLocked (t : Files) (lock : Lock) (manifest : Contents) (owner : Pac
 -- a binding that passes the checks is locked, unless it is to a package of the workspace
 abbrev pub PassesAsLocked : Type 0
 PassesAsLocked =
-    (t : Files) (lock : Lock) (manifest : Contents) (owner : PackageLocator) (name : List ℕ) (bound : PackageLocator) (location : List ℕ)
+    (t : Files) (lock : Lock) (manifest : Contents) (owner : PackageLocator) (name : List ℕ) (bound : PackageLocator)
+    (location : List ℕ)
     → (location_on t (Some lock) manifest owner name bound).result ≡ Ok location
     → is_workspace bound.reference ≡ false
     → IsLocked t lock manifest owner name bound

@@ -13,9 +13,11 @@ has_resolution entry name reference = bytes_eq entry.resolved (name ++ codes "@"
 abbrev pub has_release : Entry → List ℕ → List ℕ → Bool
 has_release entry name reference = bytes_eq entry.name name && bytes_eq reference (codes "npm:" ++ entry.version)
 
--- An entry of a lock of some version names a package by its name and plain reference: by its resolution, or in a lock of version 1 by its release.
+-- An entry of a lock of some version names a package by its name and plain reference: by its resolution, or in a lock
+-- of version 1 by its release.
 abbrev pub names : Entry → ℕ → List ℕ → List ℕ → Bool
-names entry version name reference = has_resolution entry name reference || ((version == 1) && has_release entry name reference)
+names entry version name reference =
+    has_resolution entry name reference || ((version == 1) && has_release entry name reference)
 
 -- an entry names a locator, whose reference is read without its virtual part
 abbrev pub names_locator : Entry → ℕ → PackageLocator → Bool

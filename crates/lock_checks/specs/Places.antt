@@ -1,5 +1,21 @@
 -- Where something stands first in a list. What indexes a lock keeps this; no promise of a call reads it.
-use Rattle.std.specs.Prelude.{ℕ, suc, Bool, ◌==◌, ◌&&◌, if◌then◌else◌, List, [], ◌∷◌, Option, Some, None, bytes_eq, min, option_map}
+use Rattle.std.specs.Prelude.{
+  ℕ,
+  suc,
+  Bool,
+  ◌==◌,
+  ◌&&◌,
+  if◌then◌else◌,
+  List,
+  [],
+  ◌∷◌,
+  Option,
+  Some,
+  None,
+  bytes_eq,
+  min,
+  option_map,
+}
 use Rattle.yarn_lock_parser.specs.Entry.{Entry}
 
 -- the place of the first element that passes a test
@@ -15,4 +31,5 @@ earlier (Some i) (Some j) = Some (min i j)
 
 -- an entry of a lock of version 1 has this name and version
 abbrev pub is_released_as : ℕ → List ℕ → List ℕ → Entry → Bool
-is_released_as lock_version name version entry = (lock_version == 1) && (bytes_eq name entry.name && bytes_eq version entry.version)
+is_released_as lock_version name version entry =
+    (lock_version == 1) && (bytes_eq name entry.name && bytes_eq version entry.version)

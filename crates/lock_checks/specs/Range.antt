@@ -1,6 +1,23 @@
 -- The range of versions that a package's own package.json declares under a name.
 -- A `do` here is over plans: a plan puts its questions, and the next one goes on by what it came to.
-use Rattle.std.specs.Prelude.{ℕ, Bool, false, if◌then◌else◌, is_some, List, ◌∷◌, Option, Some, None, Result, Ok, Err, bytes_eq, codes, option_and_then}
+use Rattle.std.specs.Prelude.{
+  ℕ,
+  Bool,
+  false,
+  if◌then◌else◌,
+  is_some,
+  List,
+  ◌∷◌,
+  Option,
+  Some,
+  None,
+  Result,
+  Ok,
+  Err,
+  bytes_eq,
+  codes,
+  option_and_then,
+}
 use Rattle.std.specs.Map.{lookup}
 use Rattle.std.specs.Option.{option_map_or}
 use Rattle.std.specs.Str.Lossy.{utf8_lossy}
@@ -38,11 +55,13 @@ abbrev pub range_under : List ℕ → Package → Option Requirement
 range_under name says = range_among name (requirements_of says)
 
 -- a package.json that can't be read refuses the binding
-abbrev pub range_or_malformed : Path → List ℕ → Result Package PackageJsonLoadError → Result (Option Requirement) EdgeFault
+abbrev pub range_or_malformed : Path → List ℕ → Result Package PackageJsonLoadError
+    → Result (Option Requirement) EdgeFault
 range_or_malformed file name (Ok says) = Ok (range_under name says)
 range_or_malformed file name (Err fault) = Err (MalformedPackage (text_of file))
 
--- the range that the bytes of a package.json declare, with U+FFFD for what is no UTF-8. A file that isn't there declares none.
+-- the range that the bytes of a package.json declare, with U+FFFD for what is no UTF-8. A file that isn't there
+-- declares none.
 abbrev pub range_in_content : Path → List ℕ → Option (List ℕ) → Result (Option Requirement) EdgeFault
 range_in_content file name None = Ok None
 range_in_content file name (Some bytes) = range_or_malformed file name (from_text (text_of file) (utf8_lossy bytes))

@@ -9,7 +9,8 @@ behind_mark (c ∷ cs) = if c == 35 then Some cs else behind_mark cs
 
 -- A reference without its virtual part, which ends at the first `#`; a virtual one that has no `#` stays as it is.
 abbrev pub plain_reference : List ℕ → List ℕ
-plain_reference reference = if starts_with nat_eq reference (codes "virtual:") then unwrap_or (behind_mark reference) reference else reference
+plain_reference reference =
+    if starts_with nat_eq reference (codes "virtual:") then unwrap_or (behind_mark reference) reference else reference
 
 -- a package of the workspace
 abbrev pub is_workspace : List ℕ → Bool

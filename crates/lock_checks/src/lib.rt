@@ -1,4 +1,5 @@
-//! Whether a lock allows what a manifest binds: the entry that names a package, and the range that the asking package declares.
+//! Whether a lock allows what a manifest binds: the entry that names a package, and the range that the asking package
+//! declares.
 #![tactic(auto)]
 
 mod binding;

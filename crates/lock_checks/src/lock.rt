@@ -14,7 +14,8 @@ use yarn_lock_parser::{Entry, Lockfile};
 #[derive(Drop)]
 pub struct Lock<'l> {
     file: Lockfile<'l>,
-    // Where each resolution stands first, and in a lock of version 1 each name with its version. A look-up goes over no entry.
+    // Where each resolution stands first, and in a lock of version 1 each name with its version. A look-up goes over no
+    // entry.
     resolutions: HashMap<&'l str, usize>,
     releases: HashMap<(&'l str, &'l str), usize>,
 }

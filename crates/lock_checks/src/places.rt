@@ -26,7 +26,8 @@ pub(crate) fn places_of_resolutions<'l>(
     Ok(places)
 }
 
-// By name and version, the place of the first entry of a lock that is released so. Only locks of version 1 have releases.
+// By name and version, the place of the first entry of a lock that is released so. Only locks of version 1 have
+// releases.
 pub(crate) fn places_of_releases<'l>(
     alloc: Global,
     lock_version: u8,

@@ -5,7 +5,16 @@ ghost use Rattle.tree_core.specs.Resolving.{Resolves, IsDecided};
 ghost use Rattle.npm_req.specs.Requirement.{tag_of};
 ghost use Rattle.pnp_core.specs.Manifest.{location_of};
 ghost use Rattle.lock_checks.specs.Borrowed.{borrowed_if_any};
-ghost use Rattle.lock_checks.specs.Range.{declared_range, range_among, range_in_content, range_in_folder, range_of, is_within, unless_tag, within};
+ghost use Rattle.lock_checks.specs.Range.{
+  declared_range,
+  range_among,
+  range_in_content,
+  range_in_folder,
+  range_of,
+  is_within,
+  unless_tag,
+  within,
+};
 
 use crate::{Edge, EdgeFault};
 use deno_package_json::{PackageJsonDepValue, PackageJsonDepValueParseError};

@@ -74,7 +74,8 @@ fn told(alloc: Global, fault: Option<EdgeFault>) -> Result<String, AllocError> {
     }
 }
 
-// The package that asks, the name that it asks for, the package that this is bound to, and what comes of it, on each line.
+// The package that asks, the name that it asks for, the package that this is bound to, and what comes of it, on each
+// line.
 fn bindings_by_later_lock() -> &'static str {
     "app@workspace:. lodash lodash@npm:4.17.20 = 4.17.20 out of [^4.17.21]
 app@workspace:. lodash lodash@virtual:ab#npm:4.17.20 = 4.17.20 out of [^4.17.21]

@@ -1,5 +1,25 @@
 -- How a word is found, one byte at a time.
-use Rattle.std.proofs.Common.{◌≡◌, ◌<◌, ◌+◌, ℕ, suc, false, List, ◌∷◌, ◌++◌, length, take, drop, get_or, refl, ap, ◌∙◌, append_assoc, add-one, drop-cons}
+use Rattle.std.proofs.Common.{
+  ◌≡◌,
+  ◌<◌,
+  ◌+◌,
+  ℕ,
+  suc,
+  false,
+  List,
+  ◌∷◌,
+  ◌++◌,
+  length,
+  take,
+  drop,
+  get_or,
+  refl,
+  ap,
+  ◌∙◌,
+  append_assoc,
+  add-one,
+  drop-cons,
+}
 use Rattle.std.proofs.Math.Seq.{take-suc}
 use Rattle.npm_req.specs.Word.{after_word, ends_part, word}
 
@@ -13,7 +33,8 @@ after_word-byte c cs h = rw h refl
 abbrev pub IsWithinWord : List ℕ → ℕ → Type 0
 IsWithinWord t i = (word t ≡ take i t ++ word (drop i t)) × (after_word t ≡ after_word (drop i t))
 
-pub word_goes_on : (t : List ℕ) (i : ℕ) → i < length t → IsWithinWord t i → ends_part (drop i t) ≡ false → IsWithinWord t (i + 1)
+pub word_goes_on : (t : List ℕ) (i : ℕ) → i < length t → IsWithinWord t i → ends_part (drop i t) ≡ false
+    → IsWithinWord t (i + 1)
 word_goes_on t i h within goes_on =
     let split = drop-cons t i 0 h in
     let other = rw split at goes_on in

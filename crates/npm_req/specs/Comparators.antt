@@ -23,7 +23,8 @@ end_of_minor a b = if a == 0 then first_of 0 (b + 1) 0 else first_of (a + 1) 0 0
 
 -- where `^` ends behind three numbers: the leftmost one that isn't 0 stays
 abbrev pub end_of_patch : ℕ → ℕ → ℕ → Parts
-end_of_patch a b c = if a == 0 then (if b == 0 then first_of 0 0 (c + 1) else first_of 0 (b + 1) 0) else first_of (a + 1) 0 0
+end_of_patch a b c =
+    if a == 0 then (if b == 0 then first_of 0 0 (c + 1) else first_of 0 (b + 1) 0) else first_of (a + 1) 0 0
 
 -- from the first bound on, and before the second
 abbrev pub between : Parts → Parts → List Comparator

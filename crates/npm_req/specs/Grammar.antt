@@ -1,4 +1,5 @@
--- The grammar of npm's versions and ranges: relations between a text and what it stands for. Those of parts and alternatives are between a text
+-- The grammar of npm's versions and ranges: relations between a text and what it stands for. Those of parts and
+-- alternatives are between a text
 -- and what is left of it too: the text begins with such a thing, and the rest follows.
 use Rattle.std.specs.Prelude.{◌≡◌, ◌⊎◌, ◌++◌, ◌↔◌, ◌<◌, ℕ, true, List, [], ◌∷◌, Option, Some, None, Ok, codes, length}
 use Rattle.std.specs.List.{list_all}
@@ -54,13 +55,16 @@ pub data Component : List ℕ → Option ℕ → Type 0 where
 -- one to three components; a missing one counts as an x
 pub data Components : List (List ℕ) → Partial → Type 0 where
   one : {a : List ℕ} {x : Option ℕ} → Component a x → Components (a ∷ []) (of_components x None None)
-  two : {a b : List ℕ} {x y : Option ℕ} → Component a x → Component b y → Components (a ∷ b ∷ []) (of_components x y None)
-  three : {a b c : List ℕ} {x y z : Option ℕ} → Component a x → Component b y → Component c z → Components (a ∷ b ∷ c ∷ []) (of_components x y z)
+  two : {a b : List ℕ} {x y : Option ℕ} → Component a x → Component b y
+      → Components (a ∷ b ∷ []) (of_components x y None)
+  three : {a b c : List ℕ} {x y z : Option ℕ} → Component a x → Component b y → Component c z
+      → Components (a ∷ b ∷ c ∷ []) (of_components x y z)
 
 -- a partial version: a text of Semantic Versioning, whose build is dropped, or else components between dots
 pub data PartialVersion : List ℕ → Partial → Type 0 where
   whole : {t : List ℕ} {v : Parts} → IsSemver t v → PartialVersion t (Full (without_build v))
-  in_components : {t : List ℕ} {p : Partial} → ((v : Parts) → ¬ (IsSemver t v)) → Components (parts t) p → PartialVersion t p
+  in_components : {t : List ℕ} {p : Partial} → ((v : Parts) → ¬ (IsSemver t v)) → Components (parts t) p
+      → PartialVersion t p
 
 -- an operator; nothing counts as `=`
 pub data Mark : List ℕ → Operator → Type 0 where
@@ -93,7 +97,8 @@ pub record IsPart (t rest : List ℕ) (cs : List Comparator) : Type 0 where
 -- parts one after the other up to where an alternative ends, spaces between them
 pub data IsParts : List ℕ → List ℕ → List Comparator → Type 0 where
   no_more : {rest : List ℕ} → ends_alternative rest ≡ true → IsParts rest rest []
-  further : {t s rest : List ℕ} {cs ds : List Comparator} → IsPart t s cs → IsParts (after_all is_space s) rest ds → IsParts t rest (cs ++ ds)
+  further : {t s rest : List ℕ} {cs ds : List Comparator} → IsPart t s cs → IsParts (after_all is_space s) rest ds
+      → IsParts t rest (cs ++ ds)
 
 -- two partial versions around spaces, `-` and spaces, up to where an alternative ends: both ends belong to it
 pub record IsHyphen (t rest : List ℕ) (cs : List Comparator) : Type 0 where
@@ -122,7 +127,8 @@ pub data IsAlternative : List ℕ → List ℕ → List Comparator → Type 0 wh
 -- a range: alternatives between `||`
 pub data IsRange : List ℕ → List (List Comparator) → Type 0 where
   last : {t : List ℕ} {cs : List Comparator} → IsAlternative (after_all is_space t) [] cs → IsRange t (cs ∷ [])
-  and_next : {t next : List ℕ} {cs : List Comparator} {others : List (List Comparator)} → IsAlternative (after_all is_space t) (codes "||" ++ next) cs → IsRange next others → IsRange t (cs ∷ others)
+  and_next : {t next : List ℕ} {cs : List Comparator} {others : List (List Comparator)}
+      → IsAlternative (after_all is_space t) (codes "||" ++ next) cs → IsRange next others → IsRange t (cs ∷ others)
 
 -- a text of Semantic Versioning is read exactly where the grammar has it
 abbrev pub SemversAgree : Type 0

@@ -40,7 +40,8 @@ abbrev pub names_pre_release : Parts → Comparator → Bool
 names_pre_release v Never = false
 names_pre_release v (Bound relation w) = (w.0 == v.0) && (w.1 == v.1) && (w.2 == v.2) && is_pre_release w
 
--- a version meets comparators where it is within them all; a pre-release does so only where one of them names one of its three numbers
+-- a version meets comparators where it is within them all; a pre-release does so only where one of them names one of
+-- its three numbers
 abbrev pub meets_all : Parts → List Comparator → Bool
 meets_all v cs = list_all (is_within v) cs && (not (is_pre_release v) || list_any (names_pre_release v) cs)
 

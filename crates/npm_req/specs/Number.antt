@@ -1,4 +1,5 @@
--- The numbers of npm's versions: `0`, or digits without a leading zero, at most the largest integer that JavaScript counts exactly.
+-- The numbers of npm's versions: `0`, or digits without a leading zero, at most the largest integer that JavaScript
+-- counts exactly.
 use Rattle.std.specs.Prelude.{ℕ, ◌+◌, ◌-◌, ◌*◌, Bool, ◌&&◌, nat_le, if◌then◌else◌, List, [], ◌∷◌, Option, Some, None}
 use Rattle.semver.specs.Order.{is_numeric}
 use Rattle.semver.specs.Grammar.{has_leading_zero}

@@ -13,7 +13,8 @@ use Rattle.npm_req.specs.declared.error.Refusal.{Refusal}
 use Rattle.npm_req.specs.declared.error.Refusal.TheVariants.{Unexpected, NoMemory}
 use Rattle.npm_req.specs.declared.partial.Partial.{Partial}
 
--- what is read at the front of a text with what follows it, or how many bytes are left where the first part or partial version begins that doesn't read
+-- what is read at the front of a text with what follows it, or how many bytes are left where the first part or partial
+-- version begins that doesn't read
 abbrev pub Reading : Type 0 → Type 0
 Reading A = Result (A × List ℕ) ℕ
 
@@ -46,7 +47,8 @@ part_with t operator (Some partial) rest = Ok (comparators operator partial, res
 
 -- the comparators of the part in front
 unfoldable pub part : List ℕ → Reading (List Comparator)
-part t = let from = after_sign (operator_of t).1 in part_with t (operator_of t).0 (partial_of (word from)) (after_word from)
+part t =
+    let from = after_sign (operator_of t).1 in part_with t (operator_of t).0 (partial_of (word from)) (after_word from)
 
 -- why nothing was read: memory ran out, or this is where it doesn't read
 abbrev pub Refuses : {A : Type 0} → Result A ℕ → Refusal → Type 0

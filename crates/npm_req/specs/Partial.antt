@@ -1,5 +1,20 @@
 -- Partial versions: a version, or one to three components, each a number or an x.
-use Rattle.std.specs.Prelude.{ℕ, ◌≤◌, Bool, false, ◌==◌, ◌||◌, if◌then◌else◌, List, [], ◌∷◌, Option, Some, None, option_map}
+use Rattle.std.specs.Prelude.{
+  ℕ,
+  ◌≤◌,
+  Bool,
+  false,
+  ◌==◌,
+  ◌||◌,
+  if◌then◌else◌,
+  List,
+  [],
+  ◌∷◌,
+  Option,
+  Some,
+  None,
+  option_map,
+}
 use Rattle.std.specs.Option.{option_or}
 use Rattle.semver.specs.Parse.{Parts}
 use Rattle.semver.specs.Order.{parts}

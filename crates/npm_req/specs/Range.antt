@@ -1,6 +1,25 @@
 -- Ranges: alternatives between `||`, each empty, two partial versions around `-`, or parts between spaces.
 -- A `>>=` here is over results: it goes on with what a part gives, and ends by the first place that doesn't read.
-use Rattle.std.specs.Prelude.{ℕ, zero, suc, if◌then◌else◌, List, [], ◌∷◌, ◌++◌, length, Option, Some, None, option_and_then, option_map, Result, Ok, Err, codes}
+use Rattle.std.specs.Prelude.{
+  ℕ,
+  zero,
+  suc,
+  if◌then◌else◌,
+  List,
+  [],
+  ◌∷◌,
+  ◌++◌,
+  length,
+  Option,
+  Some,
+  None,
+  option_and_then,
+  option_map,
+  Result,
+  Ok,
+  Err,
+  codes,
+}
 use Rattle.sugar_path.specs.Front.{after}
 pub use Rattle.sugar_path.specs.Results.{◌>>=◌}
 use Rattle.npm_req.specs.Comparators.{comparators}
@@ -21,15 +40,18 @@ parts_of (suc n) t =
     parts_of n (after_all is_space first.1) >>= λ others.
     Ok (first.0 ++ others.0, others.1))
 
--- where the second partial version of a form with `-` begins, from what follows the first: behind spaces, `-` and one space or more
+-- where the second partial version of a form with `-` begins, from what follows the first: behind spaces, `-` and one
+-- space or more
 abbrev pub after_hyphen : List ℕ → Option (List ℕ)
-after_hyphen t = option_map (after_all is_space) (option_and_then (after (codes " ")) (after (codes "-") (after_all is_space t)))
+after_hyphen t =
+    option_map (after_all is_space) (option_and_then (after (codes " ")) (after (codes "-") (after_all is_space t)))
 
 -- both ends of a form with `-`, where the second one is a partial version and ends the alternative
 abbrev pub up_to : Partial → List ℕ → Option Partial → List ℕ → Reading (List Comparator)
 up_to low t None rest = Err (length t)
 up_to low t (Some high) rest =
-    if ends_alternative rest then Ok (comparators op.AtLeast low ++ comparators op.AtMost high, rest) else Err (length rest)
+    if ends_alternative rest then Ok (comparators op.AtLeast low ++ comparators op.AtMost high, rest) else Err
+    (length rest)
 
 -- a form with `-`, from its second partial version on: both ends belong to it
 unfoldable pub hyphen_of : Partial → List ℕ → Reading (List Comparator)
@@ -40,14 +62,16 @@ abbrev pub alternative_with : List ℕ → Option (List ℕ) → Option Partial 
 alternative_with t (Some second) (Some low) = hyphen_of low second
 alternative_with t second first = parts_of (length t) t
 
--- the alternative in front: what begins with a partial version, spaces, `-` and a space is a form with `-`; all else is parts, or empty
+-- the alternative in front: what begins with a partial version, spaces, `-` and a space is a form with `-`; all else is
+-- parts, or empty
 unfoldable pub alternative : List ℕ → Reading (List Comparator)
 alternative t =
     let from = after_all is_space t in
     alternative_with from (after_hyphen (after_word from)) (partial_of (word from))
 
 -- the first alternative, and the others where a `||` follows it
-abbrev pub and_others : List Comparator → Option (List ℕ) → (List ℕ → Result (List (List Comparator)) ℕ) → Result (List (List Comparator)) ℕ
+abbrev pub and_others : List Comparator → Option (List ℕ) → (List ℕ → Result (List (List Comparator)) ℕ)
+    → Result (List (List Comparator)) ℕ
 and_others first None others = Ok (first ∷ [])
 and_others first (Some rest) others = others rest >>= λ read. Ok (first ∷ read)
 

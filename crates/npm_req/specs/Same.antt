@@ -65,8 +65,12 @@ same_relation-Decides r s = (same_relation-is r s, λ e. ap (same_relation r) (s
 -- two versions are equal exactly where the test says so
 abbrev pub same_version-Decides : (v w : Parts) → Decides (same_version v w) (v ≡ w)
 same_version-Decides v w =
-    let each = Decides-and _ _ (unsigned_Decides v.0 w.0) (Decides-and _ _ (unsigned_Decides v.1 w.1) (Decides-and _ _ (unsigned_Decides v.2 w.2) (Decides-and _ _ (bytes_decides v.3 w.3) (bytes_decides v.4 w.4)))) in
-    (λ e. let h = each.0 e in (λ i. (h.0 i, h.1.0 i, h.1.1.0 i, h.1.1.1.0 i, h.1.1.1.1 i)), λ e. each.1 (ap (λ p. p.0) e, (ap (λ p. p.1) e, (ap (λ p. p.2) e, (ap (λ p. p.3) e, ap (λ p. p.4) e)))))
+    let each = Decides-and _ _ (unsigned_Decides v.0 w.0) (Decides-and _ _ (unsigned_Decides v.1 w.1)
+    (Decides-and _ _ (unsigned_Decides v.2 w.2) (Decides-and _ _ (bytes_decides v.3 w.3)
+    (bytes_decides v.4 w.4)))) in (
+      λ e. let h = each.0 e in (λ i. (h.0 i, h.1.0 i, h.1.1.0 i, h.1.1.1.0 i, h.1.1.1.1 i)),
+      λ e. each.1 (ap (λ p. p.0) e, (ap (λ p. p.1) e, (ap (λ p. p.2) e, (ap (λ p. p.3) e, ap (λ p. p.4) e)))),
+    )
 
 pub same_comparator-Decides : (c d : Comparator) → Decides (same_comparator c d) (c ≡ d)
 same_comparator-Decides Never Never = (λ e. refl, λ e. refl)

@@ -1,5 +1,19 @@
 -- The words of a range: what stands up to a space, `||` or the end of the text.
-use Rattle.std.specs.Prelude.{ℕ, Bool, true, ◌==◌, ◌||◌, if◌then◌else◌, List, [], ◌∷◌, Option, is_some, option_and_then, codes}
+use Rattle.std.specs.Prelude.{
+  ℕ,
+  Bool,
+  true,
+  ◌==◌,
+  ◌||◌,
+  if◌then◌else◌,
+  List,
+  [],
+  ◌∷◌,
+  Option,
+  is_some,
+  option_and_then,
+  codes,
+}
 use Rattle.sugar_path.specs.Front.{after}
 
 -- what follows `||`

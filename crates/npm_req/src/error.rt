@@ -26,7 +26,8 @@ impl From<AllocError> for NpmVersionParseError {
 /// Why a text gives no requirement.
 #[derive(Clone, Copy, Debug, PartialEq, Eq, Error)]
 pub enum NpmVersionReqParseError {
-    /// The text is neither a range nor a tag. The place counts the bytes before the first part or partial version that doesn't read.
+    /// The text is neither a range nor a tag. The place counts the bytes before the first part or partial version that
+    /// doesn't read.
     #[error("Invalid npm version requirement. Unexpected character.")]
     Unexpected { place: usize },
     #[error("out of memory")]

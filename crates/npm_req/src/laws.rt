@@ -1,7 +1,8 @@
 // Laws of the reading, each proved for all texts.
 ghost use Rattle.npm_req.specs.Grammar.{PartialsAgree, PartsAgree, RangesAgree, SemversAgree, VersionsAgree};
 
-/// A text of Semantic Versioning is read exactly where the grammar of the crate `semver` has it, with numbers that npm can count.
+/// A text of Semantic Versioning is read exactly where the grammar of the crate `semver` has it, with numbers that npm
+/// can count.
 pub fn semvers_agree()
     ensures { SemversAgree }
 {}

@@ -1,4 +1,5 @@
-//! Versions and version ranges as npm reads them: which texts are versions, which are ranges or tags, and which version meets a range.
+//! Versions and version ranges as npm reads them: which texts are versions, which are ranges or tags, and which version
+//! meets a range.
 #![tactic(auto)]
 
 mod comparator;

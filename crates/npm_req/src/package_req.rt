@@ -17,7 +17,8 @@ pub struct PackageReq {
 }
 
 impl PackageReq {
-    /// Reads `name@range`. The name ends at the last `@` that isn't the first byte; where there is none, the requirement is `*`.
+    /// Reads `name@range`. The name ends at the last `@` that isn't the first byte; where there is none, the
+    /// requirement is `*`.
     pub fn from_str(alloc: Global, text: &str) -> Result<PackageReq, PackageReqParseError>
         ensures name { IfOk result (λ made. made.name ≡ (name_and_range text.now).0) }
         ensures text { IfOk result (λ made. made.version_req.text ≡ (name_and_range text.now).1) }
@@ -39,7 +40,8 @@ impl PackageReq {
     }
 }
 
-/// The name and the requirement of `name@range`, as they stand: the name reaches to the last `@` behind its first byte, and without one
+/// The name and the requirement of `name@range`, as they stand: the name reaches to the last `@` behind its first byte,
+/// and without one
 /// the requirement is `*`.
 pub fn name_and_range(text: &str) -> (&str, &str)
     ensures { (result.0.now, result.1.now) ≡ name_and_range text.now }

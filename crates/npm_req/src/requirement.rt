@@ -2,7 +2,16 @@
 ghost use Rattle.std.specs.Prelude.{◌≡◌, ◌==◌, None, IfOk, IfErr, option_map};
 ghost use Rattle.std.specs.List.{list_all};
 ghost use Rattle.npm_req.specs.Meets.{meets};
-ghost use Rattle.npm_req.specs.Requirement.{IsPlaceIn, IsRefused, is_tag, is_tag_byte, meaning_of, meets_meaning, place_of, tag_of};
+ghost use Rattle.npm_req.specs.Requirement.{
+  IsPlaceIn,
+  IsRefused,
+  is_tag,
+  is_tag_byte,
+  meaning_of,
+  meets_meaning,
+  place_of,
+  tag_of,
+};
 
 use crate::comparator::Comparator;
 use crate::error::{NpmVersionReqParseError, Refusal};
@@ -46,7 +55,8 @@ impl PartialEq for VersionReq {
 
     ghost laws = { partial_equiv_from_equiv same_requirement-equivalence };
 
-    /// Two requirements are equal where their comparators, alternative by alternative, or their tags are equal, however they are written.
+    /// Two requirements are equal where their comparators, alternative by alternative, or their tags are equal, however
+    /// they are written.
     fn eq(&self, other: &Self) -> bool {
         match (&self.meaning, &other.meaning) {
             (Meaning::Range(a), Meaning::Range(b)) => a == b,

@@ -1,5 +1,29 @@
 -- Of keys that fit, which is before which.
-use Rattle.std.proofs.Common.{◌≡◌, ◌≢◌, ◌==◌, ◌<◌, ◌≤◌, ◌⊎◌, inl, inr, ℕ, suc, Bool, true, false, cond, length, Option, Some, None, refl, sym, ap, ◌∙◌, arith}
+use Rattle.std.proofs.Common.{
+  ◌≡◌,
+  ◌≢◌,
+  ◌==◌,
+  ◌<◌,
+  ◌≤◌,
+  ◌⊎◌,
+  inl,
+  inr,
+  ℕ,
+  suc,
+  Bool,
+  true,
+  false,
+  cond,
+  length,
+  Option,
+  Some,
+  None,
+  refl,
+  sym,
+  ap,
+  ◌∙◌,
+  arith,
+}
 use Rattle.std.proofs.Math.Dec.{leb}
 use Rattle.std.proofs.lemmas.Bool.Decides.{eqb_tells, leb_tells}
 use Rattle.package_exports.specs.Exported.{Fit, is_before, first_of}
@@ -9,11 +33,13 @@ abbrev Ahead : Fit → Fit → Type 0
 Ahead f g = (length g.before < length f.before) ⊎ ((length f.before ≡ length g.before) × (length g.key < length f.key))
 
 abbrev NotAhead : Fit → Fit → Type 0
-NotAhead f g = (length f.before < length g.before) ⊎ ((length f.before ≡ length g.before) × (length f.key ≤ length g.key))
+NotAhead f g =
+    (length f.before < length g.before) ⊎ ((length f.before ≡ length g.before) × (length f.key ≤ length g.key))
 
 -- the order says which of two keys is before the other
 tells : (f g : Fit) → ((is_before f g ≡ true) × Ahead f g) ⊎ ((is_before f g ≡ false) × NotAhead f g)
-tells f g = by_length (eqb_tells (length f.before) (length g.before)) (leb_tells (suc (length g.key)) (length f.key)) (leb_tells (suc (length g.before)) (length f.before))
+tells f g = by_length (eqb_tells (length f.before) (length g.before)) (leb_tells (suc (length g.key)) (length f.key))
+    (leb_tells (suc (length g.before)) (length f.before))
   where
     a : ℕ
     a = length f.before
@@ -30,11 +56,16 @@ tells f g = by_length (eqb_tells (length f.before) (length g.before)) (leb_tells
     by_length : ((a == b) ≡ true) × (a ≡ b) ⊎ ((a == b) ≡ false) × (a ≢ b)
         → ((leb (suc l) k ≡ true) × (suc l ≤ k)) ⊎ ((leb (suc l) k ≡ false) × (k < suc l))
         → ((leb (suc b) a ≡ true) × (suc b ≤ a)) ⊎ ((leb (suc b) a ≡ false) × (a < suc b))
-        → ((cond (a == b) (leb (suc l) k) (leb (suc b) a) ≡ true) × Ahead f g) ⊎ ((cond (a == b) (leb (suc l) k) (leb (suc b) a) ≡ false) × NotAhead f g)
-    by_length (inl s) (inl w) v = inl (ap (λ x. cond x (leb (suc l) k) (leb (suc b) a)) s.0 ∙ w.0, inr (s.1, omega (arith, w.1)))
-    by_length (inl s) (inr w) v = inr (ap (λ x. cond x (leb (suc l) k) (leb (suc b) a)) s.0 ∙ w.0, inr (s.1, omega (arith, w.1)))
-    by_length (inr s) w (inl v) = inl (ap (λ x. cond x (leb (suc l) k) (leb (suc b) a)) s.0 ∙ v.0, inl (omega (arith, v.1)))
-    by_length (inr s) w (inr v) = inr (ap (λ x. cond x (leb (suc l) k) (leb (suc b) a)) s.0 ∙ v.0, inl (omega (arith, v.1, s.1)))
+        → ((cond (a == b) (leb (suc l) k) (leb (suc b) a) ≡ true) × Ahead f g)
+        ⊎ ((cond (a == b) (leb (suc l) k) (leb (suc b) a) ≡ false) × NotAhead f g)
+    by_length (inl s) (inl w) v =
+        inl (ap (λ x. cond x (leb (suc l) k) (leb (suc b) a)) s.0 ∙ w.0, inr (s.1, omega (arith, w.1)))
+    by_length (inl s) (inr w) v =
+        inr (ap (λ x. cond x (leb (suc l) k) (leb (suc b) a)) s.0 ∙ w.0, inr (s.1, omega (arith, w.1)))
+    by_length (inr s) w (inl v) =
+        inl (ap (λ x. cond x (leb (suc l) k) (leb (suc b) a)) s.0 ∙ v.0, inl (omega (arith, v.1)))
+    by_length (inr s) w (inr v) =
+        inr (ap (λ x. cond x (leb (suc l) k) (leb (suc b) a)) s.0 ∙ v.0, inl (omega (arith, v.1, s.1)))
 
 ahead : (f g : Fit) → is_before f g ≡ true → Ahead f g
 ahead f g e = elim (tells f g) [ inl w ↦ w.1 | inr w ↦ let no : true ≡ false = sym e ∙ w.0 in cc ]
@@ -118,14 +149,16 @@ first_of-one (Some g) (Some h) f e = by_order (is_before h g) e
     by_order false e = inl e
 
 -- and neither is before it
-pub first_of-least : (a b : Option Fit) (f g : Fit) → first_of a b ≡ Some f → (a ≡ Some g) ⊎ (b ≡ Some g) → is_before g f ≡ false
+pub first_of-least : (a b : Option Fit) (f g : Fit) → first_of a b ≡ Some f → (a ≡ Some g) ⊎ (b ≡ Some g)
+    → is_before g f ≡ false
 first_of-least None b f g e (inl h) = cc
 first_of-least None b f g e (inr h) = let same : g ≡ f = cc in ap (λ x. is_before x f) same ∙ not-before-itself f
 first_of-least (Some p) None f g e (inl h) = let same : g ≡ f = cc in ap (λ x. is_before x f) same ∙ not-before-itself f
 first_of-least (Some p) None f g e (inr h) = cc
 first_of-least (Some p) (Some q) f g e which = by_order (is_before q p) refl e which
   where
-    by_order : (x : Bool) → is_before q p ≡ x → cond x (Some q) (Some p) ≡ Some f → (Some p ≡ Some g) ⊎ (Some q ≡ Some g) → is_before g f ≡ false
+    by_order : (x : Bool) → is_before q p ≡ x → cond x (Some q) (Some p) ≡ Some f → (Some p ≡ Some g)
+        ⊎ (Some q ≡ Some g) → is_before g f ≡ false
     by_order true is e (inl h) =
         let here : p ≡ g = cc in let there : q ≡ f = cc in
         ap (λ x. is_before x f) (sym here) ∙ ap (is_before p) (sym there) ∙ before-behind q p is

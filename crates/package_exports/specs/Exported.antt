@@ -1,8 +1,42 @@
--- Which file of a package a subpath means by the field `exports` of Node's packages. Conditions are taken in the order in which they are given, and `default` counts only where it is given; Node takes an object's members in the object's order, and always counts `default`.
-use Rattle.std.specs.Prelude.{ℕ, ◌==◌, Bool, if◌then◌else◌, nat_eq, nat_lt, bytes_eq, length, List, [], ◌∷◌, codes, Option, Some, None, option_map, option_and_then}
+-- Which file of a package a subpath means by the field `exports` of Node's packages. Conditions are taken in the order
+-- in which they are given, and `default` counts only where it is given; Node takes an object's members in the object's
+-- order, and always counts `default`.
+use Rattle.std.specs.Prelude.{
+  ℕ,
+  ◌==◌,
+  Bool,
+  if◌then◌else◌,
+  nat_eq,
+  nat_lt,
+  bytes_eq,
+  length,
+  List,
+  [],
+  ◌∷◌,
+  codes,
+  Option,
+  Some,
+  None,
+  option_map,
+  option_and_then,
+}
 use Rattle.std.specs.List.{starts_with}
 use Rattle.std.specs.Option.{option_or}
-use Rattle.serde_json.specs.Data.{Data, null, boolean, number, string, array, object, Items, no_items, item, Members, no_members, member}
+use Rattle.serde_json.specs.Data.{
+  Data,
+  null,
+  boolean,
+  number,
+  string,
+  array,
+  object,
+  Items,
+  no_items,
+  item,
+  Members,
+  no_members,
+  member,
+}
 use Rattle.serde_json.specs.Find.{get_member}
 use Rattle.star_texts.specs.Star.{has_star, around_only_star, rest_between, replaced}
 
@@ -22,7 +56,8 @@ abbrev pub by_conditions : List (List ℕ) → List (List ℕ × Option (List �
 by_conditions [] ts = None
 by_conditions (condition ∷ conditions) ts = option_or (under condition ts) (by_conditions conditions ts)
 
--- A text is its own target, a list has that of its first member that has one, and an object that under the first condition, in the project's order, that has one. Any other value has none.
+-- A text is its own target, a list has that of its first member that has one, and an object that under the first
+-- condition, in the project's order, that has one. Any other value has none.
 abbrev mutual
   pub target : List (List ℕ) → Data → Option (List ℕ)
   target conditions null = None
@@ -64,7 +99,8 @@ fit_around subpath key value parts =
 abbrev pub fit_of : List ℕ → List ℕ → Data → Option Fit
 fit_of subpath key value = option_and_then (fit_around subpath key value) (around_only_star key)
 
--- Of two keys that fit, the one with the longer text before its `*` is before the other, and of two with texts of one length there the longer key.
+-- Of two keys that fit, the one with the longer text before its `*` is before the other, and of two with texts of one
+-- length there the longer key.
 abbrev pub is_before : Fit → Fit → Bool
 is_before f g =
     if length f.before == length g.before then nat_lt (length g.key) (length f.key)
@@ -91,7 +127,8 @@ by_own_key found = option_map (λ d. record { value = d; rest = None }) found
 abbrev pub by_fit : Option Fit → Option Decided
 by_fit found = option_map (λ f. record { value = f.value; rest = Some f.rest }) found
 
--- A subpath without `*` is decided by its own key where `exports` has that; else the key with a `*` decides that fits and that no other is before.
+-- A subpath without `*` is decided by its own key where `exports` has that; else the key with a `*` decides that fits
+-- and that no other is before.
 abbrev pub deciding : Members → List ℕ → Option Decided
 deciding exports subpath =
     if has_star subpath then by_fit (first_fit subpath exports)

@@ -1,7 +1,21 @@
 -- What `exports` answers, in the words of its keys and values: which key decides, and where a target stands.
 use Rattle.std.specs.Prelude.{◌≡◌, ◌≢◌, ◌⊎◌, ℕ, true, false, List, [], ◌∷◌, ◌++◌, Option, Some, None, option_and_then}
 use Rattle.std.specs.Option.{option_or}
-use Rattle.serde_json.specs.Data.{Data, null, boolean, number, string, array, object, Items, no_items, item, Members, no_members, member}
+use Rattle.serde_json.specs.Data.{
+  Data,
+  null,
+  boolean,
+  number,
+  string,
+  array,
+  object,
+  Items,
+  no_items,
+  item,
+  Members,
+  no_members,
+  member,
+}
 use Rattle.serde_json.specs.Find.{get_member}
 use Rattle.star_texts.specs.Star.{has_star, around_only_star}
 use Rattle.package_exports.specs.Exported.{target, Fit, is_before, first_fit, by_fit, deciding, completed, exported}
@@ -18,7 +32,8 @@ pub record Fits (subpath : List ℕ) (f : Fit) : Type 0 where
   pub subpath_is : subpath ≡ f.before ++ (f.rest ++ behind)
   pub some : f.rest ≢ []
 
--- Which key with a `*` decides: it is one of `exports` and fits, and no key of `exports` that fits is before it. Where none decides, none fits.
+-- Which key with a `*` decides: it is one of `exports` and fits, and no key of `exports` that fits is before it. Where
+-- none decides, none fits.
 pub record KeyDecides : Type 0 where
   pub stands : (subpath : List ℕ) (ms : Members) (f : Fit) → first_fit subpath ms ≡ Some f → HasMember f.key f.value ms
   pub fits : (subpath : List ℕ) (ms : Members) (f : Fit) → first_fit subpath ms ≡ Some f → Fits subpath f
@@ -51,19 +66,24 @@ under_first all [] ms = None
 under_first all (condition ∷ conditions) ms =
     option_or (option_and_then (target all) (get_member condition ms)) (under_first all conditions ms)
 
--- A target stands in the value that it is of. An object's is that of its member under the first condition, in the order given, that has a target.
+-- A target stands in the value that it is of. An object's is that of its member under the first condition, in the order
+-- given, that has a target.
 pub record TargetStands : Type 0 where
-  pub stands : (conditions : List (List ℕ)) (d : Data) (text : List ℕ) → target conditions d ≡ Some text → StandsIn text d
+  pub stands : (conditions : List (List ℕ)) (d : Data) (text : List ℕ) → target conditions d ≡ Some text
+      → StandsIn text d
   pub by_condition : (conditions : List (List ℕ)) (ms : Members) →
       target conditions (object ms) ≡ under_first conditions conditions ms
 
--- A subpath without `*` that is a key of `exports` is decided by that key, and any other subpath by the first key with a `*` that fits.
+-- A subpath without `*` that is a key of `exports` is decided by that key, and any other subpath by the first key with
+-- a `*` that fits.
 pub record OwnKeyDecides : Type 0 where
-  pub own : (exports : Members) (subpath : List ℕ) (d : Data) → has_star subpath ≡ false → get_member subpath exports ≡ Some d
+  pub own : (exports : Members) (subpath : List ℕ) (d : Data) → has_star subpath ≡ false
+      → get_member subpath exports ≡ Some d
       → deciding exports subpath ≡ Some (record { value = d; rest = None })
   pub other : (exports : Members) (subpath : List ℕ) → has_star subpath ≡ false → get_member subpath exports ≡ None
       → deciding exports subpath ≡ by_fit (first_fit subpath exports)
-  pub starred : (exports : Members) (subpath : List ℕ) → has_star subpath ≡ true → deciding exports subpath ≡ by_fit (first_fit subpath exports)
+  pub starred : (exports : Members) (subpath : List ℕ) → has_star subpath ≡ true
+      → deciding exports subpath ≡ by_fit (first_fit subpath exports)
 
 -- A key decides a subpath as its own, where no `*` stands for anything, or as one that fits.
 abbrev pub IsDecidedBy : List ℕ → List ℕ → Data → Option (List ℕ) → Type 0
@@ -71,7 +91,8 @@ IsDecidedBy subpath key value None = key ≡ subpath
 IsDecidedBy subpath key value (Some rest) =
     (f : Fit) × (f.key ≡ key) × (f.value ≡ value) × (f.rest ≡ rest) × Fits subpath f
 
--- A file stands in `exports` under a key that decides: it is a text of that key's value, completed by what the key's `*` stands for.
+-- A file stands in `exports` under a key that decides: it is a text of that key's value, completed by what the key's
+-- `*` stands for.
 pub record IsExported (exports : Members) (subpath file : List ℕ) : Type 0 where
   pub key : List ℕ
   pub value : Data

@@ -3,7 +3,21 @@ ghost use Rattle.std.specs.Prelude.{◌≡◌, IfOk, option_map};
 ghost use Rattle.std.specs.Option.{option_copied};
 ghost use Rattle.serde_json.specs.Find.{get_member};
 ghost use Rattle.serde_json.specs.View.{view, items_view, members_view};
-ghost use Rattle.package_exports.specs.Exported.{exported, target, first_target, targets, by_conditions, under, file_target, fit_of, is_before, first_of, first_fit, deciding, completed};
+ghost use Rattle.package_exports.specs.Exported.{
+  exported,
+  target,
+  first_target,
+  targets,
+  by_conditions,
+  under,
+  file_target,
+  fit_of,
+  is_before,
+  first_of,
+  first_fit,
+  deciding,
+  completed,
+};
 ghost use Rattle.package_exports.specs.ExportedView.{fit_view, decided_view};
 
 use serde_json::{Map, Value};
@@ -27,8 +41,10 @@ pub(crate) struct Decided<'e> {
     pub(crate) rest: Option<&'e str>,
 }
 
-/// Which file of a package a subpath means under conditions, as a text that begins with `./`; `None` where the package doesn't
-/// export it. The subpath is `.` for the package itself, and begins with `./` else. After the package entry points of Node, but
+/// Which file of a package a subpath means under conditions, as a text that begins with `./`; `None` where the package
+/// doesn't
+/// export it. The subpath is `.` for the package itself, and begins with `./` else. After the package entry points of
+/// Node, but
 /// that conditions are taken in the order given, and `default` counts only where it is one of them.
 pub fn exported(
     alloc: Global,

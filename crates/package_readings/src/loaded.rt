@@ -16,7 +16,8 @@ use std::marker::Model;
 use sugar_path::{Bytes, Text};
 use swc_loader::{ContentKey, Readings, make_room};
 
-// The packages of contents, or none for a content that is refused. A content that is one too many takes the place of all.
+// The packages of contents, or none for a content that is refused. A content that is one too many takes the place of
+// all.
 #[derive(Drop)]
 pub(crate) struct LoadedPackages {
     kept: IndexMap<ContentKey, Option<ReadPackage>>,

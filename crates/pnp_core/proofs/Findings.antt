@@ -13,7 +13,8 @@ use Rattle.pnp_core.proofs.OnTrees.{nearest_on_tree, told_on_tree}
 
 told-in_file : (t : Files) (found : Option Path) → told t (in_file found) ≡ in_file_on t found
 told-in_file t None = told-done t (Ok None)
-told-in_file t (Some file) = told-refusing t (told_loading file) (λ m. Done (Ok (Some m))) (told_on_tree.tells t file) (λ m. told-done t (Ok (Some m)))
+told-in_file t (Some file) = told-refusing t (told_loading file) (λ m. Done (Ok (Some m))) (told_on_tree.tells t file)
+    (λ m. told-done t (Ok (Some m)))
 
 told-finding : (t : Files) (p : Path) → told t (finding p) ≡ finding_on t p
 unfolding finding

@@ -1,8 +1,47 @@
 -- The normal form of an absolute text is its own, and names the same path.
-use Rattle.std.proofs.Common.{◌≡◌, ◌≢◌, ◌==◌, ◌&&◌, ◌||◌, ◌⊎◌, inl, inr, ℕ, Bool, true, false, not, cond, List, [], ◌∷◌, ◌++◌, bytes_eq, refl, sym, ap, subst, ◌∙◌}
+use Rattle.std.proofs.Common.{
+  ◌≡◌,
+  ◌≢◌,
+  ◌==◌,
+  ◌&&◌,
+  ◌||◌,
+  ◌⊎◌,
+  inl,
+  inr,
+  ℕ,
+  Bool,
+  true,
+  false,
+  not,
+  cond,
+  List,
+  [],
+  ◌∷◌,
+  ◌++◌,
+  bytes_eq,
+  refl,
+  sym,
+  ap,
+  subst,
+  ◌∙◌,
+}
 use Rattle.std.specs.List.{AllByRecursion, onto_first}
 use Rattle.std.proofs.lemmas.Bool.Decides.{eqb_tells}
-use Rattle.sugar_path.specs.Path.{Path, IsPath, is_absolute, ends_in_slash, with_slash, join, parts, by_part, by_parts, parent, steps, text_of, clean}
+use Rattle.sugar_path.specs.Path.{
+  Path,
+  IsPath,
+  is_absolute,
+  ends_in_slash,
+  with_slash,
+  join,
+  parts,
+  by_part,
+  by_parts,
+  parent,
+  steps,
+  text_of,
+  clean,
+}
 use Rattle.sugar_path.proofs.Parts.{parts-slash, by_parts-append, clean-text_of, text_of-absolute}
 use Rattle.pnp_core.specs.NormalizePath.{location_path, normal_names, with_end, normalize_path}
 use Rattle.pnp_core.specs.Slashed.{slashed}
@@ -30,7 +69,8 @@ HasNone-slashed (c ∷ t) = (by_test (eqb_tells c 92), HasNone-slashed t)
     by_test (inl w) = rw w.0 refl
     by_test (inr w) = rw w.0 w.0
 
-onto : (x : ℕ) (b : Bool) → (x == 92) ≡ false → (ps : List (List ℕ)) → AllByRecursion HasNone ps → AllByRecursion HasNone (cond b ([] ∷ ps) (onto_first x ps))
+onto : (x : ℕ) (b : Bool) → (x == 92) ≡ false → (ps : List (List ℕ)) → AllByRecursion HasNone ps
+    → AllByRecursion HasNone (cond b ([] ∷ ps) (onto_first x ps))
 onto x true e ps h = (tt, h)
 onto x false e [] h = ((e, tt), tt)
 onto x false e (p ∷ ps) h = ((e, h.0), h.1)
@@ -43,7 +83,8 @@ HasNone-parent : (p : Path) → AllByRecursion HasNone p → AllByRecursion HasN
 HasNone-parent [] h = tt
 HasNone-parent (n ∷ p) h = h.1
 
-HasNone-by_part : (p : Path) (part : List ℕ) → AllByRecursion HasNone p → HasNone part → AllByRecursion HasNone (by_part p part)
+HasNone-by_part : (p : Path) (part : List ℕ) → AllByRecursion HasNone p → HasNone part
+    → AllByRecursion HasNone (by_part p part)
 HasNone-by_part p part h k = by_tests (bytes_eq part [] || bytes_eq part (46 ∷ [])) (bytes_eq part (46 ∷ 46 ∷ []))
   where
     by_tests : (a b : Bool) → AllByRecursion HasNone (cond a p (cond b (parent p) (part ∷ p)))
@@ -51,7 +92,8 @@ HasNone-by_part p part h k = by_tests (bytes_eq part [] || bytes_eq part (46 ∷
     by_tests false true = HasNone-parent p h
     by_tests false false = (k, h)
 
-HasNone-by_parts : (p : Path) (ps : List (List ℕ)) → AllByRecursion HasNone p → AllByRecursion HasNone ps → AllByRecursion HasNone (by_parts p ps)
+HasNone-by_parts : (p : Path) (ps : List (List ℕ)) → AllByRecursion HasNone p → AllByRecursion HasNone ps
+    → AllByRecursion HasNone (by_parts p ps)
 HasNone-by_parts p [] h k = h
 HasNone-by_parts p (part ∷ ps) h k = HasNone-by_parts (by_part p part) ps (HasNone-by_part p part h k.0) k.1
 
@@ -65,7 +107,8 @@ HasNone-text_of (n ∷ p) h = HasNone-steps (n ∷ p) h
 
 HasNone-clean : (s : List ℕ) → HasNone s → AllByRecursion HasNone (clean [] s)
 unfolding clean
-HasNone-clean s h = HasNone-by_parts (cond (is_absolute s) [] []) (parts s) (by_test (is_absolute s)) (HasNone-parts s h)
+HasNone-clean s h =
+    HasNone-by_parts (cond (is_absolute s) [] []) (parts s) (by_test (is_absolute s)) (HasNone-parts s h)
   where
     by_test : (b : Bool) → AllByRecursion HasNone (cond b [] [])
     by_test true = tt
@@ -74,16 +117,19 @@ HasNone-clean s h = HasNone-by_parts (cond (is_absolute s) [] []) (parts s) (by_
 HasNone-location : (t : List ℕ) → HasNone (text_of (location_path t))
 HasNone-location t =
     let AllHaveNone : Path → Type 0 = AllByRecursion HasNone in
-    HasNone-text_of (location_path t) (subst AllHaveNone (clean-slashed t) (HasNone-clean (slashed t) (HasNone-slashed t)))
+    HasNone-text_of (location_path t) (subst AllHaveNone (clean-slashed t)
+    (HasNone-clean (slashed t) (HasNone-slashed t)))
 
 -- ---- the path that is named
 
 location-text : (p : Path) → IsPath p → HasNone (text_of p) → location_path (text_of p) ≡ p
-location-text p path none = sym (clean-slashed (text_of p)) ∙ ap (clean []) (slashed-same (text_of p) none) ∙ clean-text_of [] p path
+location-text p path none =
+    sym (clean-slashed (text_of p)) ∙ ap (clean []) (slashed-same (text_of p) none) ∙ clean-text_of [] p path
 
 clean-slash : (s : List ℕ) → clean [] (s ++ 47 ∷ []) ≡ clean [] s
 unfolding clean
-clean-slash s = rw (parts-slash s [], by_parts-append (cond (is_absolute (s ++ 47 ∷ [])) [] []) (parts s) ([] ∷ [])) (by_tests (is_absolute (s ++ 47 ∷ [])) (is_absolute s))
+clean-slash s = rw (parts-slash s [], by_parts-append (cond (is_absolute (s ++ 47 ∷ [])) [] []) (parts s) ([] ∷ []))
+    (by_tests (is_absolute (s ++ 47 ∷ [])) (is_absolute s))
   where
     by_tests : (a b : Bool) → by_parts (cond a [] []) (parts s) ≡ by_parts (cond b [] []) (parts s)
     by_tests true true = refl
@@ -109,8 +155,10 @@ text_of-some (n ∷ p) = behind (steps p)
     behind (c ∷ s) = refl
 
 -- an absolute text, whose path has a text of its own
-pub normal-of : (t : List ℕ) (p : Path) → is_absolute t ≡ true → location_path t ≡ p → normalize_path t ≡ with_end t (text_of p)
-normal-of t p abs names = let text : normal_names t ≡ text_of p = names-rooted t abs ∙ ap text_of names in rw (text, text_of-some p) refl
+pub normal-of : (t : List ℕ) (p : Path) → is_absolute t ≡ true → location_path t ≡ p
+    → normalize_path t ≡ with_end t (text_of p)
+normal-of t p abs names =
+    let text : normal_names t ≡ text_of p = names-rooted t abs ∙ ap text_of names in rw (text, text_of-some p) refl
 
 absolute-append : (s u : List ℕ) → is_absolute s ≡ true → is_absolute (s ++ u) ≡ true
 absolute-append [] u h = cc
@@ -129,31 +177,43 @@ with_end-same s = by_test (ends_in_slash s)
     by_test false = refl
 
 -- an absolute text names the path that its normal form names
-pub location_path-normalize_path : (t : List ℕ) → is_absolute t ≡ true → location_path (normalize_path t) ≡ location_path t
-location_path-normalize_path t abs = rw (normal-of t (location_path t) abs refl) (by_test (ends_in_slash t && not (ends_in_slash (text_of (location_path t)))))
+pub location_path-normalize_path : (t : List ℕ) → is_absolute t ≡ true
+    → location_path (normalize_path t) ≡ location_path t
+location_path-normalize_path t abs = rw (normal-of t (location_path t) abs refl)
+    (by_test (ends_in_slash t && not (ends_in_slash (text_of (location_path t)))))
   where
-    by_test : (b : Bool) → location_path (cond b (text_of (location_path t) ++ 47 ∷ []) (text_of (location_path t))) ≡ location_path t
+    by_test : (b : Bool) → location_path (cond b (text_of (location_path t) ++ 47 ∷ []) (text_of (location_path t))) ≡
+        location_path t
     by_test true = location-slash (location_path t) (IsPath-location_path t) (HasNone-location t)
     by_test false = location-text (location_path t) (IsPath-location_path t) (HasNone-location t)
 
 pub normalize_path-absolute : (t : List ℕ) → is_absolute t ≡ true → is_absolute (normalize_path t) ≡ true
-normalize_path-absolute t abs = rw (normal-of t (location_path t) abs refl) (by_test (ends_in_slash t && not (ends_in_slash (text_of (location_path t)))))
+normalize_path-absolute t abs = rw (normal-of t (location_path t) abs refl)
+    (by_test (ends_in_slash t && not (ends_in_slash (text_of (location_path t)))))
   where
-    by_test : (b : Bool) → is_absolute (cond b (text_of (location_path t) ++ 47 ∷ []) (text_of (location_path t))) ≡ true
+    by_test : (b : Bool) → is_absolute (cond b (text_of (location_path t) ++ 47 ∷ []) (text_of (location_path t))) ≡
+        true
     by_test true = absolute-append (text_of (location_path t)) (47 ∷ []) (text_of-absolute (location_path t))
     by_test false = text_of-absolute (location_path t)
 
 -- the normal form of an absolute text is its own
 pub normalize_path-twice : (t : List ℕ) → is_absolute t ≡ true → normalize_path (normalize_path t) ≡ normalize_path t
-normalize_path-twice t abs = rw (normal-of t (location_path t) abs refl) (by_tests (ends_in_slash t) (ends_in_slash (text_of (location_path t))) refl)
+normalize_path-twice t abs = rw (normal-of t (location_path t) abs refl)
+    (by_tests (ends_in_slash t) (ends_in_slash (text_of (location_path t))) refl)
   where
     plain : normalize_path (text_of (location_path t)) ≡ text_of (location_path t)
-    plain = normal-of (text_of (location_path t)) (location_path t) (text_of-absolute (location_path t)) (location-text (location_path t) (IsPath-location_path t) (HasNone-location t)) ∙ with_end-same (text_of (location_path t))
+    plain = normal-of (text_of (location_path t)) (location_path t) (text_of-absolute (location_path t))
+        (location-text (location_path t) (IsPath-location_path t) (HasNone-location t))
+        ∙ with_end-same (text_of (location_path t))
 
-    by_tests : (a b : Bool) → ends_in_slash (text_of (location_path t)) ≡ b → normalize_path (cond (a && not b) (text_of (location_path t) ++ 47 ∷ []) (text_of (location_path t))) ≡ cond (a && not b) (text_of (location_path t) ++ 47 ∷ []) (text_of (location_path t))
+    by_tests : (a b : Bool) → ends_in_slash (text_of (location_path t)) ≡ b
+        → normalize_path (cond (a && not b) (text_of (location_path t) ++ 47 ∷ []) (text_of (location_path t))) ≡ cond
+        (a && not b) (text_of (location_path t) ++ 47 ∷ []) (text_of (location_path t))
     by_tests true true e = plain
     by_tests true false e =
-        normal-of (text_of (location_path t) ++ 47 ∷ []) (location_path t) (absolute-append (text_of (location_path t)) (47 ∷ []) (text_of-absolute (location_path t))) (location-slash (location_path t) (IsPath-location_path t) (HasNone-location t))
+        normal-of (text_of (location_path t) ++ 47 ∷ []) (location_path t)
+        (absolute-append (text_of (location_path t)) (47 ∷ []) (text_of-absolute (location_path t)))
+        (location-slash (location_path t) (IsPath-location_path t) (HasNone-location t))
         ∙ rw (ends-slash (text_of (location_path t)), e) refl
     by_tests false b e = plain
 

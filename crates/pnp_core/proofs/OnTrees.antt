@@ -9,7 +9,16 @@ use Rattle.tree_core.proofs.Tellings.{told-made, told-read, told-first_existing}
 use Rattle.pnp_core.specs.ManifestReading.{reading}
 use Rattle.pnp_core.specs.Nearest.{manifest_file, nearest, nearest_text}
 use Rattle.pnp_core.specs.Loading.{loading, or_refused, told_loading}
-use Rattle.pnp_core.specs.OnTree.{nearest_on, nearest_text_on, loaded_on, told_on, NearestOnTree, NearestTextOnTree, LoadedOnTree, ToldOnTree}
+use Rattle.pnp_core.specs.OnTree.{
+  nearest_on,
+  nearest_text_on,
+  loaded_on,
+  told_on,
+  NearestOnTree,
+  NearestTextOnTree,
+  LoadedOnTree,
+  ToldOnTree,
+}
 
 told-nearest : (t : Files) (p : Path) → told t (nearest p) ≡ nearest_on t p
 unfolding nearest
@@ -17,7 +26,8 @@ told-nearest t p = told-first_existing t (map manifest_file (p ∷ up p))
 
 told-loading : (t : Files) (p : Path) → told t (loading p) ≡ loaded_on t p
 unfolding loading
-told-loading t p = told-made t (read p) (λ content. reading content p) ∙ ap (made (λ content. reading content p)) (told-read t p)
+told-loading t p =
+    told-made t (read p) (λ content. reading content p) ∙ ap (made (λ content. reading content p)) (told-read t p)
 
 told-nearest_text : (t : Files) (p : Path) → told t (nearest_text p) ≡ nearest_text_on t p
 unfolding nearest_text

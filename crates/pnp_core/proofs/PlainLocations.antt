@@ -1,8 +1,40 @@
 -- A location that is written as `./`, names and maybe a `/`, read from a folder.
-use Rattle.std.proofs.Common.{◌≡◌, ◌⊎◌, inl, inr, ◌==◌, ℕ, Bool, true, false, cond, List, [], ◌∷◌, ◌++◌, refl, sym, ap, ◌∙◌, append_assoc}
+use Rattle.std.proofs.Common.{
+  ◌≡◌,
+  ◌⊎◌,
+  inl,
+  inr,
+  ◌==◌,
+  ℕ,
+  Bool,
+  true,
+  false,
+  cond,
+  List,
+  [],
+  ◌∷◌,
+  ◌++◌,
+  refl,
+  sym,
+  ap,
+  ◌∙◌,
+  append_assoc,
+}
 use Rattle.std.proofs.lemmas.List.{map-append}
 use Rattle.std.proofs.lemmas.Bool.Decides.{Decides-eqb}
-use Rattle.sugar_path.specs.Path.{Path, IsCleanPath, is_absolute, parts, by_parts, path_in, clean, ends_in_slash, join, with_slash, text_of}
+use Rattle.sugar_path.specs.Path.{
+  Path,
+  IsCleanPath,
+  is_absolute,
+  parts,
+  by_parts,
+  path_in,
+  clean,
+  ends_in_slash,
+  join,
+  with_slash,
+  text_of,
+}
 use Rattle.sugar_path.proofs.Parts.{parts-slash, by_parts-append, clean-absolute}
 use Rattle.pnp_core.specs.NormalizePath.{pieces, location_path, normalize_path, with_end}
 use Rattle.pnp_core.specs.Slashed.{slashed}
@@ -27,7 +59,8 @@ location-end t = location-slash t []
 
 -- and `./` behind a slash neither
 location-dot : (g t : List ℕ) → location_path (g ++ 47 ∷ 46 ∷ 47 ∷ t) ≡ location_path (g ++ 47 ∷ t)
-location-dot g t = location-slash g (46 ∷ 47 ∷ t) ∙ ap (by_parts (location_path g)) (pieces-slash (46 ∷ []) t) ∙ sym (location-slash g t)
+location-dot g t = location-slash g (46 ∷ 47 ∷ t) ∙ ap (by_parts (location_path g)) (pieces-slash (46 ∷ []) t)
+    ∙ sym (location-slash g t)
 
 last_slash : (b : List ℕ) → ends_in_slash b ≡ true → (g : List ℕ) × (b ≡ g ++ 47 ∷ [])
 last_slash [] h = cc
@@ -39,20 +72,26 @@ slash_at_end : (dir : List ℕ) → is_absolute dir ≡ true → (g : List ℕ) 
 slash_at_end [] h = cc
 slash_at_end (c ∷ cs) h = by_test (ends_in_slash (c ∷ cs)) refl
   where
-    by_test : (b : Bool) → ends_in_slash (c ∷ cs) ≡ b → (g : List ℕ) × (cond b (c ∷ cs) ((c ∷ cs) ++ 47 ∷ []) ≡ g ++ 47 ∷ [])
+    by_test : (b : Bool) → ends_in_slash (c ∷ cs) ≡ b → (g : List ℕ)
+        × (cond b (c ∷ cs) ((c ∷ cs) ++ 47 ∷ []) ≡ g ++ 47 ∷ [])
     by_test true e = last_slash (c ∷ cs) e
     by_test false e = (c ∷ cs, refl)
 
-from_folder : (dir t : List ℕ) → is_absolute dir ≡ true → location_path (with_slash dir ++ 46 ∷ 47 ∷ t) ≡ location_path (with_slash dir ++ t)
+from_folder : (dir t : List ℕ) → is_absolute dir ≡ true
+    → location_path (with_slash dir ++ 46 ∷ 47 ∷ t) ≡ location_path (with_slash dir ++ t)
 from_folder dir t abs =
     let w = slash_at_end dir abs in
     rw (w.1, append_assoc, append_assoc) (location-dot w.0 t)
 
 -- the location that is read from a folder, without `./` and the `/` at its end
-pub location-plain : (dir names front : List ℕ) → is_absolute dir ≡ true → (names ≡ front) ⊎ (names ≡ front ++ 47 ∷ []) → location_path (with_slash dir ++ front) ≡ location_path (join dir (46 ∷ 47 ∷ names))
-location-plain dir names front abs (inl e) = sym (from_folder dir names abs ∙ ap (λ t. location_path (with_slash dir ++ t)) e)
+pub location-plain : (dir names front : List ℕ) → is_absolute dir ≡ true → (names ≡ front) ⊎ (names ≡ front ++ 47 ∷ [])
+    → location_path (with_slash dir ++ front) ≡ location_path (join dir (46 ∷ 47 ∷ names))
+location-plain dir names front abs (inl e) =
+    sym (from_folder dir names abs ∙ ap (λ t. location_path (with_slash dir ++ t)) e)
 location-plain dir names front abs (inr e) =
-    sym (from_folder dir names abs ∙ ap (λ t. location_path (with_slash dir ++ t)) e ∙ ap location_path (sym (append_assoc (with_slash dir) front (47 ∷ []))) ∙ location-end (with_slash dir ++ front))
+    sym (from_folder dir names abs ∙ ap (λ t. location_path (with_slash dir ++ t)) e
+    ∙ ap location_path (sym (append_assoc (with_slash dir) front (47 ∷ [])))
+    ∙ location-end (with_slash dir ++ front))
 
 -- a clean text without `\` names its path
 pub location-clean : (t : List ℕ) → IsCleanPath t → slashed t ≡ t → location_path t ≡ path_in t
@@ -67,5 +106,7 @@ pub ends-plain : (dir names : List ℕ) → ends_in_slash (join dir (46 ∷ 47 �
 ends-plain dir names = ends-append (with_slash dir) 46 (47 ∷ names)
 
 -- the normal form of a joined text, by its path and its end
-pub normal-joined : (dir t u : List ℕ) (p : Path) → is_absolute dir ≡ true → p ≡ location_path (join dir t) → ends_in_slash (join dir t) ≡ ends_in_slash u → with_end u (text_of p) ≡ normalize_path (join dir t)
-normal-joined dir t u p abs names ends = sym (normal-of (join dir t) p (join-absolute dir t abs) (sym names) ∙ rw ends refl)
+pub normal-joined : (dir t u : List ℕ) (p : Path) → is_absolute dir ≡ true → p ≡ location_path (join dir t)
+    → ends_in_slash (join dir t) ≡ ends_in_slash u → with_end u (text_of p) ≡ normalize_path (join dir t)
+normal-joined dir t u p abs names ends =
+    sym (normal-of (join dir t) p (join-absolute dir t abs) (sym names) ∙ rw ends refl)

@@ -1,11 +1,50 @@
 -- The route of a text, as it is read from the text's pieces, and its text.
-use Rattle.std.proofs.Common.{◌≡◌, ◌≢◌, ◌&&◌, ◌||◌, ◌∙◌, ℕ, zero, suc, Bool, true, false, cond, List, [], ◌∷◌, ◌++◌, length, bytes_eq, refl, sym, ap, reverse, replicate, add-one, arith, true≢false}
+use Rattle.std.proofs.Common.{
+  ◌≡◌,
+  ◌≢◌,
+  ◌&&◌,
+  ◌||◌,
+  ◌∙◌,
+  ℕ,
+  zero,
+  suc,
+  Bool,
+  true,
+  false,
+  cond,
+  List,
+  [],
+  ◌∷◌,
+  ◌++◌,
+  length,
+  bytes_eq,
+  refl,
+  sym,
+  ap,
+  reverse,
+  replicate,
+  add-one,
+  arith,
+  true≢false,
+}
 use Rattle.std.specs.List.{join_with_byte, AllByRecursion}
 use Rattle.std.proofs.lemmas.Grind.{reverse_onto}
 use Rattle.std.proofs.lemmas.List.{reverse-append, replicate_more, length-reverse}
 use Rattle.std.proofs.lemmas.Slice.Eq.{bytes_eq-Decides}
 use Rattle.sugar_path.specs.Path.{Path, is_absolute, by_part, by_parts, parent, steps, text_of}
-use Rattle.sugar_path.specs.Route.{Route, Rooted, Relative, route_up, route_down, route_by_part, route_by_parts, route_start, route_names, is_rooted, route_text}
+use Rattle.sugar_path.specs.Route.{
+  Route,
+  Rooted,
+  Relative,
+  route_up,
+  route_down,
+  route_by_part,
+  route_by_parts,
+  route_start,
+  route_names,
+  is_rooted,
+  route_text,
+}
 use Rattle.sugar_path.proofs.RouteTexts.{join-push}
 use Rattle.sugar_path.proofs.Placed.{route_by_part-rooted}
 use Rattle.pnp_core.specs.NormalizePath.{pieces, location_path, normal_names, text_route}
@@ -16,20 +55,25 @@ use denote.Ref.{Bor}
 -- ---- a rooted route
 rooted-parts : (p : Path) (xs : List (List ℕ)) → route_by_parts (Rooted p) xs ≡ Rooted (by_parts p xs)
 rooted-parts p [] = refl
-rooted-parts p (x ∷ xs) = ap (λ r. route_by_parts r xs) (by_tests (bytes_eq x [] || bytes_eq x (46 ∷ [])) (bytes_eq x (46 ∷ 46 ∷ []))) ∙ rooted-parts (by_part p x) xs
+rooted-parts p (x ∷ xs) = ap (λ r. route_by_parts r xs) (by_tests (bytes_eq x [] || bytes_eq x (46 ∷ []))
+    (bytes_eq x (46 ∷ 46 ∷ []))) ∙ rooted-parts (by_part p x) xs
   where
-    by_tests : (a b : Bool) → cond a (Rooted p) (cond b (Rooted (parent p)) (Rooted (x ∷ p))) ≡ Rooted (cond a p (cond b (parent p) (x ∷ p)))
+    by_tests : (a b : Bool) → cond a (Rooted p) (cond b (Rooted (parent p)) (Rooted (x ∷ p))) ≡ Rooted
+        (cond a p (cond b (parent p) (x ∷ p)))
     by_tests true b = refl
     by_tests false true = refl
     by_tests false false = refl
 
 -- ---- the text of names
-join-behind : (xs : List (List ℕ)) (n : List ℕ) → length xs ≢ 0 → join_with_byte 47 (xs ++ n ∷ []) ≡ join_with_byte 47 xs ++ 47 ∷ n
+join-behind : (xs : List (List ℕ)) (n : List ℕ) → length xs ≢ 0
+    → join_with_byte 47 (xs ++ n ∷ []) ≡ join_with_byte 47 xs ++ 47 ∷ n
 join-behind [] n some = absurd (some refl)
 join-behind (a ∷ xs) n some = join-push a xs n
 
-join-last : (n m : List ℕ) (p : Path) → join_with_byte 47 (reverse (n ∷ m ∷ p)) ≡ join_with_byte 47 (reverse (m ∷ p)) ++ 47 ∷ n
-join-last n m p = ap (join_with_byte 47) (reverse_onto (m ∷ p) n []) ∙ join-behind (reverse (m ∷ p)) n (λ e. absurd (omega (arith, e, length-reverse (m ∷ p))))
+join-last : (n m : List ℕ) (p : Path) → join_with_byte 47 (reverse (n ∷ m ∷ p)) ≡ join_with_byte 47 (reverse (m ∷ p))
+    ++ 47 ∷ n
+join-last n m p = ap (join_with_byte 47) (reverse_onto (m ∷ p) n [])
+    ∙ join-behind (reverse (m ∷ p)) n (λ e. absurd (omega (arith, e, length-reverse (m ∷ p))))
 
 joined-join : (p : Path) → joined p ≡ join_with_byte 47 (reverse p)
 joined-join [] = refl
@@ -58,14 +102,16 @@ rooted-text p = text-join p
 
 text_route-rooted : (t : List ℕ) → is_absolute t ≡ true → text_route t ≡ Rooted (location_path t)
 unfolding text_route location_path
-text_route-rooted t abs = ap (λ b. route_by_parts (cond b (Rooted []) (Relative 0 [])) (pieces t)) abs ∙ rooted-parts [] (pieces t)
+text_route-rooted t abs =
+    ap (λ b. route_by_parts (cond b (Rooted []) (Relative 0 [])) (pieces t)) abs ∙ rooted-parts [] (pieces t)
 
 -- the text of an absolute text's route is that of its path
 pub names-rooted : (t : List ℕ) → is_absolute t ≡ true → normal_names t ≡ text_of (location_path t)
 names-rooted t abs = ap route_text (text_route-rooted t abs) ∙ sym (rooted-text (location_path t))
 
 -- that of another text is the text of its pieces
-pub names-relative : (t : List ℕ) → is_absolute t ≡ false → normal_names t ≡ route_text (route_by_parts (Relative 0 []) (pieces t))
+pub names-relative : (t : List ℕ) → is_absolute t ≡ false
+    → normal_names t ≡ route_text (route_by_parts (Relative 0 []) (pieces t))
 unfolding text_route
 names-relative t loose = ap (λ b. route_text (route_by_parts (cond b (Rooted []) (Relative 0 [])) (pieces t))) loose
 
@@ -87,18 +133,23 @@ abbrev HasNoDots : Path → Type 0
 HasNoDots p = AllByRecursion (λ n. bytes_eq n (46 ∷ 46 ∷ []) ≡ false) p
 
 -- `..` where a name stands takes it away, and else it stays
-parts-dots : (k : ℕ) (p : Path) → HasNoDots p → cond (is_stuck (p ++ replicate k (46 ∷ 46 ∷ []))) ((46 ∷ 46 ∷ []) ∷ (p ++ replicate k (46 ∷ 46 ∷ []))) (parent (p ++ replicate k (46 ∷ 46 ∷ []))) ≡ last_first (route_up (Relative k p))
+parts-dots : (k : ℕ) (p : Path) → HasNoDots p
+    → cond (is_stuck (p ++ replicate k (46 ∷ 46 ∷ []))) ((46 ∷ 46 ∷ []) ∷ (p ++ replicate k (46 ∷ 46 ∷ [])))
+    (parent (p ++ replicate k (46 ∷ 46 ∷ []))) ≡ last_first (route_up (Relative k p))
 parts-dots k [] h = rw (stuck-dots k) (ap (λ n. replicate n (46 ∷ 46 ∷ [])) (sym (add-one k)))
 parts-dots k (n ∷ p) h = rw h.0 refl
 
-parts-part : (k : ℕ) (p : Path) (x : List ℕ) → HasNoDots p → by_relative_part (last_first (Relative k p)) x ≡ last_first (route_by_part (Relative k p) x)
+parts-part : (k : ℕ) (p : Path) (x : List ℕ) → HasNoDots p
+    → by_relative_part (last_first (Relative k p)) x ≡ last_first (route_by_part (Relative k p) x)
 parts-part k p x h = by_test (bytes_eq x (46 ∷ 46 ∷ [])) refl
   where
-    silent : (a : Bool) → cond a (last_first (Relative k p)) (x ∷ last_first (Relative k p)) ≡ last_first (cond a (Relative k p) (route_down (Relative k p) x))
+    silent : (a : Bool) → cond a (last_first (Relative k p)) (x ∷ last_first (Relative k p)) ≡ last_first
+        (cond a (Relative k p) (route_down (Relative k p) x))
     silent true = refl
     silent false = refl
 
-    by_test : (b : Bool) → bytes_eq x (46 ∷ 46 ∷ []) ≡ b → by_relative_part (last_first (Relative k p)) x ≡ last_first (route_by_part (Relative k p) x)
+    by_test : (b : Bool) → bytes_eq x (46 ∷ 46 ∷ []) ≡ b
+        → by_relative_part (last_first (Relative k p)) x ≡ last_first (route_by_part (Relative k p) x)
     by_test true e =
         let dots : x ≡ 46 ∷ 46 ∷ [] = (bytes_eq-Decides x (46 ∷ 46 ∷ [])).0 e in
         rw dots (parts-dots k p h)
@@ -108,16 +159,20 @@ HasNoDots-up : (k : ℕ) (p : Path) → HasNoDots p → HasNoDots (route_names (
 HasNoDots-up k [] h = tt
 HasNoDots-up k (n ∷ p) h = h.1
 
-HasNoDots-part : (k : ℕ) (p : Path) (x : List ℕ) → HasNoDots p → HasNoDots (route_names (route_by_part (Relative k p) x))
+HasNoDots-part : (k : ℕ) (p : Path) (x : List ℕ) → HasNoDots p
+    → HasNoDots (route_names (route_by_part (Relative k p) x))
 HasNoDots-part k p x h = by_tests (bytes_eq x [] || bytes_eq x (46 ∷ [])) (bytes_eq x (46 ∷ 46 ∷ [])) refl
   where
-    by_tests : (a b : Bool) → bytes_eq x (46 ∷ 46 ∷ []) ≡ b → HasNoDots (route_names (cond a (Relative k p) (cond b (route_up (Relative k p)) (route_down (Relative k p) x))))
+    by_tests : (a b : Bool) → bytes_eq x (46 ∷ 46 ∷ []) ≡ b
+        → HasNoDots (route_names (cond a (Relative k p) (cond b (route_up (Relative k p))
+        (route_down (Relative k p) x))))
     by_tests true b e = h
     by_tests false true e = HasNoDots-up k p h
     by_tests false false e = (e, h)
 
 -- one more part
-pub ArePartsOf-part : (xs ys : List (Bor (List ℕ))) (x : List ℕ) (r : Route) → names_of ys ≡ by_relative_part (names_of xs) x → ArePartsOf xs r → ArePartsOf ys (route_by_part r x)
+pub ArePartsOf-part : (xs ys : List (Bor (List ℕ))) (x : List ℕ) (r : Route)
+    → names_of ys ≡ by_relative_part (names_of xs) x → ArePartsOf xs r → ArePartsOf ys (route_by_part r x)
 ArePartsOf-part xs ys x (Rooted p) is h = absurd (true≢false h.relative)
 ArePartsOf-part xs ys x (Relative k p) is h = record {
   relative = route_by_part-rooted (Relative k p) x;
@@ -125,7 +180,8 @@ ArePartsOf-part xs ys x (Relative k p) is h = record {
   parts = is ∙ ap (λ q. by_relative_part q x) h.parts ∙ parts-part k p x h.names;
 }
 
-pub route_by_parts-append : (r : Route) (xs ys : List (List ℕ)) → route_by_parts r (xs ++ ys) ≡ route_by_parts (route_by_parts r xs) ys
+pub route_by_parts-append : (r : Route) (xs ys : List (List ℕ))
+    → route_by_parts r (xs ++ ys) ≡ route_by_parts (route_by_parts r xs) ys
 route_by_parts-append r [] ys = refl
 route_by_parts-append r (x ∷ xs) ys = route_by_parts-append (route_by_part r x) xs ys
 
@@ -137,4 +193,5 @@ parts-text xs (Rooted p) h = absurd (true≢false h.relative)
 parts-text xs (Relative k p) h =
     ap joined h.parts
     ∙ joined-join (p ++ replicate k (46 ∷ 46 ∷ []))
-    ∙ ap (join_with_byte 47) (reverse-append p (replicate k (46 ∷ 46 ∷ [])) ∙ ap (λ ns. ns ++ reverse p) (reverse-dots k))
+    ∙ ap (join_with_byte 47) (reverse-append p (replicate k (46 ∷ 46 ∷ []))
+    ∙ ap (λ ns. ns ++ reverse p) (reverse-dots k))

@@ -1,5 +1,43 @@
 -- A text with `/` in place of `\`, and names in the order of a text.
-use Rattle.std.proofs.Common.{sym, bytes_eq, inr, inl, Option, Some, None, ◌⊎◌, ◌≢◌, ◌≡◌, ℕ, suc, ◌+◌, ◌-◌, ◌<◌, ◌==◌, ◌||◌, Bool, true, false, not, cond, List, [], ◌∷◌, ◌++◌, length, get_or, take, drop, map, reverse, refl, ap, subst, ◌∙◌, arith}
+use Rattle.std.proofs.Common.{
+  sym,
+  bytes_eq,
+  inr,
+  inl,
+  Option,
+  Some,
+  None,
+  ◌⊎◌,
+  ◌≢◌,
+  ◌≡◌,
+  ℕ,
+  suc,
+  ◌+◌,
+  ◌-◌,
+  ◌<◌,
+  ◌==◌,
+  ◌||◌,
+  Bool,
+  true,
+  false,
+  not,
+  cond,
+  List,
+  [],
+  ◌∷◌,
+  ◌++◌,
+  length,
+  get_or,
+  take,
+  drop,
+  map,
+  reverse,
+  refl,
+  ap,
+  subst,
+  ◌∙◌,
+  arith,
+}
 use Rattle.std.specs.Prelude.{is_some}
 use Rattle.std.specs.List.{onto_first, position_or_len, before_first, after_first}
 use Rattle.std.proofs.lemmas.List.{map-append, reverse-append}
@@ -16,7 +54,8 @@ pub slashed-none : (t : List ℕ) → position_or_len (λ c. c == 92) t ≡ leng
 slashed-none [] e = refl
 slashed-none (x ∷ xs) e = by_test (x == 92) e (slashed-none xs)
   where
-    by_test : (b : Bool) → cond (not b) (1 + position_or_len (λ c. c == 92) xs) 0 ≡ suc (length xs) → (position_or_len (λ c. c == 92) xs ≡ length xs → slashed xs ≡ xs) → cond b 47 x ∷ slashed xs ≡ x ∷ xs
+    by_test : (b : Bool) → cond (not b) (1 + position_or_len (λ c. c == 92) xs) 0 ≡ suc (length xs)
+        → (position_or_len (λ c. c == 92) xs ≡ length xs → slashed xs ≡ xs) → cond b 47 x ∷ slashed xs ≡ x ∷ xs
     by_test true e rest = absurd (omega arith)
     by_test false e rest = ap (λ s. x ∷ s) (rest (omega arith))
 
@@ -34,13 +73,16 @@ slashed-lacks t None none is = by_bytes t (λ k less. none k (omega arith) less)
         by_test false e rest = ap (λ s. x ∷ s) rest
 
 -- the first `\` becomes a `/`, and the rest goes on
-pub slashed-first : (t : List ℕ) → position_or_len (λ c. c == 92) t < length t → slashed t ≡ before_first (λ c. c == 92) t ++ 47 ∷ slashed (after_first (λ c. c == 92) t)
+pub slashed-first : (t : List ℕ) → position_or_len (λ c. c == 92) t < length t
+    → slashed t ≡ before_first (λ c. c == 92) t ++ 47 ∷ slashed (after_first (λ c. c == 92) t)
 slashed-first [] lt = absurd (omega arith)
 slashed-first (x ∷ xs) lt = by_test (x == 92) lt (slashed-first xs)
   where
     by_test : (b : Bool) → cond (not b) (1 + position_or_len (λ c. c == 92) xs) 0 < suc (length xs)
-        → (position_or_len (λ c. c == 92) xs < length xs → slashed xs ≡ take (position_or_len (λ c. c == 92) xs) xs ++ 47 ∷ slashed (drop (position_or_len (λ c. c == 92) xs + 1) xs))
-        → cond b 47 x ∷ slashed xs ≡ take (cond (not b) (1 + position_or_len (λ c. c == 92) xs) 0) (x ∷ xs) ++ 47 ∷ slashed (drop (cond (not b) (1 + position_or_len (λ c. c == 92) xs) 0 + 1) (x ∷ xs))
+        → (position_or_len (λ c. c == 92) xs < length xs → slashed xs ≡ take (position_or_len (λ c. c == 92) xs) xs
+        ++ 47 ∷ slashed (drop (position_or_len (λ c. c == 92) xs + 1) xs))
+        → cond b 47 x ∷ slashed xs ≡ take (cond (not b) (1 + position_or_len (λ c. c == 92) xs) 0) (x ∷ xs)
+        ++ 47 ∷ slashed (drop (cond (not b) (1 + position_or_len (λ c. c == 92) xs) 0 + 1) (x ∷ xs))
     by_test true lt rest = refl
     by_test false lt rest =
         let k = position_or_len (λ c. c == 92) xs in
@@ -54,7 +96,8 @@ pub parts-slashed : (t : List ℕ) → parts (slashed t) ≡ pieces t
 parts-slashed [] = refl
 parts-slashed (x ∷ xs) = rw (parts-slashed xs) (by_test (x == 92) (x == 47) refl)
   where
-    by_test : (b c : Bool) → (x == 47) ≡ c → cond (cond b 47 x == 47) ([] ∷ pieces xs) (onto_first (cond b 47 x) (pieces xs)) ≡ cond (c || b) ([] ∷ pieces xs) (onto_first x (pieces xs))
+    by_test : (b c : Bool) → (x == 47) ≡ c → cond (cond b 47 x == 47) ([] ∷ pieces xs)
+        (onto_first (cond b 47 x) (pieces xs)) ≡ cond (c || b) ([] ∷ pieces xs) (onto_first x (pieces xs))
     by_test true true e = refl
     by_test true false e = refl
     by_test false true e = rw e refl
@@ -71,13 +114,15 @@ clean-slashed t = rw (parts-slashed t) (by_test (is_absolute (slashed t)))
 
 -- one more name is the path's last
 pub names_of-push : (xs : List (Bor (List ℕ))) (x : Bor (List ℕ)) → names_of (xs ++ x ∷ []) ≡ x.now ∷ names_of xs
-names_of-push xs x = ap reverse (map-append (λ n. n.now) xs (x ∷ [])) ∙ reverse-append (map (λ n. n.now) xs) (x.now ∷ [])
+names_of-push xs x =
+    ap reverse (map-append (λ n. n.now) xs (x ∷ [])) ∙ reverse-append (map (λ n. n.now) xs) (x.now ∷ [])
 
 -- the last byte, by its index
 pub ends_in_slash-last : (t : List ℕ) → ends_in_slash t ≡ (get_or t (length t - 1) 0 == 47)
 ends_in_slash-last [] = refl
 ends_in_slash-last (c ∷ []) = refl
-ends_in_slash-last (c ∷ d ∷ cs) = let next : length (c ∷ d ∷ cs) - 1 ≡ suc (length (d ∷ cs) - 1) = omega arith in rw next (ends_in_slash-last (d ∷ cs))
+ends_in_slash-last (c ∷ d ∷ cs) = let next : length (c ∷ d ∷ cs) - 1 ≡ suc (length (d ∷ cs) - 1) = omega arith in
+    rw next (ends_in_slash-last (d ∷ cs))
 
 -- what a text names is a path
 pub IsPath-location_path : (t : List ℕ) → IsPath (location_path t)
@@ -92,6 +137,7 @@ pub bytes_eq-nil : (t : List ℕ) → bytes_eq t [] ≡ (length t == 0)
 bytes_eq-nil [] = refl
 bytes_eq-nil (c ∷ cs) = by_test (eqb_tells (length (c ∷ cs)) 0)
   where
-    by_test : ((length (c ∷ cs) == 0) ≡ true) × (length (c ∷ cs) ≡ 0) ⊎ ((length (c ∷ cs) == 0) ≡ false) × (length (c ∷ cs) ≢ 0) → false ≡ (length (c ∷ cs) == 0)
+    by_test : ((length (c ∷ cs) == 0) ≡ true) × (length (c ∷ cs) ≡ 0) ⊎ ((length (c ∷ cs) == 0) ≡ false)
+        × (length (c ∷ cs) ≢ 0) → false ≡ (length (c ∷ cs) == 0)
     by_test (inl w) = absurd (omega arith)
     by_test (inr w) = sym w.0

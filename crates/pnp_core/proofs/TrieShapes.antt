@@ -1,5 +1,30 @@
 -- Nodes stay a trie where one is put right below another, or between two.
-use Rattle.std.proofs.Common.{◌≡◌, ◌≢◌, ◌⊎◌, inl, inr, ◌<◌, ◌==◌, ℕ, suc, Bool, true, false, cond, List, ◌∷◌, refl, sym, ap, ◌∙◌, arith, Option, Some, None, bytes_eq}
+use Rattle.std.proofs.Common.{
+  ◌≡◌,
+  ◌≢◌,
+  ◌⊎◌,
+  inl,
+  inr,
+  ◌<◌,
+  ◌==◌,
+  ℕ,
+  suc,
+  Bool,
+  true,
+  false,
+  cond,
+  List,
+  ◌∷◌,
+  refl,
+  sym,
+  ap,
+  ◌∙◌,
+  arith,
+  Option,
+  Some,
+  None,
+  bytes_eq,
+}
 use Rattle.std.proofs.lemmas.Bool.Decides.{eqb_tells}
 use Rattle.std.proofs.lemmas.Slice.Eq.{bytes_eq-Decides}
 use Rattle.sugar_path.specs.Path.{Path, IsPath, below}
@@ -33,30 +58,38 @@ below_moved x y v w k e f h = sym (ap (λ z. below z (k ∷ v)) e ∙ ap (λ z. 
 pub below_both : (x y v w : Path) → x ≡ y → v ≡ w → below y w ≡ true → below x v ≡ true
 below_both x y v w e f h = ap (λ z. below z v) e ∙ ap (below y) f ∙ h
 
--- A way from a node to a path that has no node is found below or at another node above that path. Either a node above the path and
+-- A way from a node to a path that has no node is found below or at another node above that path. Either a node above
+-- the path and
 -- below that other node is given, or the way leads through the other node.
-through_other : (n : ℕ) (loc : ℕ → Path) (child : ℕ → List ℕ → Option ℕ) (at i : ℕ) (m k : List ℕ) (l : Path) → IsTrie n loc child → at < n → i < n → i ≢ at → below l (m ∷ loc at) ≡ true → below l (k ∷ loc i) ≡ true
+through_other : (n : ℕ) (loc : ℕ → Path) (child : ℕ → List ℕ → Option ℕ) (at i : ℕ) (m k : List ℕ) (l : Path)
+    → IsTrie n loc child → at < n → i < n → i ≢ at → below l (m ∷ loc at) ≡ true → below l (k ∷ loc i) ≡ true
     → (below (loc i) (m ∷ loc at) ≡ true) ⊎ ((c : ℕ) × (child i k ≡ Some c) × (below l (loc c) ≡ true))
-through_other n loc child at i m k l t lt lti other b h = by_case (below-compared l (loc i) (loc at) (below-parent l (loc i) k h) (below-parent l (loc at) m b))
+through_other n loc child at i m k l t lt lti other b h =
+    by_case (below-compared l (loc i) (loc at) (below-parent l (loc i) k h) (below-parent l (loc at) m b))
   where
     lower : (loc i ≡ loc at) ⊎ ((x : List ℕ) × (below (loc i) (x ∷ loc at) ≡ true)) → below (loc i) (m ∷ loc at) ≡ true
     lower (inl e) = absurd (other (t.distinct i at lti lt e))
     lower (inr w) =
-        let one : w.0 ≡ m = below-one_name l (loc at) w.0 m (below-through l (loc i) (w.0 ∷ loc at) (below-parent l (loc i) k h) w.1) b in
+        let one : w.0 ≡ m = below-one_name l (loc at) w.0 m (below-through l (loc i) (w.0 ∷ loc at)
+        (below-parent l (loc i) k h) w.1) b in
         rw (← one) w.1
 
-    upper : (loc at ≡ loc i) ⊎ ((x : List ℕ) × (below (loc at) (x ∷ loc i) ≡ true)) → (c : ℕ) × (child i k ≡ Some c) × (below l (loc c) ≡ true)
+    upper : (loc at ≡ loc i) ⊎ ((x : List ℕ) × (below (loc at) (x ∷ loc i) ≡ true)) → (c : ℕ) × (child i k ≡ Some c)
+        × (below l (loc c) ≡ true)
     upper (inl e) = absurd (other (t.distinct i at lti lt (sym e)))
     upper (inr w) =
-        let one : w.0 ≡ k = below-one_name l (loc i) w.0 k (below-through l (loc at) (w.0 ∷ loc i) (below-parent l (loc at) m b) w.1) h in
+        let one : w.0 ≡ k = below-one_name l (loc i) w.0 k (below-through l (loc at) (w.0 ∷ loc i)
+        (below-parent l (loc at) m b) w.1) h in
         let way = t.routed i at k lti lt (rw (← one) w.1) in
         (way.0, way.1, below-through l (loc at) (loc way.0) (below-parent l (loc at) m b) way.2)
 
-    by_case : (below (loc i) (loc at) ≡ true) ⊎ (below (loc at) (loc i) ≡ true) → (below (loc i) (m ∷ loc at) ≡ true) ⊎ ((c : ℕ) × (child i k ≡ Some c) × (below l (loc c) ≡ true))
+    by_case : (below (loc i) (loc at) ≡ true) ⊎ (below (loc at) (loc i) ≡ true) → (below (loc i) (m ∷ loc at) ≡ true)
+        ⊎ ((c : ℕ) × (child i k ≡ Some c) × (below l (loc c) ≡ true))
     by_case (inl w) = inl (lower (below-next (loc i) (loc at) w))
     by_case (inr w) = inr (upper (below-next (loc at) (loc i) w))
 
-pub attached : (n : ℕ) (loc loc' : ℕ → Path) (child child' : ℕ → List ℕ → Option ℕ) (at : ℕ) (m : List ℕ) (l : Path) → IsTrie n loc child → at < n → IsPath l → below l (m ∷ loc at) ≡ true → child at m ≡ None
+pub attached : (n : ℕ) (loc loc' : ℕ → Path) (child child' : ℕ → List ℕ → Option ℕ) (at : ℕ) (m : List ℕ) (l : Path)
+    → IsTrie n loc child → at < n → IsPath l → below l (m ∷ loc at) ≡ true → child at m ≡ None
     → IsAttached n loc loc' child child' at m l → IsTrie (suc n) loc' child'
 attached n loc loc' child child' at m l t lt path b free a = record {
   root = a.same 0 (omega arith) ∙ t.root;
@@ -81,16 +114,19 @@ attached n loc loc' child child' at m l t lt path b free a = record {
     distinct_at i j lti ltj e (inr p) (inl q) =
         let there : l ≡ loc i = sym a.made ∙ ap loc' (sym q) ∙ sym e ∙ a.same i p in
         absurd (fresh i (omega arith) (rw (← there) b))
-    distinct_at i j lti ltj e (inr p) (inr q) = t.distinct i j (omega arith) (omega arith) (sym (a.same i p) ∙ e ∙ a.same j q)
+    distinct_at i j lti ltj e (inr p) (inr q) =
+        t.distinct i j (omega arith) (omega arith) (sym (a.same i p) ∙ e ∙ a.same j q)
 
-    leads_on : (i c : ℕ) (k : List ℕ) → child i k ≡ Some c → (i < suc n) × (c < suc n) × (below (loc' c) (k ∷ loc' i) ≡ true)
+    leads_on : (i c : ℕ) (k : List ℕ) → child i k ≡ Some c → (i < suc n) × (c < suc n)
+        × (below (loc' c) (k ∷ loc' i) ≡ true)
     leads_on i c k e =
         let w = t.leads i c k e in
         let here : i ≢ n = omega (arith, w.0) in
         let there : c ≢ n = omega (arith, w.1) in
         (omega (arith, w.0), omega (arith, w.1), rw (a.same i here, a.same c there) w.2)
 
-    leads_at : (i c : ℕ) (k : List ℕ) → child' i k ≡ Some c → (i ≡ at) ⊎ (i ≢ at) → ((bytes_eq m k ≡ true) × (m ≡ k)) ⊎ (bytes_eq m k ≡ false) → (i < suc n) × (c < suc n) × (below (loc' c) (k ∷ loc' i) ≡ true)
+    leads_at : (i c : ℕ) (k : List ℕ) → child' i k ≡ Some c → (i ≡ at) ⊎ (i ≢ at) → ((bytes_eq m k ≡ true) × (m ≡ k))
+        ⊎ (bytes_eq m k ≡ false) → (i < suc n) × (c < suc n) × (below (loc' c) (k ∷ loc' i) ≡ true)
     leads_at i c k e (inr p) q = leads_on i c k (sym (a.others i p k) ∙ e)
     leads_at i c k e (inl p) (inr q) = let w = rw (p, a.way k, q) at e in rw p (leads_on at c k w)
     leads_at i c k e (inl p) (inl q) =
@@ -107,32 +143,45 @@ attached n loc loc' child child' at m l t lt path b free a = record {
         by_case (inl p) (inr q) = rw (p, a.way k, q, ← p) e
         by_case (inl p) (inl q) = absurd (let no : None ≡ Some c = sym free ∙ rw (p, ← q.1) at e in cc)
 
-    routed_at : (i j : ℕ) (k : List ℕ) → i < suc n → j < suc n → below (loc' j) (k ∷ loc' i) ≡ true → (i ≡ n) ⊎ (i ≢ n) → (j ≡ n) ⊎ (j ≢ n) → (c : ℕ) × (child' i k ≡ Some c) × (below (loc' j) (loc' c) ≡ true)
-    routed_at i j k lti ltj h (inl p) (inl q) = absurd (below-child_of_it l k (below_moved (loc' j) l (loc' i) l k (ap loc' q ∙ a.made) (ap loc' p ∙ a.made) h))
+    routed_at : (i j : ℕ) (k : List ℕ) → i < suc n → j < suc n → below (loc' j) (k ∷ loc' i) ≡ true → (i ≡ n) ⊎ (i ≢ n)
+        → (j ≡ n) ⊎ (j ≢ n) → (c : ℕ) × (child' i k ≡ Some c) × (below (loc' j) (loc' c) ≡ true)
+    routed_at i j k lti ltj h (inl p) (inl q) =
+        absurd (below-child_of_it l k (below_moved (loc' j) l (loc' i) l k (ap loc' q ∙ a.made) (ap loc' p ∙ a.made) h))
     routed_at i j k lti ltj h (inl p) (inr q) =
         let lower = below_moved (loc' j) (loc j) (loc' i) l k (a.same j q) (ap loc' p ∙ a.made) h in
         absurd (fresh j (omega arith) (below-through (loc j) l (m ∷ loc at) (below-parent (loc j) l k lower) b))
     routed_at i j k lti ltj h (inr p) (inr q) =
-        let way = t.routed i j k (omega arith) (omega arith) (below_moved (loc' j) (loc j) (loc' i) (loc i) k (a.same j q) (a.same i p) h) in
+        let way = t.routed i j k (omega arith) (omega arith)
+        (below_moved (loc' j) (loc j) (loc' i) (loc i) k (a.same j q) (a.same i p) h) in
         let lead = t.leads i way.0 k way.1 in
-        let there : way.0 ≢ n = omega (arith, lead.1) in
-        (way.0, kept i way.0 k way.1, below_both (loc' j) (loc j) (loc' way.0) (loc way.0) (a.same j q) (a.same way.0 there) way.2)
-    routed_at i j k lti ltj h (inr p) (inl q) = rw (q, a.made) (new_way (below_moved (loc' j) l (loc' i) (loc i) k (ap loc' q ∙ a.made) (a.same i p) h) (is_place i at))
+        let there : way.0 ≢ n = omega (arith, lead.1) in (
+          way.0,
+          kept i way.0 k way.1,
+          below_both (loc' j) (loc j) (loc' way.0) (loc way.0) (a.same j q)
+              (a.same way.0 there) way.2,
+        )
+    routed_at i j k lti ltj h (inr p) (inl q) =
+        rw (q, a.made) (new_way (below_moved (loc' j) l (loc' i) (loc i) k (ap loc' q ∙ a.made) (a.same i p) h)
+        (is_place i at))
       where
-        new_way : below l (k ∷ loc i) ≡ true → (i ≡ at) ⊎ (i ≢ at) → (c : ℕ) × (child' i k ≡ Some c) × (below l (loc' c) ≡ true)
+        new_way : below l (k ∷ loc i) ≡ true → (i ≡ at) ⊎ (i ≢ at) → (c : ℕ) × (child' i k ≡ Some c)
+            × (below l (loc' c) ≡ true)
         new_way g (inl r) =
             let one : m ≡ k = below-one_name l (loc at) m k b (rw r at g) in
             (n, rw (r, a.way k, ← one, same_name m) refl, rw a.made (below-same l))
         new_way g (inr r) = by_case (through_other n loc child at i m k l t lt (omega arith) r b g)
           where
-            by_case : (below (loc i) (m ∷ loc at) ≡ true) ⊎ ((c : ℕ) × (child i k ≡ Some c) × (below l (loc c) ≡ true)) → (c : ℕ) × (child' i k ≡ Some c) × (below l (loc' c) ≡ true)
+            by_case : (below (loc i) (m ∷ loc at) ≡ true) ⊎ ((c : ℕ) × (child i k ≡ Some c) × (below l (loc c) ≡ true))
+                → (c : ℕ) × (child' i k ≡ Some c) × (below l (loc' c) ≡ true)
             by_case (inl w) = absurd (fresh i (omega arith) w)
             by_case (inr w) =
                 let lead = t.leads i w.0 k w.1 in
                 let there : w.0 ≢ n = omega (arith, lead.1) in
                 (w.0, kept i w.0 k w.1, rw (a.same w.0 there) w.2)
 
-pub parted : (n : ℕ) (loc loc' : ℕ → Path) (child child' : ℕ → List ℕ → Option ℕ) (at : ℕ) (m : List ℕ) (l : Path) (m' : List ℕ) (c : ℕ) → IsTrie n loc child → IsPath l → child at m ≡ Some c → below l (m ∷ loc at) ≡ true → below (loc c) (m' ∷ l) ≡ true
+pub parted : (n : ℕ) (loc loc' : ℕ → Path) (child child' : ℕ → List ℕ → Option ℕ) (at : ℕ) (m : List ℕ) (l : Path)
+    (m' : List ℕ) (c : ℕ) → IsTrie n loc child → IsPath l → child at m ≡ Some c → below l (m ∷ loc at) ≡ true
+    → below (loc c) (m' ∷ l) ≡ true
     → IsParted n loc loc' child child' at m l (λ k. cond (bytes_eq m' k) (Some c) None) → IsTrie (suc n) loc' child'
 parted n loc loc' child child' at m l m' c t path e b h a = record {
   root = a.same 0 (omega (arith, (t.leads at c m e).0)) ∙ t.root;
@@ -170,18 +219,24 @@ parted n loc loc' child child' at m l m' c t path e b h a = record {
 
     distinct_at : (i j : ℕ) → i < suc n → j < suc n → loc' i ≡ loc' j → (i ≡ n) ⊎ (i ≢ n) → (j ≡ n) ⊎ (j ≢ n) → i ≡ j
     distinct_at i j lti ltj same (inl p) (inl q) = p ∙ sym q
-    distinct_at i j lti ltj same (inl p) (inr q) = absurd (fresh j (omega arith) (sym a.made ∙ ap loc' (sym p) ∙ same ∙ a.same j q))
-    distinct_at i j lti ltj same (inr p) (inl q) = absurd (fresh i (omega arith) (sym a.made ∙ ap loc' (sym q) ∙ sym same ∙ a.same i p))
-    distinct_at i j lti ltj same (inr p) (inr q) = t.distinct i j (omega arith) (omega arith) (sym (a.same i p) ∙ same ∙ a.same j q)
+    distinct_at i j lti ltj same (inl p) (inr q) =
+        absurd (fresh j (omega arith) (sym a.made ∙ ap loc' (sym p) ∙ same ∙ a.same j q))
+    distinct_at i j lti ltj same (inr p) (inl q) =
+        absurd (fresh i (omega arith) (sym a.made ∙ ap loc' (sym q) ∙ sym same ∙ a.same i p))
+    distinct_at i j lti ltj same (inr p) (inr q) =
+        t.distinct i j (omega arith) (omega arith) (sym (a.same i p) ∙ same ∙ a.same j q)
 
-    leads_on : (i d : ℕ) (k : List ℕ) → child i k ≡ Some d → (i < suc n) × (d < suc n) × (below (loc' d) (k ∷ loc' i) ≡ true)
+    leads_on : (i d : ℕ) (k : List ℕ) → child i k ≡ Some d → (i < suc n) × (d < suc n)
+        × (below (loc' d) (k ∷ loc' i) ≡ true)
     leads_on i d k is =
         let w = t.leads i d k is in
         let here : i ≢ n = omega (arith, w.0) in
         let there : d ≢ n = omega (arith, w.1) in
         (omega (arith, w.0), omega (arith, w.1), rw (a.same i here, a.same d there) w.2)
 
-    leads_at : (i d : ℕ) (k : List ℕ) → child' i k ≡ Some d → (i ≡ n) ⊎ (i ≢ n) → (i ≡ at) ⊎ (i ≢ at) → ((bytes_eq m k ≡ true) × (m ≡ k)) ⊎ (bytes_eq m k ≡ false) → ((bytes_eq m' k ≡ true) × (m' ≡ k)) ⊎ (bytes_eq m' k ≡ false) → (i < suc n) × (d < suc n) × (below (loc' d) (k ∷ loc' i) ≡ true)
+    leads_at : (i d : ℕ) (k : List ℕ) → child' i k ≡ Some d → (i ≡ n) ⊎ (i ≢ n) → (i ≡ at) ⊎ (i ≢ at)
+        → ((bytes_eq m k ≡ true) × (m ≡ k)) ⊎ (bytes_eq m k ≡ false) → ((bytes_eq m' k ≡ true) × (m' ≡ k))
+        ⊎ (bytes_eq m' k ≡ false) → (i < suc n) × (d < suc n) × (below (loc' d) (k ∷ loc' i) ≡ true)
     leads_at i d k is (inl p) r x (inr y) = absurd (let no = rw (p, a.further k, y) at is in cc)
     leads_at i d k is (inl p) r x (inl y) =
         let w = rw (p, a.further k, y.0) at is in
@@ -197,21 +252,25 @@ parted n loc loc' child child' at m l m' c t path e b h a = record {
         (omega (arith, lt), omega arith, rw (← there, r, a.made, a.same at here, ← x.1) b)
 
     -- a child from before is one now, or the new node stands before it
-    kept : (i j d : ℕ) (k : List ℕ) → i ≢ n → child i k ≡ Some d → below (loc j) (loc d) ≡ true → (x : ℕ) × (child' i k ≡ Some x) × (below (loc j) (loc' x) ≡ true)
+    kept : (i j d : ℕ) (k : List ℕ) → i ≢ n → child i k ≡ Some d → below (loc j) (loc d) ≡ true → (x : ℕ)
+        × (child' i k ≡ Some x) × (below (loc j) (loc' x) ≡ true)
     kept i j d k p is g = by_case (is_place i at) (is_name m k)
       where
         there : d ≢ n
         there = omega (arith, (t.leads i d k is).1)
 
-        by_case : (i ≡ at) ⊎ (i ≢ at) → ((bytes_eq m k ≡ true) × (m ≡ k)) ⊎ (bytes_eq m k ≡ false) → (x : ℕ) × (child' i k ≡ Some x) × (below (loc j) (loc' x) ≡ true)
+        by_case : (i ≡ at) ⊎ (i ≢ at) → ((bytes_eq m k ≡ true) × (m ≡ k)) ⊎ (bytes_eq m k ≡ false) → (x : ℕ)
+            × (child' i k ≡ Some x) × (below (loc j) (loc' x) ≡ true)
         by_case (inr r) x = (d, a.others i r p k ∙ is, rw (a.same d there) g)
         by_case (inl r) (inr x) = (d, rw (r, a.way k, x, ← r) is, rw (a.same d there) g)
         by_case (inl r) (inl x) =
             let one : c ≡ d = (let same : Some c ≡ Some d = sym e ∙ rw (r, ← x.1) at is in cc) in
             (n, rw (r, a.way k, x.0) refl, rw a.made (below-through (loc j) (loc d) l g (rw (← one) above)))
 
-    routed_at : (i j : ℕ) (k : List ℕ) → i < suc n → j < suc n → below (loc' j) (k ∷ loc' i) ≡ true → (i ≡ n) ⊎ (i ≢ n) → (j ≡ n) ⊎ (j ≢ n) → (x : ℕ) × (child' i k ≡ Some x) × (below (loc' j) (loc' x) ≡ true)
-    routed_at i j k lti ltj g (inl p) (inl q) = absurd (below-child_of_it l k (below_moved (loc' j) l (loc' i) l k (ap loc' q ∙ a.made) (ap loc' p ∙ a.made) g))
+    routed_at : (i j : ℕ) (k : List ℕ) → i < suc n → j < suc n → below (loc' j) (k ∷ loc' i) ≡ true → (i ≡ n) ⊎ (i ≢ n)
+        → (j ≡ n) ⊎ (j ≢ n) → (x : ℕ) × (child' i k ≡ Some x) × (below (loc' j) (loc' x) ≡ true)
+    routed_at i j k lti ltj g (inl p) (inl q) =
+        absurd (below-child_of_it l k (below_moved (loc' j) l (loc' i) l k (ap loc' q ∙ a.made) (ap loc' p ∙ a.made) g))
     routed_at i j k lti ltj g (inl p) (inr q) =
         let lower = below_moved (loc' j) (loc j) (loc' i) l k (a.same j q) (ap loc' p ∙ a.made) g in
         let under = inside j (omega arith) (below-through (loc j) l (m ∷ loc at) (below-parent (loc j) l k lower) b) in
@@ -219,17 +278,22 @@ parted n loc loc' child child' at m l m' c t path e b h a = record {
         let there : c ≢ n = omega (arith, ltc) in
         (c, rw (p, a.further k, ← one, same_name m') refl, rw (a.same j q, a.same c there) under)
     routed_at i j k lti ltj g (inr p) (inr q) =
-        let way = t.routed i j k (omega arith) (omega arith) (below_moved (loc' j) (loc j) (loc' i) (loc i) k (a.same j q) (a.same i p) g) in
+        let way = t.routed i j k (omega arith) (omega arith)
+        (below_moved (loc' j) (loc j) (loc' i) (loc i) k (a.same j q) (a.same i p) g) in
         rw (a.same j q) (kept i j way.0 k p way.1 way.2)
-    routed_at i j k lti ltj g (inr p) (inl q) = rw (q, a.made) (new_way (below_moved (loc' j) l (loc' i) (loc i) k (ap loc' q ∙ a.made) (a.same i p) g) (is_place i at))
+    routed_at i j k lti ltj g (inr p) (inl q) =
+        rw (q, a.made) (new_way (below_moved (loc' j) l (loc' i) (loc i) k (ap loc' q ∙ a.made) (a.same i p) g)
+        (is_place i at))
       where
-        new_way : below l (k ∷ loc i) ≡ true → (i ≡ at) ⊎ (i ≢ at) → (x : ℕ) × (child' i k ≡ Some x) × (below l (loc' x) ≡ true)
+        new_way : below l (k ∷ loc i) ≡ true → (i ≡ at) ⊎ (i ≢ at) → (x : ℕ) × (child' i k ≡ Some x)
+            × (below l (loc' x) ≡ true)
         new_way f (inl r) =
             let one : m ≡ k = below-one_name l (loc at) m k b (rw r at f) in
             (n, rw (r, a.way k, ← one, same_name m) refl, rw a.made (below-same l))
         new_way f (inr r) = by_case (through_other n loc child at i m k l t lt (omega arith) r b f)
           where
-            by_case : (below (loc i) (m ∷ loc at) ≡ true) ⊎ ((x : ℕ) × (child i k ≡ Some x) × (below l (loc x) ≡ true)) → (x : ℕ) × (child' i k ≡ Some x) × (below l (loc' x) ≡ true)
+            by_case : (below (loc i) (m ∷ loc at) ≡ true) ⊎ ((x : ℕ) × (child i k ≡ Some x) × (below l (loc x) ≡ true))
+                → (x : ℕ) × (child' i k ≡ Some x) × (below l (loc' x) ≡ true)
             by_case (inl w) = absurd (not_inside (loc i) (below-parent l (loc i) k f) (inside i (omega arith) w))
             by_case (inr w) =
                 let there : w.0 ≢ n = omega (arith, (t.leads i w.0 k w.1).1) in
@@ -243,32 +307,43 @@ abbrev ways_before : (n : ℕ) (below_it : List ℕ → Option ℕ) (child' : �
 ways_before n below_it child' i k = cond (i == n) (below_it k) (child' i k)
 
 -- a node put between two others, with one more beside the lower one
-pub parted_beside : (n : ℕ) (loc loc' : ℕ → Path) (child child' : ℕ → List ℕ → Option ℕ) (at : ℕ) (m : List ℕ) (l : Path) (m' : List ℕ) (c : ℕ) (x : List ℕ) (p : Path) → IsTrie n loc child → IsPath l → IsPath p → child at m ≡ Some c → below l (m ∷ loc at) ≡ true → below (loc c) (m' ∷ l) ≡ true → below p (x ∷ l) ≡ true → m' ≢ x
-    → IsBeside n loc loc' child child' at m l (λ k. cond (bytes_eq m' k) (Some c) None) x p → IsTrie (suc (suc n)) loc' child'
+pub parted_beside : (n : ℕ) (loc loc' : ℕ → Path) (child child' : ℕ → List ℕ → Option ℕ) (at : ℕ) (m : List ℕ)
+    (l : Path) (m' : List ℕ) (c : ℕ) (x : List ℕ) (p : Path) → IsTrie n loc child → IsPath l → IsPath p
+    → child at m ≡ Some c → below l (m ∷ loc at) ≡ true → below (loc c) (m' ∷ l) ≡ true → below p (x ∷ l) ≡ true
+    → m' ≢ x
+    → IsBeside n loc loc' child child' at m l (λ k. cond (bytes_eq m' k) (Some c) None) x p
+    → IsTrie (suc (suc n)) loc' child'
 parted_beside n loc loc' child child' at m l m' c x p t path path' e b h g apart a =
-    attached (suc n) (before n loc loc') loc' (ways_before n (λ k. cond (bytes_eq m' k) (Some c) None) child') child' n x p (parted n loc (before n loc loc') child (ways_before n (λ k. cond (bytes_eq m' k) (Some c) None) child') at m l m' c t path e b h first) (omega arith) path' (rw at_n g) no_way second
+    attached (suc n) (before n loc loc') loc' (ways_before n (λ k. cond (bytes_eq m' k) (Some c) None) child') child' n
+    x p (parted n loc (before n loc loc') child (ways_before n (λ k. cond (bytes_eq m' k) (Some c) None) child') at
+    m l m' c t path e b h first) (omega arith) path' (rw at_n g) no_way second
   where
     at_other : (i : ℕ) → i ≢ suc n → (before n loc loc') i ≡ loc' i
     at_other i other = by_case (eqb_tells i (suc n))
       where
-        by_case : (((i == suc n) ≡ true) × (i ≡ suc n)) ⊎ (((i == suc n) ≡ false) × (i ≢ suc n)) → cond (i == suc n) (loc i) (loc' i) ≡ loc' i
+        by_case : (((i == suc n) ≡ true) × (i ≡ suc n)) ⊎ (((i == suc n) ≡ false) × (i ≢ suc n))
+            → cond (i == suc n) (loc i) (loc' i) ≡ loc' i
         by_case (inl w) = absurd (other w.1)
         by_case (inr w) = rw w.0 refl
 
     at_n : (before n loc loc') n ≡ l
     at_n = at_other n (omega arith) ∙ a.made
 
-    on_n : (k : List ℕ) → (ways_before n (λ k. cond (bytes_eq m' k) (Some c) None) child') n k ≡ cond (bytes_eq m' k) (Some c) None
+    on_n : (k : List ℕ) → (ways_before n (λ k. cond (bytes_eq m' k) (Some c) None) child') n k ≡ cond (bytes_eq m' k)
+        (Some c) None
     on_n k = by_case (eqb_tells n n)
       where
-        by_case : (((n == n) ≡ true) × (n ≡ n)) ⊎ (((n == n) ≡ false) × (n ≢ n)) → cond (n == n) (cond (bytes_eq m' k) (Some c) None) (child' n k) ≡ cond (bytes_eq m' k) (Some c) None
+        by_case : (((n == n) ≡ true) × (n ≡ n)) ⊎ (((n == n) ≡ false) × (n ≢ n))
+            → cond (n == n) (cond (bytes_eq m' k) (Some c) None) (child' n k) ≡ cond (bytes_eq m' k) (Some c) None
         by_case (inl w) = rw w.0 refl
         by_case (inr w) = absurd (w.1 refl)
 
-    on_other : (i : ℕ) → i ≢ n → (k : List ℕ) → (ways_before n (λ k. cond (bytes_eq m' k) (Some c) None) child') i k ≡ child' i k
+    on_other : (i : ℕ) → i ≢ n → (k : List ℕ)
+        → (ways_before n (λ k. cond (bytes_eq m' k) (Some c) None) child') i k ≡ child' i k
     on_other i other k = by_case (eqb_tells i n)
       where
-        by_case : (((i == n) ≡ true) × (i ≡ n)) ⊎ (((i == n) ≡ false) × (i ≢ n)) → cond (i == n) (cond (bytes_eq m' k) (Some c) None) (child' i k) ≡ child' i k
+        by_case : (((i == n) ≡ true) × (i ≡ n)) ⊎ (((i == n) ≡ false) × (i ≢ n))
+            → cond (i == n) (cond (bytes_eq m' k) (Some c) None) (child' i k) ≡ child' i k
         by_case (inl w) = absurd (other w.1)
         by_case (inr w) = rw w.0 refl
 
@@ -278,18 +353,21 @@ parted_beside n loc loc' child child' at m l m' c x p t path path' e b h g apart
     no_way : (ways_before n (λ k. cond (bytes_eq m' k) (Some c) None) child') n x ≡ None
     no_way = on_n x ∙ by_case (is_name m' x)
       where
-        by_case : ((bytes_eq m' x ≡ true) × (m' ≡ x)) ⊎ (bytes_eq m' x ≡ false) → cond (bytes_eq m' x) (Some c) None ≡ None
+        by_case : ((bytes_eq m' x ≡ true) × (m' ≡ x)) ⊎ (bytes_eq m' x ≡ false)
+            → cond (bytes_eq m' x) (Some c) None ≡ None
         by_case (inl w) = absurd (apart w.1)
         by_case (inr w) = rw w refl
 
     same_at : (i : ℕ) → i ≢ n → (before n loc loc') i ≡ loc i
     same_at i other = by_case (eqb_tells i (suc n))
       where
-        by_case : (((i == suc n) ≡ true) × (i ≡ suc n)) ⊎ (((i == suc n) ≡ false) × (i ≢ suc n)) → cond (i == suc n) (loc i) (loc' i) ≡ loc i
+        by_case : (((i == suc n) ≡ true) × (i ≡ suc n)) ⊎ (((i == suc n) ≡ false) × (i ≢ suc n))
+            → cond (i == suc n) (loc i) (loc' i) ≡ loc i
         by_case (inl w) = rw w.0 refl
         by_case (inr w) = rw w.0 (a.same i other w.1)
 
-    first : IsParted n loc (before n loc loc') child (ways_before n (λ k. cond (bytes_eq m' k) (Some c) None) child') at m l (λ k. cond (bytes_eq m' k) (Some c) None)
+    first : IsParted n loc (before n loc loc') child (ways_before n (λ k. cond (bytes_eq m' k) (Some c) None) child') at
+        m l (λ k. cond (bytes_eq m' k) (Some c) None)
     first = record {
       same = same_at;
       made = at_n;
@@ -298,7 +376,8 @@ parted_beside n loc loc' child child' at m l m' c x p t path path' e b h g apart
       others = λ i q r k. on_other i r k ∙ a.others i q r k;
     }
 
-    second : IsAttached (suc n) (before n loc loc') loc' (ways_before n (λ k. cond (bytes_eq m' k) (Some c) None) child') child' n x p
+    second : IsAttached (suc n) (before n loc loc') loc' (ways_before n (λ k. cond (bytes_eq m' k) (Some c) None)
+        child') child' n x p
     second = record {
       same = λ i q. sym (at_other i q);
       made = a.made_beside;

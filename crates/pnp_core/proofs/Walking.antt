@@ -4,7 +4,8 @@ use Rattle.sugar_path.specs.Path.{Path, parent, is_root}
 use Rattle.tree_core.specs.Plan.{Done, ◌>>=◌, exists}
 use Rattle.pnp_core.specs.Nearest.{manifest_file, nearest}
 
-pub nearest-step : (d : Path) → nearest d ≡ (exists (manifest_file d) >>= λ there. cond there (Done (Some (manifest_file d))) (cond (is_root d) (Done None) (nearest (parent d))))
+pub nearest-step : (d : Path) → nearest d ≡ (exists (manifest_file d)
+    >>= λ there. cond there (Done (Some (manifest_file d))) (cond (is_root d) (Done None) (nearest (parent d))))
 unfolding nearest
 nearest-step [] = refl
 nearest-step (n ∷ d) = refl

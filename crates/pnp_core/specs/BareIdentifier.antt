@@ -1,5 +1,20 @@
 -- The package name and the subpath of a bare specifier.
-use Rattle.std.specs.Prelude.{◌≡◌, ℕ, Bool, ◌==◌, if◌then◌else◌, List, ◌∷◌, ◌++◌, length, Option, Some, None, get_or, nat_lt}
+use Rattle.std.specs.Prelude.{
+  ◌≡◌,
+  ℕ,
+  Bool,
+  ◌==◌,
+  if◌then◌else◌,
+  List,
+  ◌∷◌,
+  ◌++◌,
+  length,
+  Option,
+  Some,
+  None,
+  get_or,
+  nat_lt,
+}
 use Rattle.std.specs.List.{position_or_len, before_first, after_first}
 use Rattle.pnp_core.specs.declared.error.Error.{Error}
 use Rattle.pnp_core.specs.declared.error.Error.TheVariants.{BadSpecifier, NoMemory}
@@ -29,7 +44,8 @@ split_scoped t =
     then Some (behind_scope (before_first is_slash t) (split_unscoped (after_first is_slash t)))
     else None
 
--- How a bare specifier falls into the name of a package and what is asked of that package. A scope and its `/` belong to the name,
+-- How a bare specifier falls into the name of a package and what is asked of that package. A scope and its `/` belong
+-- to the name,
 -- so a scoped text is cut at its second `/`, any other text at its first. A scope alone is no name: None.
 abbrev pub split_bare : List ℕ → Option (List ℕ × Option (List ℕ))
 split_bare t = if is_scoped t then split_scoped t else Some (split_unscoped t)

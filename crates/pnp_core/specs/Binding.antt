@@ -1,5 +1,19 @@
 -- What a package's row binds a name to.
-use Rattle.std.specs.Prelude.{ℕ, Bool, false, not, ◌&&◌, if◌then◌else◌, List, [], Option, Some, None, bytes_eq, option_and_then}
+use Rattle.std.specs.Prelude.{
+  ℕ,
+  Bool,
+  false,
+  not,
+  ◌&&◌,
+  if◌then◌else◌,
+  List,
+  [],
+  Option,
+  Some,
+  None,
+  bytes_eq,
+  option_and_then,
+}
 use Rattle.std.specs.List.{list_any}
 use Rattle.pnp_core.specs.declared.manifest.Binding.{Binding}
 use Rattle.pnp_core.specs.declared.manifest.Binding.TheVariants.{Bound, MissingPeer, Undeclared}

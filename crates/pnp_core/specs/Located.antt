@@ -18,7 +18,8 @@ contents_of m = record {
   package_registry_data = map (λ e. (e.0, e.1.entries)) m.package_registry_data.entries;
 }
 
--- once a manifest has its folder, its trie has the last row's locator at each location of its rows, and no other location
+-- once a manifest has its folder, its trie has the last row's locator at each location of its rows, and no other
+-- location
 abbrev pub HoldsLocations : Inside → Type 0
 HoldsLocations m =
     IsTrue (is_absolute m.manifest_dir) → (l : Path) → IsPath l

@@ -1,6 +1,26 @@
 -- The manifest that bytes are: the JSON of their payload, field by field.
 -- A `do` here is over readings: it goes on with what a reading gives, and gives nothing where one of them doesn't read.
-use Rattle.std.specs.Prelude.{ℕ, false, if◌then◌else◌, List, [], Option, Some, None, Result, Ok, Err, ◌≡◌, map, filter, codes, bytes_eq, is_none, option_map, unwrap_or}
+use Rattle.std.specs.Prelude.{
+  ℕ,
+  false,
+  if◌then◌else◌,
+  List,
+  [],
+  Option,
+  Some,
+  None,
+  Result,
+  Ok,
+  Err,
+  ◌≡◌,
+  map,
+  filter,
+  codes,
+  bytes_eq,
+  is_none,
+  option_map,
+  unwrap_or,
+}
 use Rattle.std.specs.Option.{option_or}
 use Rattle.std.specs.Str.{is_utf8, chars}
 use Rattle.serde_json.specs.Data.{Data}
@@ -14,7 +34,13 @@ use Rattle.indexmap.specs.IndexMap.{insert_all}
 use Rattle.indexmap.specs.IndexSet as set
 use Rattle.sugar_path.specs.Path.{Path, parent, text_of, join}
 use Rattle.pnp_core.specs.declared.error.HydrationCause.{HydrationCause}
-use Rattle.pnp_core.specs.declared.error.HydrationCause.TheVariants.{NotText, NoPayload, BadJson, BadPattern, NoTopLevel}
+use Rattle.pnp_core.specs.declared.error.HydrationCause.TheVariants.{
+  NotText,
+  NoPayload,
+  BadJson,
+  BadPattern,
+  NoTopLevel,
+}
 use Rattle.pnp_core.specs.declared.error.ReadManifestError.{ReadManifestError}
 use Rattle.pnp_core.specs.declared.error.ReadManifestError.TheVariants as refusal
 use Rattle.pnp_core.specs.declared.manifest.PackageLocator.{PackageLocator}
@@ -26,7 +52,18 @@ use Rattle.es_pattern.specs.declared.error.PatternError.{PatternError}
 use Rattle.es_pattern.specs.declared.error.PatternError.TheVariants as pattern_error
 use Rattle.pnp_core.specs.NormalizePath.{normalize_path}
 use Rattle.pnp_core.specs.Payload.{payload}
-use Rattle.pnp_core.specs.Manifest.{Dependencies, Package, Registry, Contents, locator, locator_eq, top_level, at, package_at, has_row}
+use Rattle.pnp_core.specs.Manifest.{
+  Dependencies,
+  Package,
+  Registry,
+  Contents,
+  locator,
+  locator_eq,
+  top_level,
+  at,
+  package_at,
+  has_row,
+}
 
 -- a repeated name keeps its place and takes the last value
 abbrev pub entries_of : {A : Type 0} → List (List ℕ × A) → List (List ℕ × A)
@@ -82,7 +119,8 @@ texts_in d = option_map (set.insert_all bytes_eq []) (list_by as_str d)
 abbrev pub exclusions_in : Data → Option (List (List ℕ × List (List ℕ)))
 exclusions_in d = option_map entries_of (list_by (pair_by as_str texts_in) d)
 
--- the fields of a manifest but its registry, and the text of its ignore pattern; others are passed over. It has no folder, no path and no pattern yet
+-- the fields of a manifest but its registry, and the text of its ignore pattern; others are passed over. It has no
+-- folder, no path and no pattern yet
 unfoldable pub fields_but_registry : Data → Option (Contents × Option (List ℕ))
 fields_but_registry d = do
   fallback ← field_by (codes "enableTopLevelFallback") as_bool d

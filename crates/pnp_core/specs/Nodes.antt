@@ -1,5 +1,29 @@
 -- What the nodes of a trie hold, and how they lead to one another. No public clause names these.
-use Rattle.std.specs.Prelude.{◌≡◌, ◌≢◌, ◌<◌, ℕ, suc, true, false, if◌then◌else◌, IsSome, IfSome, List, [], ◌∷◌, length, map, get_or, Option, Some, None, option_map, bytes_eq, string_bytes, String}
+use Rattle.std.specs.Prelude.{
+  ◌≡◌,
+  ◌≢◌,
+  ◌<◌,
+  ℕ,
+  suc,
+  true,
+  false,
+  if◌then◌else◌,
+  IsSome,
+  IfSome,
+  List,
+  [],
+  ◌∷◌,
+  length,
+  map,
+  get_or,
+  Option,
+  Some,
+  None,
+  option_map,
+  bytes_eq,
+  string_bytes,
+  String,
+}
 use Rattle.std.specs.List.{filter_map}
 use Rattle.std.specs.Map.{lookup}
 use Rattle.std.specs.BTreeMap.{BTreeMap}
@@ -27,24 +51,29 @@ child_at ns i name = lookup (bytes_eq name) (get_or (map (λ n. ways n.children)
 abbrev pub stored : {T : Type 0} → List (Node T) → Locations T
 stored ns = filter_map (λ entry. entry) (map (λ n. option_map (λ v. (text_of n.location, v)) n.value) ns)
 
--- Nodes that are a trie. The first node is that of `/`, and each location has one node at most. A name leads to a node below it, and on
+-- Nodes that are a trie. The first node is that of `/`, and each location has one node at most. A name leads to a node
+-- below it, and on
 -- the way from a node to any node below it there is a child of the first.
 pub record IsTrie (n : ℕ) (location : ℕ → Path) (child : ℕ → List ℕ → Option ℕ) : Type 0 where
   pub root : location 0 ≡ []
   pub paths : (i : ℕ) → IsPath (location i)
   pub distinct : (i j : ℕ) → i < n → j < n → location i ≡ location j → i ≡ j
-  pub leads : (i c : ℕ) (name : List ℕ) → child i name ≡ Some c → (i < n) × (c < n) × (below (location c) (name ∷ location i) ≡ true)
-  pub routed : (i j : ℕ) (name : List ℕ) → i < n → j < n → below (location j) (name ∷ location i) ≡ true → (c : ℕ) × (child i name ≡ Some c) × (below (location j) (location c) ≡ true)
+  pub leads : (i c : ℕ) (name : List ℕ) → child i name ≡ Some c → (i < n) × (c < n)
+      × (below (location c) (name ∷ location i) ≡ true)
+  pub routed : (i j : ℕ) (name : List ℕ) → i < n → j < n → below (location j) (name ∷ location i) ≡ true → (c : ℕ)
+      × (child i name ≡ Some c) × (below (location j) (location c) ≡ true)
 
 -- a node without children was made, and a name leads to it from another one
-pub record IsAttached (n : ℕ) (old new : ℕ → Path) (child child' : ℕ → List ℕ → Option ℕ) (at : ℕ) (name : List ℕ) (l : Path) : Type 0 where
+pub record IsAttached (n : ℕ) (old new : ℕ → Path) (child child' : ℕ → List ℕ → Option ℕ) (at : ℕ) (name : List ℕ)
+    (l : Path) : Type 0 where
   pub same : (i : ℕ) → i ≢ n → new i ≡ old i
   pub made : new n ≡ l
   pub way : (k : List ℕ) → child' at k ≡ (if bytes_eq name k then Some n else child at k)
   pub others : (i : ℕ) → i ≢ at → (k : List ℕ) → child' i k ≡ child i k
 
 -- a node was made to which a name leads from another one, and from which a name leads to a third
-pub record IsParted (n : ℕ) (old new : ℕ → Path) (child child' : ℕ → List ℕ → Option ℕ) (at : ℕ) (name : List ℕ) (l : Path) (below_it : List ℕ → Option ℕ) : Type 0 where
+pub record IsParted (n : ℕ) (old new : ℕ → Path) (child child' : ℕ → List ℕ → Option ℕ) (at : ℕ) (name : List ℕ)
+    (l : Path) (below_it : List ℕ → Option ℕ) : Type 0 where
   pub same : (i : ℕ) → i ≢ n → new i ≡ old i
   pub made : new n ≡ l
   pub way : (k : List ℕ) → child' at k ≡ (if bytes_eq name k then Some n else child at k)
@@ -52,7 +81,8 @@ pub record IsParted (n : ℕ) (old new : ℕ → Path) (child child' : ℕ → L
   pub others : (i : ℕ) → i ≢ at → i ≢ n → (k : List ℕ) → child' i k ≡ child i k
 
 -- Two nodes were made: one as above, and one without children to which another name leads from it.
-pub record IsBeside (n : ℕ) (old new : ℕ → Path) (child child' : ℕ → List ℕ → Option ℕ) (at : ℕ) (name : List ℕ) (l : Path) (below_it : List ℕ → Option ℕ) (beside : List ℕ) (p : Path) : Type 0 where
+pub record IsBeside (n : ℕ) (old new : ℕ → Path) (child child' : ℕ → List ℕ → Option ℕ) (at : ℕ) (name : List ℕ)
+    (l : Path) (below_it : List ℕ → Option ℕ) (beside : List ℕ) (p : Path) : Type 0 where
   pub same : (i : ℕ) → i ≢ n → i ≢ suc n → new i ≡ old i
   pub made : new n ≡ l
   pub made_beside : new (suc n) ≡ p
@@ -110,14 +140,17 @@ pub record Attaches {T : Type 0} (old new : List (Node T)) (at : ℕ) (name : Li
 -- a node without value was put between another one and its child of a name
 pub record PutsBetween {T : Type 0} (old new : List (Node T)) (at : ℕ) (name : List ℕ) (node : Node T) : Type 0 where
   pub size : length new ≡ suc (length old)
-  pub parted : IsParted (length old) (location_at old) (location_at new) (child_at old) (child_at new) at name node.location (λ k. lookup (bytes_eq k) (ways node.children))
+  pub parted : IsParted (length old) (location_at old) (location_at new) (child_at old) (child_at new) at name
+      node.location (λ k. lookup (bytes_eq k) (ways node.children))
   pub values : (i : ℕ) → value_in new i ≡ value_in old i
   pub stored : stored new ≡ stored old
 
 -- and beside that child a node at a location
-pub record PutsBeside {T : Type 0} (old new : List (Node T)) (at : ℕ) (name : List ℕ) (node : Node T) (beside : List ℕ) (p : Path) : Type 0 where
+pub record PutsBeside {T : Type 0} (old new : List (Node T)) (at : ℕ) (name : List ℕ) (node : Node T) (beside : List ℕ)
+    (p : Path) : Type 0 where
   pub size : length new ≡ suc (suc (length old))
-  pub parted : IsBeside (length old) (location_at old) (location_at new) (child_at old) (child_at new) at name node.location (λ k. lookup (bytes_eq k) (ways node.children)) beside p
+  pub parted : IsBeside (length old) (location_at old) (location_at new) (child_at old) (child_at new) at name
+      node.location (λ k. lookup (bytes_eq k) (ways node.children)) beside p
   pub values : (i : ℕ) → value_in new i ≡ value_in old i
   pub stored : stored new ≡ stored old
 

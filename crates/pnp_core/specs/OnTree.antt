@@ -1,4 +1,5 @@
--- What the calls that ask a tree come to on it, each with the questions that it puts: the laws by which a reader checks the plans.
+-- What the calls that ask a tree come to on it, each with the questions that it puts: the laws by which a reader checks
+-- the plans.
 use Rattle.std.specs.Prelude.{◌≡◌, ℕ, List, ◌∷◌, Option, Result, Ok, map, option_map}
 use Rattle.sugar_path.specs.Path.{Path, up, text_of}
 use Rattle.tree_core.specs.Tree.{Files}

@@ -1,5 +1,21 @@
 -- Which package owns a path.
-use Rattle.std.specs.Prelude.{◌≡◌, ℕ, Bool, false, not, ◌&&◌, if◌then◌else◌, IsTrue, IsSome, List, [], ◌∷◌, Option, Some, None}
+use Rattle.std.specs.Prelude.{
+  ◌≡◌,
+  ℕ,
+  Bool,
+  false,
+  not,
+  ◌&&◌,
+  if◌then◌else◌,
+  IsTrue,
+  IsSome,
+  List,
+  [],
+  ◌∷◌,
+  Option,
+  Some,
+  None,
+}
 use Rattle.std.specs.List.{AllByRecursion}
 use Rattle.sugar_path.specs.Path.{Path, IsCleanPath, is_absolute, path_eq, text_of}
 use Rattle.std.specs.Str.{chars}
@@ -25,7 +41,8 @@ abbrev pub nearest_owner : List Row → Path → Option PackageLocator
 nearest_owner rs [] = last_at rs []
 nearest_owner rs (n ∷ p) = option_or (last_at rs (n ∷ p)) (nearest_owner rs p)
 
--- a path's text as it is written from a folder, in normal form: `.` is the folder itself, and what stands beside it begins with `..`
+-- a path's text as it is written from a folder, in normal form: `.` is the folder itself, and what stands beside it
+-- begins with `..`
 abbrev pub text_from : List ℕ → List ℕ → List ℕ
 text_from folder t = normalize_path (relative_from folder folder t)
 
@@ -52,7 +69,8 @@ IsLocated row =
     IsTrue (is_absolute row.1.package_location)
     × (normalize_path row.1.package_location ≡ row.1.package_location)
 
--- A manifest that was loaded: its folder is clean and absolute, its rows are located, and the top-level package has a row.
+-- A manifest that was loaded: its folder is clean and absolute, its rows are located, and the top-level package has a
+-- row.
 pub record IsReady (m : Contents) : Type 0 where
   pub folder : IsCleanPath m.manifest_dir
   pub located : AllByRecursion IsLocated (rows m.package_registry_data)

@@ -1,5 +1,20 @@
 -- The JSON text inside a manifest's program file.
-use Rattle.std.specs.Prelude.{ℕ, Bool, ◌==◌, ◌||◌, if◌then◌else◌, List, [], ◌∷◌, Option, Some, None, option_map, option_and_then, codes}
+use Rattle.std.specs.Prelude.{
+  ℕ,
+  Bool,
+  ◌==◌,
+  ◌||◌,
+  if◌then◌else◌,
+  List,
+  [],
+  ◌∷◌,
+  Option,
+  Some,
+  None,
+  option_map,
+  option_and_then,
+  codes,
+}
 use Rattle.std.specs.Option.{option_or}
 use Rattle.sugar_path.specs.Front.{after}
 

@@ -17,6 +17,7 @@ physical_text (Native t) = Some t
 unfoldable pub physical_place : List ℕ → Option Path
 physical_place location = option_map (clean []) (physical_text (virtual_path location))
 
--- the folder of a package: the place of its row's location, where the manifest has the row and the location is in no archive
+-- the folder of a package: the place of its row's location, where the manifest has the row and the location is in no
+-- archive
 abbrev pub place_of : Contents → PackageLocator → Option Path
 place_of manifest l = option_and_then physical_place (location_of manifest l)

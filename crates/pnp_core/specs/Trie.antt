@@ -1,5 +1,20 @@
 -- Values at locations.
-use Rattle.std.specs.Prelude.{◌≡◌, ◌⊎◌, ◌↔◌, ℕ, if◌then◌else◌, IsTrue, IsSome, List, [], ◌∷◌, length, Option, Some, bytes_eq}
+use Rattle.std.specs.Prelude.{
+  ◌≡◌,
+  ◌⊎◌,
+  ◌↔◌,
+  ℕ,
+  if◌then◌else◌,
+  IsTrue,
+  IsSome,
+  List,
+  [],
+  ◌∷◌,
+  length,
+  Option,
+  Some,
+  bytes_eq,
+}
 use Rattle.std.specs.List.{Contains, IsDistinct}
 use Rattle.std.specs.Map.{lookup}
 use Rattle.sugar_path.specs.Path.{Path, IsPath, path_eq, text_of, below}
@@ -26,7 +41,8 @@ Puts old new l v =
 abbrev pub IsLocation : {T : Type 0} → Locations T → Path → Type 0
 IsLocation t l = IsPath l × IsSome (value_at t l)
 
--- the longest folder that two paths are or lie below: its names are the longest list of names with which those of both begin
+-- the longest folder that two paths are or lie below: its names are the longest list of names with which those of both
+-- begin
 pub record IsShared (a b l : Path) : Type 0 where
   pub first : IsTrue (below a l)
   pub second : IsTrue (below b l)

@@ -26,7 +26,8 @@ at_row bound subpath None = Err (NoRow bound)
 at_row bound subpath (Some location) = Ok (Resolved location subpath)
 
 -- by what the name is bound to
-abbrev pub by_binding : Contents → Asked → PackageLocator → List ℕ × Option (List ℕ) → Binding → Result Resolution Refusal
+abbrev pub by_binding : Contents → Asked → PackageLocator → List ℕ × Option (List ℕ) → Binding
+    → Result Resolution Refusal
 by_binding m asked o split (Bound bound) = at_row bound split.1 (location_of m bound)
 by_binding m asked o split MissingPeer = Err (NoPeer (missing_peer m o asked.specifier split.0 asked.parent))
 by_binding m asked o split Undeclared = Err (NotDeclared (undeclared m o asked.specifier split.0 asked.parent))

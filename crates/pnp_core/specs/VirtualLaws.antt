@@ -9,5 +9,7 @@ behind_base (Some virtual) = virtual.0
 
 -- the parts of a path are all its segments, one part behind the other, and its virtual part ends in the inner path
 pub record PartsAreAll : Type 0 where
-  pub all : (rooted : Bool) (ss : Segments) → let path = parts_of rooted ss in path.base ++ (behind_base path.virtual ++ path.archived) ≡ ss
-  pub inner_last : (rooted : Bool) (ss : Segments) → IfSome (parts_of rooted ss).virtual (λ virtual. (front : Segments) × (virtual.0 ≡ front ++ virtual.1))
+  pub all : (rooted : Bool) (ss : Segments) → let path =
+      parts_of rooted ss in path.base ++ (behind_base path.virtual ++ path.archived) ≡ ss
+  pub inner_last : (rooted : Bool) (ss : Segments)
+      → IfSome (parts_of rooted ss).virtual (λ virtual. (front : Segments) × (virtual.0 ≡ front ++ virtual.1))

@@ -1,5 +1,36 @@
 -- How the text of a path falls into a base, a virtual part and a path inside an archive.
-use Rattle.std.specs.Prelude.{ℕ, ◌-◌, ◌^◌, suc, max, Bool, false, not, ◌==◌, ◌&&◌, if◌then◌else◌, List, [], ◌∷◌, ◌++◌, length, take, drop, reverse, Option, Some, None, option_map, option_and_then, slice_get, unwrap_or, codes, bytes_eq, nat_eq, nat_lt}
+use Rattle.std.specs.Prelude.{
+  ℕ,
+  ◌-◌,
+  ◌^◌,
+  suc,
+  max,
+  Bool,
+  false,
+  not,
+  ◌==◌,
+  ◌&&◌,
+  if◌then◌else◌,
+  List,
+  [],
+  ◌∷◌,
+  ◌++◌,
+  length,
+  take,
+  drop,
+  reverse,
+  Option,
+  Some,
+  None,
+  option_map,
+  option_and_then,
+  slice_get,
+  unwrap_or,
+  codes,
+  bytes_eq,
+  nat_eq,
+  nat_lt,
+}
 use Rattle.std.specs.Char.{is_ascii_alphabetic}
 use Rattle.std.specs.List.{ends_with}
 use Rattle.std.specs.Str.{all_ascii_digits}
@@ -75,7 +106,8 @@ abbrev pub fixed : Bool → Segments → ℕ
 fixed rooted [] = 0
 fixed rooted (s ∷ ss) = if rooted && is_drive s then 1 else 0
 
--- how many of the segments before `__virtual__` are the base: a depth takes that many from their end, at most all that may move
+-- how many of the segments before `__virtual__` are the base: a depth takes that many from their end, at most all that
+-- may move
 abbrev pub staying : Bool → Segments → Option ℕ → ℕ
 staying rooted front None = length front
 staying rooted front (Some depth) = max (length front - depth) (fixed rooted front)
@@ -96,7 +128,8 @@ plain_parts ss = record {
   archived = drop (through_archive ss) ss;
 }
 
--- The segments before `__virtual__`, and those from it on: itself, a hash and a depth, as far as they are there, and then the inner
+-- The segments before `__virtual__`, and those from it on: itself, a hash and a depth, as far as they are there, and
+-- then the inner
 -- path, through the first archive. What the depth moves stands before them.
 abbrev pub virtual_parts : Bool → Segments → Segments → PathParts
 virtual_parts rooted front marked = record {
@@ -127,14 +160,19 @@ base_text rooted base = if rooted then 47 ∷ text_of_segments base else text_of
 abbrev pub virtual_texts : Segments × Segments → List ℕ × List ℕ
 virtual_texts virtual = (text_of_segments virtual.0, text_of_segments virtual.1)
 
--- Which path is meant, where it isn't the text itself: one inside an archive, where a segment follows the archive, if only an empty
+-- Which path is meant, where it isn't the text itself: one inside an archive, where a segment follows the archive, if
+-- only an empty
 -- one; else one with a virtual part.
 unfoldable pub special : Bool → PathParts → Option VPath
 special rooted path = by_archived path.archived
   where
     by_archived : Segments → Option VPath
     by_archived [] =
-        option_map (λ virtual. Virtual (record { base_path = base_text rooted path.base; virtual_segments = virtual_texts virtual })) path.virtual
+        option_map (λ virtual. Virtual (record {
+          base_path = base_text rooted path.base;
+          virtual_segments =
+              virtual_texts virtual;
+        })) path.virtual
     by_archived (s ∷ ss) = Some (Zip (record {
       base_path = base_text rooted path.base;
       virtual_segments = option_map virtual_texts path.virtual;

@@ -7,7 +7,13 @@ use Rattle.pnp_core.specs.declared.error.FailedManifestHydration.{FailedManifest
 use Rattle.pnp_core.specs.declared.error.UndeclaredDependency.{UndeclaredDependency}
 use Rattle.pnp_core.specs.declared.error.MissingPeerDependency.{MissingPeerDependency}
 use Rattle.pnp_core.specs.declared.error.HydrationCause.{HydrationCause}
-use Rattle.pnp_core.specs.declared.error.HydrationCause.TheVariants.{NotText, NoPayload, BadJson, BadPattern, NoTopLevel}
+use Rattle.pnp_core.specs.declared.error.HydrationCause.TheVariants.{
+  NotText,
+  NoPayload,
+  BadJson,
+  BadPattern,
+  NoTopLevel,
+}
 use Rattle.pnp_core.specs.declared.manifest.PackageLocator.{PackageLocator}
 use Rattle.pnp_core.specs.Manifest.{Contents}
 use Rattle.pnp_core.specs.Binding.{is_root}
@@ -17,9 +23,11 @@ bad_specifier specifier = record { message = codes "Invalid specifier"; specifie
 
 unfoldable pub cause_message : HydrationCause → List ℕ
 cause_message NotText = codes "We failed to read the content of the manifest."
-cause_message NoPayload = codes "We failed to locate the PnP data payload inside its manifest file. Did you manually edit the file?"
+cause_message NoPayload =
+    codes "We failed to locate the PnP data payload inside its manifest file. Did you manually edit the file?"
 cause_message BadJson = codes "We failed to parse the PnP data payload as proper JSON; Did you manually edit the file?"
-cause_message BadPattern = codes "We failed to parse the PnP data payload as proper JSON; Did you manually edit the file?"
+cause_message BadPattern =
+    codes "We failed to parse the PnP data payload as proper JSON; Did you manually edit the file?"
 cause_message NoTopLevel = codes "The PnP data payload has no top-level row."
 
 abbrev pub failed_hydration : HydrationCause → Path → FailedManifestHydration
@@ -35,7 +43,8 @@ unfoldable pub ambiguous_builtin : List ℕ → List ℕ → List ℕ → List �
 ambiguous_builtin who name whose =
     who ++ codes " tried to access " ++ name
     ++ codes ". While this module is usually interpreted as a Node builtin, your resolver is running inside a non-Node resolution context where such builtins are ignored. Since " ++ name
-    ++ codes " isn't otherwise declared in " ++ whose ++ codes " dependencies, this makes the require call ambiguous and unsound."
+    ++ codes " isn't otherwise declared in " ++ whose
+    ++ codes " dependencies, this makes the require call ambiguous and unsound."
 
 unfoldable pub ambiguous : List ℕ → List ℕ → List ℕ → List ℕ
 ambiguous who name whose =
@@ -43,7 +52,8 @@ ambiguous who name whose =
     ++ codes " dependencies; this makes the require call ambiguous and unsound."
 
 unfoldable pub required : List ℕ → List ℕ → List ℕ
-required name specifier = 10 ∷ 10 ∷ codes "Required package: " ++ name ++ via name specifier ++ 10 ∷ codes "Required by: "
+required name specifier =
+    10 ∷ 10 ∷ codes "Required package: " ++ name ++ via name specifier ++ 10 ∷ codes "Required by: "
 
 -- an undeclared dependency: of a builtin's name or not, asked by a root of the dependency tree or not
 unfoldable pub undeclared_message : Bool → Bool → PackageLocator → List ℕ → List ℕ → List ℕ → List ℕ
@@ -54,7 +64,8 @@ undeclared_message true false o specifier name path =
 undeclared_message false true o specifier name path =
     ambiguous (codes "Your application") name (codes "your") ++ required name specifier ++ path
 undeclared_message false false o specifier name path =
-    ambiguous o.name name (codes "its") ++ required name specifier ++ o.name ++ codes "@" ++ o.reference ++ codes " (via " ++ path ++ codes ")"
+    ambiguous o.name name (codes "its") ++ required name specifier ++ o.name ++ codes "@" ++ o.reference
+    ++ codes " (via " ++ path ++ codes ")"
 
 -- what is told of a name that its owner doesn't bind, asked by a specifier from a file
 abbrev pub undeclared : Contents → PackageLocator → List ℕ → List ℕ → List ℕ → UndeclaredDependency

@@ -2,7 +2,16 @@
 ghost use Rattle.std.specs.Prelude.{◌≡◌, IfOk};
 ghost use Rattle.std.specs.Option.{option_copied};
 ghost use Rattle.pnp_core.specs.declared.manifest.Binding.TheVariants.{Bound};
-ghost use Rattle.pnp_core.specs.Binding.{bind, bound_to, own, given, unbound, fallback, may_fall_back, allowed_fallback};
+ghost use Rattle.pnp_core.specs.Binding.{
+  bind,
+  bound_to,
+  own,
+  given,
+  unbound,
+  fallback,
+  may_fall_back,
+  allowed_fallback,
+};
 
 use crate::registry::{is_excluded_from_fallback, package_of};
 use crate::{Binding, Manifest, PackageDependency, PackageLocator};

@@ -1,4 +1,5 @@
-// A payload's lists of pairs as maps, and its lists of names as sets: a repeated name keeps its place, and takes the last value.
+// A payload's lists of pairs as maps, and its lists of names as sets: a repeated name keeps its place, and takes the
+// last value.
 ghost use Rattle.std.specs.Prelude.{◌≡◌, IfOk, map, option_map, unwrap_or, []};
 ghost use Rattle.serde_json.specs.Find.{as_str};
 ghost use Rattle.serde_json.specs.View.{items_of};
@@ -103,7 +104,8 @@ impl<T: FromJson + Eq + Hash> FromJson for Members<T> {
     }
 }
 
-// The map of an array's pairs: each is put in as it is read. A manifest has many maps, most of one or a few pairs, so each gives back
+// The map of an array's pairs: each is put in as it is read. A manifest has many maps, most of one or a few pairs, so
+// each gives back
 // the room that it doesn't use.
 fn entries_of_items<V: FromJson, J: JsonValue>(
     alloc: Global,

@@ -1,7 +1,35 @@
 // A manifest gets its folder, and its rows the locations that they have from there.
-ghost use Rattle.std.specs.Prelude.{◌≡◌, ◌≤◌, ◌⊎◌, ◌∷◌, ◌++◌, [], IfOk, OnOk, OnErr, IsTrue, IsSome, IfSome, map, filter, is_none, bytes_eq, string_bytes, vec_len};
+ghost use Rattle.std.specs.Prelude.{
+  ◌≡◌,
+  ◌≤◌,
+  ◌⊎◌,
+  ◌∷◌,
+  ◌++◌,
+  [],
+  IfOk,
+  OnOk,
+  OnErr,
+  IsTrue,
+  IsSome,
+  IfSome,
+  map,
+  filter,
+  is_none,
+  bytes_eq,
+  string_bytes,
+  vec_len,
+};
 ghost use Rattle.indexmap.specs.IndexMap.{insert_all, spare};
-ghost use Rattle.sugar_path.specs.Path.{Path, IsPath, IsCleanPath, path_in, is_absolute, ends_in_slash, join, with_slash};
+ghost use Rattle.sugar_path.specs.Path.{
+  Path,
+  IsPath,
+  IsCleanPath,
+  path_in,
+  is_absolute,
+  ends_in_slash,
+  join,
+  with_slash,
+};
 ghost use Rattle.pnp_core.specs.NormalizePath.{location_path, normalize_path};
 ghost use Rattle.pnp_core.specs.Slashed.{slashed};
 ghost use Rattle.pnp_core.specs.Manifest.{at, locator, rows, rows_under, top_level, has_row, package_at};
@@ -21,10 +49,13 @@ use std::alloc::{AllocError, Global};
 use std::marker::Model;
 use sugar_path::{CleanPath, Text, is_clean};
 
-/// Gives a manifest that was read the path of its file: sets its folder and its path, reads its locations from the folder,
+/// Gives a manifest that was read the path of its file: sets its folder and its path, reads its locations from the
+/// folder,
 /// fills its pool, and makes the trie of its locations. Where no memory is found, the manifest is as before.
-/// A manifest that has its folder already, as one that is given a file once more, still has the trie of its rows: where rows or
-/// `manifest_dir` are edited by hand, `location_trie` has to fit them again before the call (or `manifest_dir` be empty).
+/// A manifest that has its folder already, as one that is given a file once more, still has the trie of its rows: where
+/// rows or
+/// `manifest_dir` are edited by hand, `location_trie` has to fit them again before the call (or `manifest_dir` be
+/// empty).
 pub fn init_pnp_manifest(alloc: Global, manifest: &mut Manifest, p: &str) -> Result<(), AllocError>
     requires clean { IsCleanPath p.now }
     requires top_level_row { IsTrue (has_row manifest.old top_level) }
@@ -80,7 +111,8 @@ impl RowLocation {
     }
 }
 
-// Where each row's package stands, by name, and the locator of the last row at each location, of those that aren't discarded.
+// Where each row's package stands, by name, and the locator of the last row at each location, of those that aren't
+// discarded.
 fn located(
     alloc: Global,
     folder: &str,
@@ -174,7 +206,8 @@ fn located_at(alloc: Global, folder: &str, text: &str) -> Result<(CleanPath, Tex
     Ok((path, normal))
 }
 
-// The path that a location names from a folder, where it is written as Yarn writes it: `./`, and then names. It isn't read name by name.
+// The path that a location names from a folder, where it is written as Yarn writes it: `./`, and then names. It isn't
+// read name by name.
 fn plain_location(alloc: Global, folder: &str, text: &str) -> Result<Option<CleanPath>, AllocError>
     requires { IsTrue (is_absolute folder.now) }
     ensures plain { IfOk result (λ found.

@@ -1,4 +1,5 @@
-//! Yarn's Plug'n'Play manifests: which file holds one, what it says, which package owns a path, and what a name is bound to.
+//! Yarn's Plug'n'Play manifests: which file holds one, what it says, which package owns a path, and what a name is
+//! bound to.
 #![tactic(auto)]
 
 mod bare_identifier;

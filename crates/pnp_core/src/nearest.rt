@@ -10,7 +10,8 @@ use std::alloc::Global;
 use sugar_path::{CleanPath, Text};
 use tree_core::{Asker, ReadError, Recorder, Tree};
 
-/// The text of the path of the first `.pnp.cjs` in a path and the folders above it. The path is a clean absolute text. The errors are the tree's, and want of memory.
+/// The text of the path of the first `.pnp.cjs` in a path and the folders above it. The path is a clean absolute text.
+/// The errors are the tree's, and want of memory.
 pub fn find_closest_pnp_manifest_path<'t, T: Tree>(
     alloc: Global,
     tree: &mut Recorder<'t, T>,

@@ -11,7 +11,8 @@ use es_pattern::Pattern;
 use std::alloc::{AllocError, Global};
 use sugar_path::CleanPath;
 
-/// The package that owns a path: of the rows that aren't discarded, the last one at the nearest location that the path is or lies below.
+/// The package that owns a path: of the rows that aren't discarded, the last one at the nearest location that the path
+/// is or lies below.
 /// Nothing owns a path where the ignore pattern is found in its text from the manifest's folder.
 pub fn find_locator<'a>(
     alloc: Global,
@@ -27,7 +28,8 @@ pub fn find_locator<'a>(
     Ok(owner)
 }
 
-/// The package that owns a path that is clean already. Without an ignore pattern, and without `\` in the path, it takes no memory.
+/// The package that owns a path that is clean already. Without an ignore pattern, and without `\` in the path, it takes
+/// no memory.
 pub fn owner_of<'a>(
     alloc: Global,
     manifest: &'a Manifest,

@@ -1,14 +1,25 @@
 // The JSON text inside a manifest's program file.
 ghost use Rattle.std.specs.Prelude.{◌≡◌, IfOk, option_map, string_bytes};
 ghost use Rattle.std.specs.Cow.{cow_str_bytes};
-ghost use Rattle.pnp_core.specs.Payload.{payload, quoted, after_leftmost, after_opening, after_constant, after_call, is_blank, after_blank, after_blanks};
+ghost use Rattle.pnp_core.specs.Payload.{
+  payload,
+  quoted,
+  after_leftmost,
+  after_opening,
+  after_constant,
+  after_call,
+  is_blank,
+  after_blank,
+  after_blanks,
+};
 
 use memchr::memchr2;
 use std::alloc::{AllocError, Global};
 use std::borrow::CowStr;
 use sugar_path::{Text, after};
 
-/// The payload of a manifest's text: what stands between the quotes behind the leftmost of the two openings that Yarn writes.
+/// The payload of a manifest's text: what stands between the quotes behind the leftmost of the two openings that Yarn
+/// writes.
 pub fn payload_of(alloc: Global, text: &str) -> Result<Option<Text>, AllocError>
     ensures { IfOk result (λ found. found ≡ payload text.now) }
 {

@@ -6,7 +6,20 @@ ghost use Rattle.serde_json.specs.Read.{read};
 ghost use Rattle.serde_json.specs.View.{items_of, view};
 ghost use Rattle.json_reading.specs.Borrowed.{data_of};
 ghost use Rattle.json_reading.specs.Reading.{ReadsAs, items_by, nullable_by, pair_by};
-ghost use Rattle.pnp_core.specs.ManifestReading.{IsReadAs, entries_of, fields_but_registry, fields_in, from_data, from_fields, manifest_in, named, references_in, registry_in, with_pattern_text, with_registry};
+ghost use Rattle.pnp_core.specs.ManifestReading.{
+  IsReadAs,
+  entries_of,
+  fields_but_registry,
+  fields_in,
+  from_data,
+  from_fields,
+  manifest_in,
+  named,
+  references_in,
+  registry_in,
+  with_pattern_text,
+  with_registry,
+};
 
 use crate::entries::{Entries, Members, NullableEntries, name_or_empty};
 use crate::{
@@ -26,7 +39,8 @@ use std::marker::Model;
 use sugar_path::{List, Text};
 
 /// The manifest that a JSON value says. It has no folder and no path yet, and its locations are as they were written.
-/// `BadJson` comes for a value of another kind and for one that holds a float, and `BadPattern` for an ignore pattern that is refused.
+/// `BadJson` comes for a value of another kind and for one that holds a float, and `BadPattern` for an ignore pattern
+/// that is refused.
 pub fn read_manifest(alloc: Global, value: &Value) -> Result<Manifest, ReadManifestError>
     ensures { IsReadAs result (manifest_in (view value.now)) }
 {

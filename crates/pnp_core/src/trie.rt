@@ -81,7 +81,8 @@ impl<T: Drop> Trie<T> {
         Ok(self.value_above(&path))
     }
 
-    // The value of the nearest location that a clean path's text names or lies below. Only where `\` stands in it is it read anew.
+    // The value of the nearest location that a clean path's text names or lies below. Only where `\` stands in it is it
+    // read anew.
     pub(crate) fn nearest_value(
         &self,
         alloc: Global,
@@ -106,7 +107,8 @@ impl<T: Drop> Trie<T> {
         self.nodes[node.0].value.as_ref()
     }
 
-    /// How many nodes there are: one for `/`, one for each location, and one for the longest path that each two locations share,
+    /// How many nodes there are: one for `/`, one for each location, and one for the longest path that each two
+    /// locations share,
     /// each path once.
     pub fn nodes(&self) -> usize
         ensures { CountsNodes self.now result }

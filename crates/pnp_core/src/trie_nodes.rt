@@ -1,10 +1,48 @@
 // The nodes of a trie of locations.
-ghost use Rattle.std.specs.Prelude.{◌≡◌, ◌<◌, ◌==◌, ◌∷◌, false, length, IsTrue, IfOk, IfSome, OnOk, OnErr, MatchOption, IsSome, suc, None, Some, string_bytes, vec_capacity};
+ghost use Rattle.std.specs.Prelude.{
+  ◌≡◌,
+  ◌<◌,
+  ◌==◌,
+  ◌∷◌,
+  false,
+  length,
+  IsTrue,
+  IfOk,
+  IfSome,
+  OnOk,
+  OnErr,
+  MatchOption,
+  IsSome,
+  suc,
+  None,
+  Some,
+  string_bytes,
+  vec_capacity,
+};
 ghost use Rattle.std.specs.List.{before_first};
 ghost use Rattle.std.specs.Option.{option_or};
 ghost use Rattle.sugar_path.specs.Path.{IsPath, below, steps};
 ghost use Rattle.pnp_core.specs.Trie.{nearest_value, IsShared};
-ghost use Rattle.pnp_core.specs.Nodes.{location_at, child_at, value_in, stored, value_of, AreTrie, AreNeeded, AreSame, IsNext, IsEnd, IsLed, Attaches, IsParting, IsNodeOf, IsLeaf, PutsBetween, PutsBeside, place_of};
+ghost use Rattle.pnp_core.specs.Nodes.{
+  location_at,
+  child_at,
+  value_in,
+  stored,
+  value_of,
+  AreTrie,
+  AreNeeded,
+  AreSame,
+  IsNext,
+  IsEnd,
+  IsLed,
+  Attaches,
+  IsParting,
+  IsNodeOf,
+  IsLeaf,
+  PutsBetween,
+  PutsBeside,
+  place_of,
+};
 
 use memchr::memchr;
 use std::alloc::{AllocError, Global};
@@ -15,7 +53,8 @@ use sugar_path::CleanPath;
 #[derive(Clone, Copy)]
 pub(crate) struct NodeId(pub(crate) usize);
 
-/// A location that holds a value, or at which the ways to locations part. Its fragment is the names of its location below its parent's.
+/// A location that holds a value, or at which the ways to locations part. Its fragment is the names of its location
+/// below its parent's.
 #[derive(Drop)]
 pub(crate) struct Node<T> {
     pub(crate) location: CleanPath,

@@ -13,7 +13,8 @@ use crate::{
 use std::alloc::Global;
 use sugar_path::Text;
 
-/// Where a specifier leads: to the location of a package, with the subpath that is asked of it, or past the manifest's packages.
+/// Where a specifier leads: to the location of a package, with the subpath that is asked of it, or past the manifest's
+/// packages.
 #[derive(Drop)]
 pub enum Resolution {
     Resolved(Text, Option<Text>),

@@ -1,7 +1,40 @@
 // Paths that are virtual, or lead into an archive.
-ghost use Rattle.std.specs.Prelude.{◌≡◌, ℕ, ◌≤◌, List, length, take, drop, IfOk, IfSome, option_map, option_and_then, slice_get};
+ghost use Rattle.std.specs.Prelude.{
+  ◌≡◌,
+  ℕ,
+  ◌≤◌,
+  List,
+  length,
+  take,
+  drop,
+  IfOk,
+  IfSome,
+  option_map,
+  option_and_then,
+  slice_get,
+};
 ghost use Rattle.sugar_path.specs.Path.{join};
-ghost use Rattle.pnp_core.specs.VirtualPath.{virtual_path, zip_physical, virtual_physical, behind_root, segments, is_archive, is_drive, through_archive, before_mark, depth_of, fixed, staying, parts_of, plain_parts, virtual_parts, base_text, virtual_texts, special, special_of};
+ghost use Rattle.pnp_core.specs.VirtualPath.{
+  virtual_path,
+  zip_physical,
+  virtual_physical,
+  behind_root,
+  segments,
+  is_archive,
+  is_drive,
+  through_archive,
+  before_mark,
+  depth_of,
+  fixed,
+  staying,
+  parts_of,
+  plain_parts,
+  virtual_parts,
+  base_text,
+  virtual_texts,
+  special,
+  special_of,
+};
 ghost use Rattle.pnp_core.specs.PhysicalPlace.{physical_place};
 ghost use Rattle.pnp_core.specs.Segments.{texts, both_texts, parts_seen};
 
@@ -84,7 +117,8 @@ pub fn physical_place(alloc: Global, location: &str) -> Result<Option<CleanPath>
 }
 
 impl VPath {
-    /// The place inside an archive, or the virtual place, that the text of a path means; else the path in its normal form.
+    /// The place inside an archive, or the virtual place, that the text of a path means; else the path in its normal
+    /// form.
     #[tactic(auto, unfolding(crate::specs::VirtualPath::virtual_path))]
     pub fn from(alloc: Global, p: &str) -> Result<VPath, AllocError>
         ensures { IfOk result (λ path. path ≡ virtual_path p.now) }
@@ -213,7 +247,8 @@ fn is_archive(segment: &str) -> bool
     segment.len() > 4 && segment.ends_with(".zip")
 }
 
-// How many of the segments before `__virtual__` are the base: a depth takes that many from their end, but never the letter of a drive.
+// How many of the segments before `__virtual__` are the base: a depth takes that many from their end, but never the
+// letter of a drive.
 fn staying(is_rooted: bool, front: &[&str], depth: Option<usize>) -> usize
     ensures staying { result ≡ staying is_rooted (texts front.now) depth }
     ensures within { result ≤ length front.now }

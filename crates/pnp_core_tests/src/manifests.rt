@@ -14,7 +14,8 @@ use std::test::Fail;
 use sugar_path::{Bytes, CleanPath, Text};
 use tree_core::{MemoryTree, Recorder};
 
-// An application with packages `foo` and `alone`, a package `hidden` that owns no path, a virtual one, and one inside an
+// An application with packages `foo` and `alone`, a package `hidden` that owns no path, a virtual one, and one inside
+// an
 // archive. Yarn's own pattern leaves its folder of editor tools without an owner.
 pub(crate) fn manifest_text() -> &'static str {
     r#"const RAW_RUNTIME_STATE =

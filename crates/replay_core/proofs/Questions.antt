@@ -9,7 +9,8 @@ use Rattle.replay_core.specs.Replay.{Replay, counted, refused, IsRepliedFromTrai
 use Rattle.replay_core.proofs.AgreeingTests.{agrees_with-is}
 
 -- a recorded question is answered
-answered : {A : Type 0} (wrap : A → Reply) (q : Question) (r : Replay) (a : A) → reply_in r.trail q ≡ Some (wrap a) → IsRepliedFromTrail wrap q r (counted r) (Ok a)
+answered : {A : Type 0} (wrap : A → Reply) (q : Question) (r : Replay) (a : A) → reply_in r.trail q ≡ Some (wrap a)
+    → IsRepliedFromTrail wrap q r (counted r) (Ok a)
 answered wrap q r a known = record {
   put = record {
     replied = λ t stands. sym (agrees_with-is r.trail t stands q (wrap a) known);
@@ -23,13 +24,15 @@ answered wrap q r a known = record {
   left = refl;
 }
 
-pub replayed : {A : Type 0} (wrap : A → Reply) (q : Question) {old mid new : Replay} (a : A) → mid ≡ counted old → new ≡ mid → reply_in mid.trail q ≡ Some (wrap a) → IsRepliedFromTrail wrap q old new (Ok a)
+pub replayed : {A : Type 0} (wrap : A → Reply) (q : Question) {old mid new : Replay} (a : A) → mid ≡ counted old
+    → new ≡ mid → reply_in mid.trail q ≡ Some (wrap a) → IsRepliedFromTrail wrap q old new (Ok a)
 replayed wrap q {old = old} {mid = mid} {new = new} a count same known =
     let P : Replay → Type 0 = λ r. IsRepliedFromTrail wrap q old r (Ok a) in
     subst P (sym (same ∙ count)) (answered wrap q old a (ap (λ (r : Replay). reply_in r.trail q) (sym count) ∙ known))
 
 -- a question that isn't recorded is refused
-refused_one : {A : Type 0} (wrap : A → Reply) (q : Question) (r : Replay) → reply_in r.trail q ≡ None → IsRepliedFromTrail {A = A} wrap q r (refused q (counted r)) (Err Fault)
+refused_one : {A : Type 0} (wrap : A → Reply) (q : Question) (r : Replay) → reply_in r.trail q ≡ None
+    → IsRepliedFromTrail {A = A} wrap q r (refused q (counted r)) (Err Fault)
 refused_one wrap q r unknown = record {
   put = record {
     replied = tt;
@@ -43,15 +46,19 @@ refused_one wrap q r unknown = record {
   left = refl;
 }
 
-pub replay_refused : {A : Type 0} (wrap : A → Reply) (q : Question) {old mid new : Replay} (result : Result A ReadError) (e : ReadError) → IsErrAnd result (λ x. x ≡ e) → e ≡ Fault → mid ≡ counted old → new ≡ refused q mid → reply_in mid.trail q ≡ None → IsRepliedFromTrail wrap q old new result
+pub replay_refused : {A : Type 0} (wrap : A → Reply) (q : Question) {old mid new : Replay} (result : Result A ReadError)
+    (e : ReadError) → IsErrAnd result (λ x. x ≡ e) → e ≡ Fault → mid ≡ counted old → new ≡ refused q mid
+    → reply_in mid.trail q ≡ None → IsRepliedFromTrail wrap q old new result
 replay_refused wrap q (Ok _) e is fault count after unknown = elim is [ ]
 replay_refused {A = A} wrap q {old = old} {mid = mid} {new = new} (Err x) e is fault count after unknown =
     rw (is, fault)
     (let P : Replay → Type 0 = λ r. IsRepliedFromTrail {A = A} wrap q old r (Err Fault) in
-    subst P (sym (after ∙ ap (refused q) count)) (refused_one wrap q old (ap (λ (r : Replay). reply_in r.trail q) (sym count) ∙ unknown)))
+    subst P (sym (after ∙ ap (refused q) count)) (refused_one wrap q old
+    (ap (λ (r : Replay). reply_in r.trail q) (sym count) ∙ unknown)))
 
 -- out of memory, the question is counted and nothing else changes
-starved_one : {A : Type 0} (wrap : A → Reply) (q : Question) (r : Replay) → IsRepliedFromTrail {A = A} wrap q r (counted r) (Err NoMemory)
+starved_one : {A : Type 0} (wrap : A → Reply) (q : Question) (r : Replay)
+    → IsRepliedFromTrail {A = A} wrap q r (counted r) (Err NoMemory)
 starved_one wrap q r = record {
   put = record {
     replied = tt;
@@ -65,7 +72,8 @@ starved_one wrap q r = record {
   left = refl;
 }
 
-pub replay_starved : {A : Type 0} (wrap : A → Reply) (q : Question) {old new : Replay} (result : Result A ReadError) → IsErrAnd result (λ e. e ≡ NoMemory) → new ≡ counted old → IsRepliedFromTrail wrap q old new result
+pub replay_starved : {A : Type 0} (wrap : A → Reply) (q : Question) {old new : Replay} (result : Result A ReadError)
+    → IsErrAnd result (λ e. e ≡ NoMemory) → new ≡ counted old → IsRepliedFromTrail wrap q old new result
 replay_starved wrap q (Ok _) is count = elim is [ ]
 replay_starved {A = A} wrap q {old = old} {new = new} (Err e) is count =
     rw is
@@ -73,5 +81,6 @@ replay_starved {A = A} wrap q {old = old} {new = new} (Err e) is count =
     subst P (sym count) (starved_one wrap q old))
 
 -- the reply that is recorded for a question, by what both are
-pub known_as : (trail : List (Question × Reply)) (q p : Question) (r x : Reply) → reply_in trail q ≡ Some r → q ≡ p → r ≡ x → reply_in trail p ≡ Some x
+pub known_as : (trail : List (Question × Reply)) (q p : Question) (r x : Reply) → reply_in trail q ≡ Some r → q ≡ p
+    → r ≡ x → reply_in trail p ≡ Some x
 known_as trail q p r x known same is = ap (λ q. reply_in trail q) (sym same) ∙ known ∙ ap Some is

@@ -38,7 +38,8 @@ left_by q (Ok a) r = counted r
 left_by q (Err Fault) r = refused q (counted r)
 left_by q (Err NoMemory) r = counted r
 
--- A question to a tree that answers from a trail: the first reply that is recorded is answered, and just a question that isn't recorded is a fault.
+-- A question to a tree that answers from a trail: the first reply that is recorded is answered, and just a question
+-- that isn't recorded is a fault.
 pub record IsRepliedFromTrail {A : Type 0} (wrap : A → Reply) (q : Question)
     (old new : Replay) (result : Result A ReadError) : Type 0 where
   pub put : IsPut wrap q (replay_state old) (replay_state new) result

@@ -16,13 +16,15 @@ use Rattle.replay_core.specs.declared.replaying.ReplayError.TheVariants.{NotReco
 abbrev pub first_unrecorded : List (Question × Reply) → List Question → Option Question
 first_unrecorded trail questions = find (λ q. is_none (reply_in trail q)) questions
 
--- A replayed answer: on each tree that agrees with the trail it is the plan's, and the trail has all questions that the plan puts there.
+-- A replayed answer: on each tree that agrees with the trail it is the plan's, and the trail has all questions that the
+-- plan puts there.
 pub record IsReplayedAnswer {A : Type 0}
     (a : A) (trail : List (Question × Reply)) (plan : Plan A) : Type 0 where
   pub answers : (t : Files) → Agrees t trail → a ≡ answer t plan
   pub recorded : (t : Files) → Agrees t trail → first_unrecorded trail (asked t plan) ≡ None
 
--- A question that a replay misses: the trail doesn't have it, and on each tree that agrees with the trail it is the first such one that the plan puts there.
+-- A question that a replay misses: the trail doesn't have it, and on each tree that agrees with the trail it is the
+-- first such one that the plan puts there.
 pub record IsMissing {A : Type 0}
     (q : Question) (trail : List (Question × Reply)) (plan : Plan A) : Type 0 where
   pub lacked : reply_in trail q ≡ None
@@ -40,7 +42,8 @@ abbrev pub IsAgain : {A : Type 0} → Result A ReplayError → A → Type 0
 IsAgain (Ok b) a = b ≡ a
 IsAgain (Err e) a = e ≡ NoMemory
 
--- Where a tree agrees with a trail that settles an answer, a replay of the trail gives that answer, unless it is out of memory.
+-- Where a tree agrees with a trail that settles an answer, a replay of the trail gives that answer, unless it is out of
+-- memory.
 pub record GivesAgain {A : Type 0}
     (result : Result A ReplayError) (trail : List (Question × Reply)) (plan : Plan A) : Type 0 where
   pub again : (t : Files) (a : A) → Agrees t trail → Settles a trail plan → IsAgain result a

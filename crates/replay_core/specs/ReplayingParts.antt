@@ -1,4 +1,5 @@
--- How a replay ends, by the first question that its recorder put and the trail lacks, the question that its tree missed, and what the search came to.
+-- How a replay ends, by the first question that its recorder put and the trail lacks, the question that its tree
+-- missed, and what the search came to.
 use Rattle.std.specs.Prelude.{◌≡◌, [], ◌∷◌, List, map, Option, Some, None, Result, Ok, Err}
 use Rattle.tree_core.specs.declared.question.Question.{Question}
 use Rattle.tree_core.specs.declared.question.Reply.{Reply}

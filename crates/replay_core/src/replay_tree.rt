@@ -1,5 +1,19 @@
 // A tree that answers from a trail.
-ghost use Rattle.std.specs.Prelude.{◌≡◌, ◌↔◌, List, IfOk, IfErr, IfSome, IsNone, IsTrue, None, Some, nat_lt, is_some, option_map};
+ghost use Rattle.std.specs.Prelude.{
+  ◌≡◌,
+  ◌↔◌,
+  List,
+  IfOk,
+  IfErr,
+  IfSome,
+  IsNone,
+  IsTrue,
+  None,
+  Some,
+  nat_lt,
+  is_some,
+  option_map,
+};
 ghost use Rattle.std.specs.Option.{ForSome};
 ghost use Rattle.sugar_path.specs.Path.{IsCleanPath};
 ghost use Rattle.tree_core.specs.Question.{reply_in, fits};

@@ -6,7 +6,8 @@ use std::test::Fail;
 use sugar_path::Text;
 use tree_core::MemoryTree;
 
-// Which project asks, step by step, and the package that its manifest binds then. The manifests of two or three projects
+// Which project asks, step by step, and the package that its manifest binds then. The manifests of two or three
+// projects
 // are kept. Those that bind one package are alike byte for byte, and say a location from their own folders.
 fn steps() -> &'static str {
     "/p0 one

@@ -13,7 +13,8 @@ abbrev pub behind_all : {X : Type 0} → List X → Result Resolution (List X) �
 behind_all xs (Ok r) = Ok r
 behind_all xs (Err ys) = Err (xs ++ ys)
 
-abbrev pub or_next_target : {X : Type 0} → List X → (List X → Plan (Result Resolution (List X))) → Result Resolution X → Plan (Result Resolution (List X))
+abbrev pub or_next_target : {X : Type 0} → List X → (List X → Plan (Result Resolution (List X))) → Result Resolution X
+    → Plan (Result Resolution (List X))
 or_next_target refusals next (Ok r) = Done (Ok r)
 or_next_target refusals next (Err x) = next (refusals ++ x ∷ [])
 
@@ -23,18 +24,22 @@ left_targets inner [] refusals = Done (Err refusals)
 left_targets inner (ts ∷ rest) refusals =
     first_success inner ts >>= or_next_target refusals (left_targets inner rest)
 
-left-is : {X : Type 0} (inner : Order X) (targets : List Tries) (xs : List X) → left_targets inner targets xs ≡ (each_target inner targets >>= λ o. Done (behind_all xs o))
+left-is : {X : Type 0} (inner : Order X) (targets : List Tries) (xs : List X)
+    → left_targets inner targets xs ≡ (each_target inner targets >>= λ o. Done (behind_all xs o))
 unfolding ◌>>=◌
 left-is inner [] xs = ap (λ ys. Done (Err ys)) (sym (append-nil xs))
 left-is {X = X} inner (ts ∷ rest) xs =
     then_alike (first_success inner ts) _ _ (by_result (λ ys. left-is inner rest ys))
     ∙ sym (then-then (first_success inner ts) (or_more (each_target inner rest)) (λ o. Done (behind_all xs o)))
   where
-    shift : (x : X) (o : Result Resolution (List X)) → Done (behind_all (xs ++ x ∷ []) o) ≡ (Done (with_refusal x o) >>= λ p. Done (behind_all xs p))
+    shift : (x : X) (o : Result Resolution (List X))
+        → Done (behind_all (xs ++ x ∷ []) o) ≡ (Done (with_refusal x o) >>= λ p. Done (behind_all xs p))
     shift x (Ok r) = refl
     shift x (Err ys) = ap (λ zs. Done (Err zs)) (append_assoc xs (x ∷ []) ys)
 
-    by_result : ((ys : List X) → left_targets inner rest ys ≡ (each_target inner rest >>= λ o. Done (behind_all ys o))) → (r : Result Resolution X) → or_next_target xs (left_targets inner rest) r ≡ (or_more (each_target inner rest) r >>= λ o. Done (behind_all xs o))
+    by_result : ((ys : List X) → left_targets inner rest ys ≡ (each_target inner rest >>= λ o. Done (behind_all ys o)))
+        → (r : Result Resolution X) → or_next_target xs (left_targets inner rest) r ≡
+        (or_more (each_target inner rest) r >>= λ o. Done (behind_all xs o))
     by_result again (Ok a) = refl
     by_result again (Err x) =
         again (xs ++ x ∷ [])
@@ -42,7 +47,8 @@ left-is {X = X} inner (ts ∷ rest) xs =
         ∙ sym (then-then (each_target inner rest) (λ o. Done (with_refusal x o)) (λ o. Done (behind_all xs o)))
 
 -- With no refusal so far all are left.
-each-left : {X : Type 0} (inner : Order X) (targets : List Tries) → left_targets inner targets [] ≡ each_target inner targets
+each-left : {X : Type 0} (inner : Order X) (targets : List Tries)
+    → left_targets inner targets [] ≡ each_target inner targets
 each-left {X = X} inner targets =
     left-is inner targets []
     ∙ then_alike (each_target inner targets) (λ o. Done (behind_all [] o)) Done none
@@ -52,5 +58,6 @@ each-left {X = X} inner targets =
     none (Ok r) = refl
     none (Err ys) = refl
 
-pub leads-all : {X : Type 0} {s : Asking} (inner : Order X) (targets : List Tries) → Leads s s (each_target inner targets) (left_targets inner targets [])
+pub leads-all : {X : Type 0} {s : Asking} (inner : Order X) (targets : List Tries)
+    → Leads s s (each_target inner targets) (left_targets inner targets [])
 leads-all inner targets = rw (each-left inner targets) leads_self

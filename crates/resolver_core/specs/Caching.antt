@@ -1,5 +1,23 @@
 -- A resolver that keeps the latest answers, over any inner order.
-use Rattle.std.specs.Prelude.{ℕ, ◌-◌, ◌≤◌, ◌&&◌, Bool, true, false, bytes_eq, length, take, List, ◌∷◌, Option, Some, None, Result, Ok}
+use Rattle.std.specs.Prelude.{
+  ℕ,
+  ◌-◌,
+  ◌≤◌,
+  ◌&&◌,
+  Bool,
+  true,
+  false,
+  bytes_eq,
+  length,
+  take,
+  List,
+  ◌∷◌,
+  Option,
+  Some,
+  None,
+  Result,
+  Ok,
+}
 use Rattle.std.specs.List.{IsDistinct}
 use Rattle.std.specs.Map.{keys_of, lookup, lookup_entry, remove_entry}
 use Rattle.tree_core.specs.Plan.{Plan, Done}
@@ -48,7 +66,8 @@ put_first capacity r answer kept None = (r, answer) ∷ take (capacity - 1) kept
 abbrev pub kept_after : ℕ → CachedRequest → Resolution → Kept → Kept
 kept_after capacity r answer kept = put_first capacity r answer kept (lookup_entry (request_eq r) kept)
 
--- what holds of each list of kept answers: no request stands in it twice, and it has at most as many entries as may be kept
+-- what holds of each list of kept answers: no request stands in it twice, and it has at most as many entries as may be
+-- kept
 pub record IsKept (capacity : ℕ) (kept : Kept) : Type 0 where
   pub distinct : IsDistinct request_eq (keys_of kept)
   pub few : length kept ≤ capacity

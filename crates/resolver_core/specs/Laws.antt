@@ -15,7 +15,8 @@ EndsInStar (Starred w) = w.suffix ≡ []
 abbrev pub in_version : TsVersion → Mapping → Mapping
 in_version version m = record m { version = version }
 
--- Where no pattern has text behind its `*`, the versions map each request alike: to the same tries, and the same end behind them.
+-- Where no pattern has text behind its `*`, the versions map each request alike: to the same tries, and the same end
+-- behind them.
 abbrev pub VersionsAlike : Type 0
 VersionsAlike =
     (m : Mapping) (v w : TsVersion) → AllByRecursion EndsInStar m.patterns → (base : FileName) (s : List ℕ)

@@ -1,5 +1,26 @@
 -- The look-ups by which the pattern that decides is found without a scan. No public clause names them.
-use Rattle.std.specs.Prelude.{◌≡◌, ℕ, ◌+◌, ◌≤◌, ◌==◌, ◌&&◌, Bool, true, false, bytes_eq, length, List, [], ◌∷◌, Option, Some, None, find, slice_get, if◌then◌else◌}
+use Rattle.std.specs.Prelude.{
+  ◌≡◌,
+  ℕ,
+  ◌+◌,
+  ◌≤◌,
+  ◌==◌,
+  ◌&&◌,
+  Bool,
+  true,
+  false,
+  bytes_eq,
+  length,
+  List,
+  [],
+  ◌∷◌,
+  Option,
+  Some,
+  None,
+  find,
+  slice_get,
+  if◌then◌else◌,
+}
 use Rattle.std.specs.List.{AllByRecursion, list_any}
 use Rattle.std.specs.Map.{lookup}
 use Rattle.std.specs.Option.{option_or}

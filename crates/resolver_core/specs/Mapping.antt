@@ -1,5 +1,30 @@
--- The mapping of requests by TypeScript's `paths` and `baseUrl`, over any inner order: which inner requests are made, and how each ends.
-use Rattle.std.specs.Prelude.{ℕ, ◌==◌, ◌&&◌, ◌||◌, Bool, false, not, if◌then◌else◌, nat_eq, bytes_eq, codes, get_or, List, [], ◌∷◌, ◌++◌, map, Option, Some, None, Result, Ok, Err}
+-- The mapping of requests by TypeScript's `paths` and `baseUrl`, over any inner order: which inner requests are made,
+-- and how each ends.
+use Rattle.std.specs.Prelude.{
+  ℕ,
+  ◌==◌,
+  ◌&&◌,
+  ◌||◌,
+  Bool,
+  false,
+  not,
+  if◌then◌else◌,
+  nat_eq,
+  bytes_eq,
+  codes,
+  get_or,
+  List,
+  [],
+  ◌∷◌,
+  ◌++◌,
+  map,
+  Option,
+  Some,
+  None,
+  Result,
+  Ok,
+  Err,
+}
 use Rattle.std.specs.List.{list_any, after_last, before_first, starts_with}
 use Rattle.sugar_path.specs.Path.{parts, is_absolute, join}
 use Rattle.tree_core.specs.Plan.{Plan, Done, ◌>>=◌, ◌>>=?◌}
@@ -89,7 +114,8 @@ is_passed base s =
     bytes_eq s (codes "..") || starts_with nat_eq s (codes "./") || starts_with nat_eq s (codes "../")
     || is_in_modules base
 
--- The slug of an exact pattern's answer: the target's last part up to its first dot. The name of an index file gives none.
+-- The slug of an exact pattern's answer: the target's last part up to its first dot. The name of an index file gives
+-- none.
 abbrev pub slug_in : List ℕ → Option (List ℕ)
 slug_in segment =
     if bytes_eq segment (codes "index.ts") || bytes_eq segment (codes "index.tsx") then None
@@ -163,7 +189,8 @@ abbrev pub with_refusal : {X : Type 0} → X → Result Resolution (List X) → 
 with_refusal x (Ok r) = Ok r
 with_refusal x (Err xs) = Err (x ∷ xs)
 
-abbrev pub or_more : {X : Type 0} → Plan (Result Resolution (List X)) → Result Resolution X → Plan (Result Resolution (List X))
+abbrev pub or_more : {X : Type 0} → Plan (Result Resolution (List X)) → Result Resolution X
+    → Plan (Result Resolution (List X))
 or_more next (Ok r) = Done (Ok r)
 or_more next (Err x) = next >>= λ result. Done (with_refusal x result)
 

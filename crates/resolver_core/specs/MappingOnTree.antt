@@ -1,4 +1,5 @@
--- What a mapping tells of a tree, as a function of what the order behind it tells there: the laws by which a reader checks the plan.
+-- What a mapping tells of a tree, as a function of what the order behind it tells there: the laws by which a reader
+-- checks the plan.
 use Rattle.std.specs.Prelude.{◌≡◌, ◌⊎◌, ℕ, List, [], ◌∷◌, ◌++◌, Option, Some, None, Result, Ok, Err}
 use Rattle.std.specs.List.{AllByRecursion}
 use Rattle.tree_core.specs.Tree.{Files}
@@ -6,7 +7,26 @@ use Rattle.tree_core.specs.Told.{Told, told, unasked, made, ◌>>=◌}
 use Rattle.swc_loader.specs.declared.resolution.FileName.{FileName}
 use Rattle.swc_loader.specs.declared.resolution.Resolution.{Resolution}
 use Rattle.resolver_core.specs.declared.refusal.TsRefusal.{TsRefusal}
-use Rattle.resolver_core.specs.Mapping.{Order, Mapping, Try, Tries, Last, First, Mapped, Passed, Unchecked, OrUnchecked, OrFault, masked, mapped, mapping_order, with_refusal, passed, or_unchecked, or_fault}
+use Rattle.resolver_core.specs.Mapping.{
+  Order,
+  Mapping,
+  Try,
+  Tries,
+  Last,
+  First,
+  Mapped,
+  Passed,
+  Unchecked,
+  OrUnchecked,
+  OrFault,
+  masked,
+  mapped,
+  mapping_order,
+  with_refusal,
+  passed,
+  or_unchecked,
+  or_fault,
+}
 
 -- what requests tell of a tree, by base and specifier
 abbrev pub Tells : Type 0 → Type 0
@@ -35,7 +55,8 @@ first_on inner (Last t) = tried_on inner t
 first_on inner (First t ts) = tried_on inner t >>= or_next_on (first_on inner ts)
 
 -- an answer ends the search; behind a refusal come the next targets, whose refusals follow it
-abbrev pub or_more_on : {X : Type 0} → Told (Result Resolution (List X)) → Result Resolution X → Told (Result Resolution (List X))
+abbrev pub or_more_on : {X : Type 0} → Told (Result Resolution (List X)) → Result Resolution X
+    → Told (Result Resolution (List X))
 or_more_on next (Ok r) = unasked (Ok r)
 or_more_on next (Err x) = made (with_refusal x) next
 
@@ -75,7 +96,8 @@ tries_in (OrFault pattern targets) = all_listed targets
 abbrev pub Fails : {X : Type 0} → Tells X → Try → Type 0
 Fails {X = X} inner t = (x : X) × ((inner t.base t.specifier).result ≡ Err x)
 
--- An answer is made of the first try that the order behind the mapping answers: each try before it was refused, and the file that was found is that of the inner answer.
+-- An answer is made of the first try that the order behind the mapping answers: each try before it was refused, and the
+-- file that was found is that of the inner answer.
 pub record IsFirstAnswer {X : Type 0} (inner : Tells X) (tries : List Try) (r : Resolution) : Type 0 where
   pub before : List Try
   pub by : Try

@@ -1,5 +1,27 @@
--- The patterns of a mapping, as TypeScript's `paths` has them: which settings are accepted, which patterns match a specifier, and which one decides. The `do` here is over results.
-use Rattle.std.specs.Prelude.{◌≡◌, ℕ, ◌+◌, Bool, false, nat_le, bytes_eq, length, List, [], ◌∷◌, ◌++◌, filter, Option, Some, None, Result, Ok, Err, find}
+-- The patterns of a mapping, as TypeScript's `paths` has them: which settings are accepted, which patterns match a
+-- specifier, and which one decides. The `do` here is over results.
+use Rattle.std.specs.Prelude.{
+  ◌≡◌,
+  ℕ,
+  ◌+◌,
+  Bool,
+  false,
+  nat_le,
+  bytes_eq,
+  length,
+  List,
+  [],
+  ◌∷◌,
+  ◌++◌,
+  filter,
+  Option,
+  Some,
+  None,
+  Result,
+  Ok,
+  Err,
+  find,
+}
 use Rattle.std.specs.List.{list_all}
 use Rattle.std.specs.Option.{option_or}
 use Rattle.sugar_path.specs.Results.{◌>>=◌}
@@ -10,7 +32,12 @@ use Rattle.resolver_core.specs.declared.pattern.Pattern.{Pattern}
 use Rattle.resolver_core.specs.declared.pattern.Pattern.TheVariants.{Exact, Starred}
 use Rattle.resolver_core.specs.declared.pattern.Wildcard.{Wildcard}
 use Rattle.resolver_core.specs.declared.pattern.TsError.{TsError}
-use Rattle.resolver_core.specs.declared.pattern.TsError.TheVariants.{EmptyTargets, TwoWildcards, ExactNeedsOne, NoMemory}
+use Rattle.resolver_core.specs.declared.pattern.TsError.TheVariants.{
+  EmptyTargets,
+  TwoWildcards,
+  ExactNeedsOne,
+  NoMemory,
+}
 
 -- the settings of a mapping: patterns, each with its targets
 abbrev pub Paths : Type 0
@@ -25,7 +52,8 @@ abbrev pub pattern_without_star : ℕ → List ℕ → List (List ℕ) → Resul
 pattern_without_star at text [] = Err (EmptyTargets at)
 pattern_without_star at text (target ∷ more) = exact at text target more
 
--- a wildcard by its text, the parts around its first `*`, its targets, and what stands around another `*` behind it: it holds no second one
+-- a wildcard by its text, the parts around its first `*`, its targets, and what stands around another `*` behind it: it
+-- holds no second one
 abbrev pub wildcard : ℕ → List ℕ → List ℕ × List ℕ → List (List ℕ) → Option (List ℕ × List ℕ) → Result Pattern TsError
 wildcard at text parts targets None =
     Ok (Starred (record { text = text; prefix = parts.0; suffix = parts.1; targets = targets }))
@@ -89,7 +117,8 @@ is_longest ps p = list_all (λ q. nat_le (length_before q) (length_before p)) ps
 abbrev pub first_longest : List Pattern → Option Pattern
 first_longest ps = find (is_longest ps) ps
 
--- The pattern that decides alone: the first exact one that matches, else of the wildcards that match the first with the longest text before its `*`.
+-- The pattern that decides alone: the first exact one that matches, else of the wildcards that match the first with the
+-- longest text before its `*`.
 abbrev pub deciding : TsVersion → List Pattern → List ℕ → Option Pattern
 deciding version ps s = option_or (find (is_exactly s) ps) (first_longest (filter (fits version s) ps))
 

@@ -14,7 +14,9 @@ IsRefused (Err (Refused x)) = Unit {0}
 IsRefused (Err TreeFault) = ⊥
 IsRefused (Err NoMemory) = ⊥
 
--- The law of an order of search, which hangs on a view: trees that give the same replies to what one of them is asked by a request come to one answer or refusal, and are asked the same. So what was asked of a tree, with its replies, decides.
+-- The law of an order of search, which hangs on a view: trees that give the same replies to what one of them is asked
+-- by a request come to one answer or refusal, and are asked the same. So what was asked of a tree, with its replies,
+-- decides.
 pub record TrailsSuffice {V X : Type 0}
     (order : V → FileName → List ℕ → Plan (Result Resolution X)) : Type 0 where
   pub decides : (t u : Files) (view : V) (base : FileName) (specifier : List ℕ) →

@@ -32,7 +32,8 @@ fn row_of(given: &str) -> Option<Row<'_>> {
     })
 }
 
-// Requests from a nameless base, by the base folder `.`: what each comes to, and the table's requests in order. Lines that begin with
+// Requests from a nameless base, by the base folder `.`: what each comes to, and the table's requests in order. Lines
+// that begin with
 // `#` say what the next ones show.
 fn from_nowhere() -> &'static str {
     "# an exact pattern, and a specifier without one

@@ -1,6 +1,22 @@
 -- What a session document gives: a session before its steps, and the steps.
 -- A `do` here is over results: it goes on with what a step gives, and ends by the first error.
-use Rattle.std.specs.Prelude.{ℕ, ◌&&◌, nat_lt, nat_le, List, [], codes, Option, Some, None, option_and_then, option_map, if◌then◌else◌, Result, Ok}
+use Rattle.std.specs.Prelude.{
+  ℕ,
+  ◌&&◌,
+  nat_lt,
+  nat_le,
+  List,
+  [],
+  codes,
+  Option,
+  Some,
+  None,
+  option_and_then,
+  option_map,
+  if◌then◌else◌,
+  Result,
+  Ok,
+}
 use Rattle.std.specs.FinMap as finite
 use Rattle.serde_json.specs.Data.{Data}
 use Rattle.serde_json.specs.Find.{get, as_str, as_number, as_u64}

@@ -1,5 +1,20 @@
 -- The lines of a session's steps: for each step the compact text of a JSON object.
-use Rattle.std.specs.Prelude.{ℕ, List, [], ◌∷◌, ◌++◌, codes, Option, Some, None, Result, Ok, Err, count_by, if◌then◌else◌}
+use Rattle.std.specs.Prelude.{
+  ℕ,
+  List,
+  [],
+  ◌∷◌,
+  ◌++◌,
+  codes,
+  Option,
+  Some,
+  None,
+  Result,
+  Ok,
+  Err,
+  count_by,
+  if◌then◌else◌,
+}
 use Rattle.serde_json.specs.Data.{Data, unsigned, null, number, string, object, no_members, member}
 use Rattle.serde_json.specs.Written.{compact_text}
 use Rattle.tree_core.specs.declared.memory.PutError.{PutError}

@@ -86,7 +86,8 @@ fn remove(alloc: Global, session: &mut Session<'_>, path: &str) -> Result<String
     line_of_removal(alloc, dropped)
 }
 
-/// The line of a put at a path, by what it answered: how many outcomes are dropped, or why the file is refused. Where it
+/// The line of a put at a path, by what it answered: how many outcomes are dropped, or why the file is refused. Where
+/// it
 /// found no memory, there is no line.
 pub fn line_of_put(
     alloc: Global,

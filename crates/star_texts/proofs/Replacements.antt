@@ -1,5 +1,31 @@
 -- Texts in place of each `*`.
-use Rattle.std.proofs.Common.{◌≡◌, ◌+◌, ◌==◌, ◌||◌, ℕ, zero, suc, inl, inr, Bool, true, false, cond, List, [], ◌∷◌, ◌++◌, take, drop, refl, sym, ap, ◌∙◌, arith, lit<}
+use Rattle.std.proofs.Common.{
+  ◌≡◌,
+  ◌+◌,
+  ◌==◌,
+  ◌||◌,
+  ℕ,
+  zero,
+  suc,
+  inl,
+  inr,
+  Bool,
+  true,
+  false,
+  cond,
+  List,
+  [],
+  ◌∷◌,
+  ◌++◌,
+  take,
+  drop,
+  refl,
+  sym,
+  ap,
+  ◌∙◌,
+  arith,
+  lit<,
+}
 use Rattle.std.specs.Prelude.{IfOk, Result, Ok, Err, String, string_bytes}
 use Rattle.std.specs.Global.{Global}
 use Rattle.std.specs.Str.Pattern.{FindsChar}
@@ -19,7 +45,8 @@ replaced-none : (text rest : List ℕ) → has_star text ≡ false → replaced 
 replaced-none [] rest h = refl
 replaced-none (b ∷ text) rest h = by_test (b == 42) h (replaced-none text rest)
   where
-    by_test : (r : Bool) → r || has_star text ≡ false → (has_star text ≡ false → replaced text rest ≡ text) → cond r rest (b ∷ []) ++ replaced text rest ≡ b ∷ text
+    by_test : (r : Bool) → r || has_star text ≡ false → (has_star text ≡ false → replaced text rest ≡ text)
+        → cond r rest (b ∷ []) ++ replaced text rest ≡ b ∷ text
     by_test true x later = absurd (false≢true (sym x))
     by_test false x later = ap (λ xs. b ∷ xs) (later x)
 
@@ -43,9 +70,11 @@ starless text none = by_test (has_star text) refl
     by_test false is = refl
     by_test true is = let at = star_within text is in absurd (NoCharPasses-char 42 text at.0 none (lit< tt) at.1 at.2)
 
-replaced-matches : (n : ℕ) (p : ℕ) (text rest made : List ℕ) → p ≡ 42 → ReplacesMatches FindsChar (λ c d. d ≡ c) rest n p text made → made ≡ replaced text rest
+replaced-matches : (n : ℕ) (p : ℕ) (text rest made : List ℕ) → p ≡ 42
+    → ReplacesMatches FindsChar (λ c d. d ≡ c) rest n p text made → made ≡ replaced text rest
 replaced-matches zero p text rest made is h = h.1 ∙ sym (replaced-none text rest (starless text (rw is at h.0)))
-replaced-matches (suc n) p text rest made is (a, b, q, more, found, kept, on, e) = by_end on (replaced-matches n q (drop b text) rest more (kept ∙ is))
+replaced-matches (suc n) p text rest made is (a, b, q, more, found, kept, on, e) =
+    by_end on (replaced-matches n q (drop b text) rest more (kept ∙ is))
   where
     at : drop a text ≡ 42 ∷ drop b text
     at = drop_at_char 42 text a b (rw is at found.1) (lit< tt)
@@ -54,15 +83,20 @@ replaced-matches (suc n) p text rest made is (a, b, q, more, found, kept, on, e)
     front = replaced-none (take a text) rest (starless (take a text) (rw is at found.0))
 
     whole : replaced text rest ≡ take a text ++ (rest ++ replaced (drop b text) rest)
-    whole = ap (λ xs. replaced xs rest) (sym (take-append-drop a text)) ∙ replaced-append (take a text) (drop a text) rest ∙ rw (front, at) refl
+    whole = ap (λ xs. replaced xs rest) (sym (take-append-drop a text))
+        ∙ replaced-append (take a text) (drop a text) rest ∙ rw (front, at) refl
 
     passes : b ≡ a + 1
     passes = rw is at found.1.ends
 
-    by_end : ContinuesAfterMatch FindsChar (λ c d. d ≡ c) rest (ReplacesMatches FindsChar (λ c d. d ≡ c) rest n q) text a b more → (ReplacesMatches FindsChar (λ c d. d ≡ c) rest n q (drop b text) more → more ≡ replaced (drop b text) rest) → made ≡ replaced text rest
+    by_end : ContinuesAfterMatch FindsChar (λ c d. d ≡ c) rest (ReplacesMatches FindsChar (λ c d. d ≡ c) rest n q) text
+        a b more → (ReplacesMatches FindsChar (λ c d. d ≡ c) rest n q (drop b text) more
+        → more ≡ replaced (drop b text) rest) → made ≡ replaced text rest
     by_end (inl (lt, next)) later = e ∙ rw (later next) (sym whole)
     by_end (inr (same, next)) later = absurd (omega (arith, same, passes))
 
-pub replaced-told : {E : Type 0} (r : Result (String Global) E) (text rest : List ℕ) → IfOk r (λ made. (n : ℕ) × ReplacesMatches FindsChar (λ a b. b ≡ a) rest n 42 text (string_bytes made)) → IfOk r (λ made. string_bytes made ≡ replaced text rest)
+pub replaced-told : {E : Type 0} (r : Result (String Global) E) (text rest : List ℕ)
+    → IfOk r (λ made. (n : ℕ) × ReplacesMatches FindsChar (λ a b. b ≡ a) rest n 42 text (string_bytes made))
+    → IfOk r (λ made. string_bytes made ≡ replaced text rest)
 replaced-told (Ok made) text rest h = replaced-matches h.0 42 text rest (string_bytes made) refl h.1
 replaced-told (Err e) text rest h = h

@@ -1,6 +1,29 @@
--- What a `*` stands for in a text, as in the keys and targets of a package's `exports` (Node's package entry points). Texts are lists of bytes.
+-- What a `*` stands for in a text, as in the keys and targets of a package's `exports` (Node's package entry points).
+-- Texts are lists of bytes.
 use Prim.Native.Char.{code}
-use Rattle.std.specs.Prelude.{ℕ, ◌+◌, ◌-◌, ◌==◌, Bool, bytes_eq, List, [], ◌∷◌, ◌++◌, length, take, drop, position, flat_map, Option, Some, None, option_map, option_and_then, if◌then◌else◌}
+use Rattle.std.specs.Prelude.{
+  ℕ,
+  ◌+◌,
+  ◌-◌,
+  ◌==◌,
+  Bool,
+  bytes_eq,
+  List,
+  [],
+  ◌∷◌,
+  ◌++◌,
+  length,
+  take,
+  drop,
+  position,
+  flat_map,
+  Option,
+  Some,
+  None,
+  option_map,
+  option_and_then,
+  if◌then◌else◌,
+}
 use Rattle.std.specs.List.{list_any}
 
 -- the byte is a `*`
@@ -27,7 +50,8 @@ around_only_star text = option_and_then unless_another (around_star text)
 abbrev pub without_ends : List ℕ → List ℕ → List ℕ → List ℕ
 without_ends text before behind = take (length text - (length before + length behind)) (drop (length before) text)
 
--- what stands between one text at the front and another at the end, where the text begins and ends so and the two don't overlap
+-- what stands between one text at the front and another at the end, where the text begins and ends so and the two don't
+-- overlap
 abbrev pub rest_between : List ℕ → List ℕ → List ℕ → Option (List ℕ)
 rest_between text before behind =
     if bytes_eq text (before ++ (without_ends text before behind ++ behind)) then Some (without_ends text before behind)

@@ -1,5 +1,31 @@
 -- A path lies below a location exactly where it is some names on top of it, also as texts.
-use Rattle.std.proofs.Common.{◌≡◌, ◌≢◌, ◌==◌, ◌||◌, ◌⊎◌, inl, inr, ℕ, Bool, true, false, cond, List, [], ◌∷◌, ◌++◌, bytes_eq, refl, sym, ap, ◌∙◌, subst, append_assoc, append-nil, length}
+use Rattle.std.proofs.Common.{
+  ◌≡◌,
+  ◌≢◌,
+  ◌==◌,
+  ◌||◌,
+  ◌⊎◌,
+  inl,
+  inr,
+  ℕ,
+  Bool,
+  true,
+  false,
+  cond,
+  List,
+  [],
+  ◌∷◌,
+  ◌++◌,
+  bytes_eq,
+  refl,
+  sym,
+  ap,
+  ◌∙◌,
+  subst,
+  append_assoc,
+  append-nil,
+  length,
+}
 use Rattle.std.specs.Bool.{Decides}
 use Rattle.std.proofs.lemmas.Bool.Decides.{eqb_tells, same_from_decides, Decides-like}
 use Rattle.std.proofs.lemmas.List.{append_cancel_left, nil_from_length}
@@ -15,7 +41,8 @@ pub below-tells : (p l : Path) → below p l ≡ true → (q : Path) × (p ≡ q
 below-tells [] l h = ([], (path_eq-Decides [] l).0 h)
 below-tells (n ∷ p) l h = by_test (path_eq (n ∷ p) l) refl h (λ k. below-tells p l k)
   where
-    by_test : (b : Bool) → path_eq (n ∷ p) l ≡ b → (b || below p l) ≡ true → (below p l ≡ true → (q : Path) × (p ≡ q ++ l)) → (q : Path) × (n ∷ p ≡ q ++ l)
+    by_test : (b : Bool) → path_eq (n ∷ p) l ≡ b → (b || below p l) ≡ true
+        → (below p l ≡ true → (q : Path) × (p ≡ q ++ l)) → (q : Path) × (n ∷ p ≡ q ++ l)
     by_test true e or tells = ([], (path_eq-Decides (n ∷ p) l).0 e)
     by_test false e or tells = ((n ∷ (tells or).0), ap (λ x. n ∷ x) (tells or).1)
 
@@ -32,7 +59,8 @@ pub below-through : (p q l : Path) → below p q ≡ true → below q l ≡ true
 below-through p q l h k =
     let upper = below-tells p q h in
     let lower = below-tells q l k in
-    rw (upper.1 ∙ ap (λ x. upper.0 ++ x) lower.1 ∙ sym (append_assoc upper.0 lower.0 l)) (below-append (upper.0 ++ lower.0) l)
+    rw (upper.1 ∙ ap (λ x. upper.0 ++ x) lower.1 ∙ sym (append_assoc upper.0 lower.0 l))
+    (below-append (upper.0 ++ lower.0) l)
 
 pub below-child : (n : List ℕ) (p l : Path) → below p l ≡ true → below (n ∷ p) l ≡ true
 below-child n p l h = or_right (path_eq (n ∷ p) l) (below p l) h
@@ -50,7 +78,9 @@ with_bytes-keeps : (m : List ℕ) (l : Path) (r : List ℕ) → (q : Path) × (w
 with_bytes-keeps m l [] = (m ∷ [], refl)
 with_bytes-keeps m l (c ∷ r) = by_test (c == 47) (with_bytes-keeps [] (m ∷ l) r) (with_bytes-keeps (m ++ c ∷ []) l r)
   where
-    by_test : (b : Bool) → ((q : Path) × (with_bytes ([] ∷ m ∷ l) r ≡ q ++ m ∷ l)) → ((q : Path) × (with_bytes ((m ++ c ∷ []) ∷ l) r ≡ q ++ l)) → (q : Path) × (with_bytes (cond b ([] ∷ m ∷ l) ((m ++ c ∷ []) ∷ l)) r ≡ q ++ l)
+    by_test : (b : Bool) → ((q : Path) × (with_bytes ([] ∷ m ∷ l) r ≡ q ++ m ∷ l))
+        → ((q : Path) × (with_bytes ((m ++ c ∷ []) ∷ l) r ≡ q ++ l)) → (q : Path)
+        × (with_bytes (cond b ([] ∷ m ∷ l) ((m ++ c ∷ []) ∷ l)) r ≡ q ++ l)
     by_test true w v = (w.0 ++ m ∷ [], w.1 ∙ sym (append_assoc w.0 (m ∷ []) l))
     by_test false w v = v
 
@@ -63,7 +93,8 @@ with_bytes-rest l r (inl e) = ([], ap (with_bytes l) e)
 with_bytes-rest l [] (inr h) = ([], refl)
 with_bytes-rest l (c ∷ r) (inr h) = by_test (eqb_tells c 47)
   where
-    by_test : (((c == 47) ≡ true) × (c ≡ 47)) ⊎ (((c == 47) ≡ false) × (c ≢ 47)) → (q : Path) × (with_bytes l (c ∷ r) ≡ q ++ l)
+    by_test : (((c == 47) ≡ true) × (c ≡ 47)) ⊎ (((c == 47) ≡ false) × (c ≢ 47)) → (q : Path)
+        × (with_bytes l (c ∷ r) ≡ q ++ l)
     by_test (inr w) = absurd (let e : true ≡ false = sym h ∙ w.0 in cc)
     by_test (inl w) = by_names l
       where
@@ -77,16 +108,21 @@ below-from_text s t r is rest =
     let w = with_bytes-rest (names_in t) r rest in
     rw (ap names_in is ∙ with_bytes-append [] t r ∙ w.1) (below-append w.0 (names_in t))
 
-pub text-from_below : (s t : List ℕ) → IsSteps s → IsSteps t → below (names_in s) (names_in t) ≡ true → (r : List ℕ) × (s ≡ t ++ r) × IsRest r
+pub text-from_below : (s t : List ℕ) → IsSteps s → IsSteps t → below (names_in s) (names_in t) ≡ true → (r : List ℕ)
+    × (s ≡ t ++ r) × IsRest r
 text-from_below s t hs ht h =
-    let w = below-tells (names_in s) (names_in t) h in
-    (steps w.0, hs.text ∙ ap steps w.1 ∙ steps-append w.0 (names_in t) ∙ ap (λ x. x ++ steps w.0) (sym ht.text), by_names w.0)
+    let w = below-tells (names_in s) (names_in t) h in (
+      steps w.0,
+      hs.text ∙ ap steps w.1 ∙ steps-append w.0 (names_in t) ∙ ap (λ x. x ++ steps w.0) (sym ht.text),
+      by_names w.0,
+    )
   where
     by_names : (q : Path) → IsRest (steps q)
     by_names [] = inl refl
     by_names (n ∷ q) = inr (steps-absolute n q)
 
-steps_below-Decides : (s t r : List ℕ) → IsSteps s → IsSteps t → s ≡ t ++ r → Decides (below (names_in s) (names_in t)) (IsRest r)
+steps_below-Decides : (s t r : List ℕ) → IsSteps s → IsSteps t → s ≡ t ++ r
+    → Decides (below (names_in s) (names_in t)) (IsRest r)
 steps_below-Decides s t r hs ht is = (
   λ h.
       let w = text-from_below s t hs ht h in
@@ -96,7 +132,8 @@ steps_below-Decides s t r hs ht is = (
 )
 
 -- where the text of a location doesn't begin that of a path
-pub below-other : (s t : List ℕ) → IsSteps s → IsSteps t → ((r : List ℕ) → s ≢ t ++ r) → false ≡ below (names_in s) (names_in t)
+pub below-other : (s t : List ℕ) → IsSteps s → IsSteps t → ((r : List ℕ) → s ≢ t ++ r)
+    → false ≡ below (names_in s) (names_in t)
 below-other s t hs ht other = by_test (below (names_in s) (names_in t)) refl
   where
     by_test : (b : Bool) → below (names_in s) (names_in t) ≡ b → false ≡ b
@@ -104,12 +141,15 @@ below-other s t hs ht other = by_test (below (names_in s) (names_in t)) refl
     by_test false e = refl
 
 -- where it begins it, and nothing follows
-pub below-whole : (s t r : List ℕ) → IsSteps s → IsSteps t → s ≡ t ++ r → length r ≡ 0 → true ≡ below (names_in s) (names_in t)
+pub below-whole : (s t r : List ℕ) → IsSteps s → IsSteps t → s ≡ t ++ r → length r ≡ 0
+    → true ≡ below (names_in s) (names_in t)
 below-whole s t r hs ht is empty = sym ((steps_below-Decides s t r hs ht is).1 (inl (nil_from_length r empty)))
 
 -- where it begins it, and something follows
-pub below-more : (s t r : List ℕ) → IsSteps s → IsSteps t → s ≡ t ++ r → length r ≢ 0 → is_absolute r ≡ below (names_in s) (names_in t)
-below-more s t r hs ht is some = same_from_decides (is_absolute r) (below (names_in s) (names_in t)) ((λ h. inr h), by_case) (steps_below-Decides s t r hs ht is)
+pub below-more : (s t r : List ℕ) → IsSteps s → IsSteps t → s ≡ t ++ r → length r ≢ 0
+    → is_absolute r ≡ below (names_in s) (names_in t)
+below-more s t r hs ht is some = same_from_decides (is_absolute r) (below (names_in s) (names_in t))
+    ((λ h. inr h), by_case) (steps_below-Decides s t r hs ht is)
   where
     by_case : IsRest r → is_absolute r ≡ true
     by_case (inl e) = absurd (some (ap length e))

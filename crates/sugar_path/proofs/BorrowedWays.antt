@@ -1,5 +1,35 @@
 -- Paths that are in order as they stand, and the relative path at the end of a target.
-use Rattle.std.proofs.Common.{◌≡◌, ◌≢◌, ◌==◌, ◌&&◌, ◌⊎◌, inl, inr, ℕ, zero, suc, Bool, true, false, not, cond, List, [], ◌∷◌, ◌++◌, length, bytes_eq, reverse, replicate, refl, sym, ap, ◌∙◌, subst, append-nil}
+use Rattle.std.proofs.Common.{
+  ◌≡◌,
+  ◌≢◌,
+  ◌==◌,
+  ◌&&◌,
+  ◌⊎◌,
+  inl,
+  inr,
+  ℕ,
+  zero,
+  suc,
+  Bool,
+  true,
+  false,
+  not,
+  cond,
+  List,
+  [],
+  ◌∷◌,
+  ◌++◌,
+  length,
+  bytes_eq,
+  reverse,
+  replicate,
+  refl,
+  sym,
+  ap,
+  ◌∙◌,
+  subst,
+  append-nil,
+}
 use Rattle.std.specs.Prelude.{◌↔◌, IsTrue, Option, Some, None, MatchOption}
 use denote.Ref.{Bor}
 use Rattle.std.specs.Str.{IsUtf8}
@@ -7,7 +37,20 @@ use Rattle.std.specs.List.{join_with_byte}
 use Rattle.std.proofs.lemmas.Bool.Decides.{Decides-eqb}
 use Rattle.std.proofs.lemmas.List.{append_cancel_left, reverse-append, nil_from_length}
 use Rattle.std.proofs.lemmas.Slice.Eq.{bytes_eq-Decides}
-use Rattle.sugar_path.specs.Path.{Path, IsPath, IsSteps, steps, text_of, names_in, is_absolute, parts, by_parts, path_in, ends_in_slash, below}
+use Rattle.sugar_path.specs.Path.{
+  Path,
+  IsPath,
+  IsSteps,
+  steps,
+  text_of,
+  names_in,
+  is_absolute,
+  parts,
+  by_parts,
+  path_in,
+  ends_in_slash,
+  below,
+}
 use Rattle.sugar_path.specs.Route.{Rooted, route_of, route_text, place, normal}
 use Rattle.sugar_path.specs.Relative.{between, way, needs_folder, same_start, relative_from}
 use Rattle.sugar_path.specs.Borrowed.{without_last_slashes, IsInOrder, IsWayBorrowed}
@@ -34,18 +77,26 @@ Stays c t = (bare (c ∷ t) ≡ c ∷ bare t) × (bare t ≡ [] → (c == 47) �
 bare-cons : (c : ℕ) (t : List ℕ) → IsLast c t ⊎ Stays c t
 bare-cons c t = by_tests (bare t) (bytes_eq (bare t) []) (c == 47) refl refl
   where
-    by_tests : (u : List ℕ) (a b : Bool) → bytes_eq u [] ≡ a → (c == 47) ≡ b → ((u ≡ []) × (c ≡ 47) × (cond (a && b) [] (c ∷ u) ≡ [])) ⊎ ((cond (a && b) [] (c ∷ u) ≡ c ∷ u) × (u ≡ [] → (c == 47) ≡ false))
+    by_tests : (u : List ℕ) (a b : Bool) → bytes_eq u [] ≡ a → (c == 47) ≡ b
+        → ((u ≡ []) × (c ≡ 47) × (cond (a && b) [] (c ∷ u) ≡ []))
+        ⊎ ((cond (a && b) [] (c ∷ u) ≡ c ∷ u) × (u ≡ [] → (c == 47) ≡ false))
     by_tests u true true none is = inl ((bytes_eq-Decides u []).0 none, (Decides-eqb c 47).0 is, refl)
     by_tests u true false none is = inr (refl, λ e. is)
-    by_tests u false b none is = inr (refl, λ e. absurd (let f : true ≡ false = sym (ap (λ v. bytes_eq v []) e) ∙ none in cc))
+    by_tests u false b none is =
+        inr (refl, λ e. absurd (let f : true ≡ false = sym (ap (λ v. bytes_eq v []) e) ∙ none in cc))
 
 -- a text is what is left, and so many separators behind it
 pub bare-split : (t : List ℕ) → (k : ℕ) × (t ≡ bare t ++ replicate k 47)
 bare-split [] = (0, refl)
 bare-split (c ∷ t) = by_case (bare-cons c t) (bare-split t)
   where
-    by_case : IsLast c t ⊎ Stays c t → (k : ℕ) × (t ≡ bare t ++ replicate k 47) → (k : ℕ) × (c ∷ t ≡ bare (c ∷ t) ++ replicate k 47)
-    by_case (inl w) h = (suc h.0, ap (λ d. d ∷ t) w.1 ∙ ap (λ s. 47 ∷ s) (h.1 ∙ ap (λ u. u ++ replicate h.0 47) w.0) ∙ ap (λ u. u ++ 47 ∷ replicate h.0 47) (sym w.2))
+    by_case : IsLast c t ⊎ Stays c t → (k : ℕ) × (t ≡ bare t ++ replicate k 47) → (k : ℕ)
+        × (c ∷ t ≡ bare (c ∷ t) ++ replicate k 47)
+    by_case (inl w) h = (
+      suc h.0,
+      ap (λ d. d ∷ t) w.1 ∙ ap (λ s. 47 ∷ s) (h.1 ∙ ap (λ u. u ++ replicate h.0 47) w.0)
+          ∙ ap (λ u. u ++ 47 ∷ replicate h.0 47) (sym w.2),
+    )
     by_case (inr w) h = (h.0, ap (λ s. c ∷ s) h.1 ∙ ap (λ u. u ++ replicate h.0 47) (sym w.0))
 
 -- what is left doesn't end in one
@@ -71,7 +122,8 @@ bare-same (c ∷ t) h = by_case (bare-cons c t) (bare-same t)
     tail (d ∷ t) k = k
 
     alone : (t : List ℕ) → t ≡ [] → c ≡ 47 → ends_in_slash (c ∷ t) ≡ false → ⊥
-    alone t none is k = let e : true ≡ false = sym ((Decides-eqb c 47).1 is) ∙ ap (λ u. ends_in_slash (c ∷ u)) (sym none) ∙ k in cc
+    alone t none is k =
+        let e : true ≡ false = sym ((Decides-eqb c 47).1 is) ∙ ap (λ u. ends_in_slash (c ∷ u)) (sym none) ∙ k in cc
 
     by_case : IsLast c t ⊎ Stays c t → (ends_in_slash t ≡ false → bare t ≡ t) → bare (c ∷ t) ≡ c ∷ t
     by_case (inl w) rest = absurd (alone t (sym (rest (tail t h)) ∙ w.0) w.1 h)
@@ -110,7 +162,8 @@ bare-absolute (c ∷ t) h some = by_case (bare-cons c t)
 abbrev pub HasSteps : List ℕ → Type 0
 HasSteps t = IsSteps (bare t) × (names_in (bare t) ≡ path_in t)
 
-steps-of_path : (p : Path) (s : List ℕ) → IsPath p → s ≡ text_of p → ends_in_slash s ≡ false → IsSteps s × (names_in s ≡ p)
+steps-of_path : (p : Path) (s : List ℕ) → IsPath p → s ≡ text_of p → ends_in_slash s ≡ false → IsSteps s
+    × (names_in s ≡ p)
 steps-of_path [] s h is unended = absurd (let e : false ≡ true = sym unended ∙ ap ends_in_slash is in cc)
 steps-of_path (n ∷ p) s h is unended = rw is (IsSteps-steps (n ∷ p) h, names_in-steps (n ∷ p) h)
 
@@ -152,10 +205,13 @@ between-on q b =
     ∙ between-shared (reverse b) [] (reverse q)
     ∙ between-none (reverse q)
 
-both-rooted : (base target : List ℕ) → is_absolute base ≡ true → is_absolute target ≡ true → needs_folder base target ≡ false
-both-rooted base target h k = ap (λ r. not (same_start (route_of target) r)) (route_of-absolute base h) ∙ ap (λ r. not (same_start r (Rooted (path_in base)))) (route_of-absolute target k)
+both-rooted : (base target : List ℕ) → is_absolute base ≡ true → is_absolute target ≡ true
+    → needs_folder base target ≡ false
+both-rooted base target h k = ap (λ r. not (same_start (route_of target) r)) (route_of-absolute base h)
+    ∙ ap (λ r. not (same_start r (Rooted (path_in base)))) (route_of-absolute target k)
 
-way-on : (cwd base target : List ℕ) (q : Path) → is_absolute base ≡ true → is_absolute target ≡ true → path_in target ≡ q ++ path_in base → relative_from cwd base target ≡ join_with_byte 47 (reverse q)
+way-on : (cwd base target : List ℕ) (q : Path) → is_absolute base ≡ true → is_absolute target ≡ true
+    → path_in target ≡ q ++ path_in base → relative_from cwd base target ≡ join_with_byte 47 (reverse q)
 unfolding way
 way-on cwd base target q h k is =
     relative-alone cwd base target (both-rooted base target h k)
@@ -167,25 +223,29 @@ way-on cwd base target q h k is =
 names-behind : (q : Path) (r : List ℕ) → IsPath q → steps q ≡ 47 ∷ r → r ≡ join_with_byte 47 (reverse q)
 unfolding route_text
 names-behind [] r h is = cc
-names-behind (n ∷ q) r h is = let whole : 47 ∷ join_with_byte 47 (reverse (n ∷ q)) ≡ 47 ∷ r = route_text-rooted_path (n ∷ q) h ∙ is in cc
+names-behind (n ∷ q) r h is =
+    let whole : 47 ∷ join_with_byte 47 (reverse (n ∷ q)) ≡ 47 ∷ r = route_text-rooted_path (n ∷ q) h ∙ is in cc
 
 IsPath-front : (q p : Path) → IsPath (q ++ p) → IsPath q
 IsPath-front [] p h = tt
 IsPath-front (n ∷ q) p h = (h.0, IsPath-front q p h.1)
 
 -- the names of a base begin those of a target exactly where its steps do
-split-steps : (base target : List ℕ) → HasSteps base → HasSteps target → below (path_in target) (path_in base) ≡ true → (q : Path) × IsPath q × (path_in target ≡ q ++ path_in base) × (bare target ≡ bare base ++ steps q)
+split-steps : (base target : List ℕ) → HasSteps base → HasSteps target → below (path_in target) (path_in base) ≡ true
+    → (q : Path) × IsPath q × (path_in target ≡ q ++ path_in base) × (bare target ≡ bare base ++ steps q)
 split-steps base target b t h =
     let w = below-tells (path_in target) (path_in base) h in
     let P : Path → Type 0 = IsPath in (
       w.0,
       IsPath-front w.0 (path_in base) (subst P w.1 (IsPath-path_in target)),
       w.1,
-      t.0.text ∙ ap steps (t.1 ∙ w.1) ∙ steps-append w.0 (path_in base) ∙ ap (λ s. s ++ steps w.0) (sym (b.0.text ∙ ap steps b.1)),
+      t.0.text ∙ ap steps (t.1 ∙ w.1) ∙ steps-append w.0 (path_in base)
+          ∙ ap (λ s. s ++ steps w.0) (sym (b.0.text ∙ ap steps b.1)),
     )
 
 borrowed-steps : (base target : List ℕ) → IsWayBorrowed base target → HasSteps base × HasSteps target
-borrowed-steps base target h = (in_order-steps base h.from.absolute h.from.normal, in_order-steps target h.to.absolute h.to.normal)
+borrowed-steps base target h =
+    (in_order-steps base h.from.absolute h.from.normal, in_order-steps target h.to.absolute h.to.normal)
 
 -- where the target's text goes on behind the base's, the way is borrowed if both are in order
 pub borrowed-none : (base target : List ℕ) → IsRestBehind (bare base) (bare target) None → ¬ IsWayBorrowed base target
@@ -198,29 +258,34 @@ borrowed-none base target none h =
     by_names [] is = none.0 (is ∙ append-nil (bare base))
     by_names (n ∷ q) is = let begun = steps-begun n q in none.1 begun.0 (is ∙ ap (λ s. bare base ++ s) begun.1)
 
-pub borrowed-below : (base target r : List ℕ) → IsInOrder base → IsInOrder target → IsRestBehind (bare base) (bare target) (Some r) → IsWayBorrowed base target
+pub borrowed-below : (base target r : List ℕ) → IsInOrder base → IsInOrder target
+    → IsRestBehind (bare base) (bare target) (Some r) → IsWayBorrowed base target
 borrowed-below base target r b t rest =
     let from = in_order-steps base b.absolute b.normal in
     let to = in_order-steps target t.absolute t.normal in
     record { from = b; to = t; names = rw (← from.1, ← to.1) (by_rest rest) }
   where
-    by_rest : ((bare target ≡ bare base) × (r ≡ [])) ⊎ (bare target ≡ bare base ++ 47 ∷ r) → below (names_in (bare target)) (names_in (bare base)) ≡ true
+    by_rest : ((bare target ≡ bare base) × (r ≡ [])) ⊎ (bare target ≡ bare base ++ 47 ∷ r)
+        → below (names_in (bare target)) (names_in (bare base)) ≡ true
     by_rest (inl w) = below-from_text (bare target) (bare base) [] (w.0 ∙ sym (append-nil (bare base))) (inl refl)
     by_rest (inr w) = below-from_text (bare target) (bare base) (47 ∷ r) w (inr refl)
 
-pub borrowed-way : (base target r : List ℕ) → IsInOrder base → IsInOrder target → IsRestBehind (bare base) (bare target) (Some r) → (cwd : List ℕ) → r ≡ relative_from cwd base target
+pub borrowed-way : (base target r : List ℕ) → IsInOrder base → IsInOrder target
+    → IsRestBehind (bare base) (bare target) (Some r) → (cwd : List ℕ) → r ≡ relative_from cwd base target
 borrowed-way base target r b t rest cwd =
     let from = in_order-steps base b.absolute b.normal in
     let to = in_order-steps target t.absolute t.normal in
     let w = split-steps base target from to (borrowed-below base target r b t rest).names in
     by_rest w.0 w.1 w.3 rest ∙ sym (way-on cwd base target w.0 b.absolute t.absolute w.2)
   where
-    by_rest : (q : Path) → IsPath q → bare target ≡ bare base ++ steps q → ((bare target ≡ bare base) × (r ≡ [])) ⊎ (bare target ≡ bare base ++ 47 ∷ r) → r ≡ join_with_byte 47 (reverse q)
+    by_rest : (q : Path) → IsPath q → bare target ≡ bare base ++ steps q → ((bare target ≡ bare base) × (r ≡ []))
+        ⊎ (bare target ≡ bare base ++ 47 ∷ r) → r ≡ join_with_byte 47 (reverse q)
     by_rest q h is (inr w) = names-behind q r h (append_cancel_left (bare base) (steps q) (47 ∷ r) (sym is ∙ w))
     by_rest [] h is (inl w) = w.1
     by_rest (n ∷ q) h is (inl w) =
         let begun = steps-begun n q in
-        absurd (let e : [] ≡ 47 ∷ begun.0 = append_cancel_left (bare base) [] (47 ∷ begun.0) (append-nil (bare base) ∙ sym w.0 ∙ is ∙ ap (λ s. bare base ++ s) begun.1) in cc)
+        absurd (let e : [] ≡ 47 ∷ begun.0 = append_cancel_left (bare base) [] (47 ∷ begun.0)
+        (append-nil (bare base) ∙ sym w.0 ∙ is ∙ ap (λ s. bare base ++ s) begun.1) in cc)
 
 -- ---- what the code finds
 abbrev pub IsEmptyOrPlace : List ℕ → Type 0
@@ -236,7 +301,8 @@ place-told t b some is = (λ h. inr ((bytes_eq-Decides (place t) t).0 (sym is �
     by_case (inl e) = absurd (some (ap length e))
     by_case (inr e) = is ∙ (bytes_eq-Decides (place t) t).1 e
 
-pub in_order-told : (t front : List ℕ) (b : Bool) → is_absolute t ≡ true → front ≡ bare t → IsEmptyOrPlace front → IsTrue b ↔ IsUtf8 t → IsTrue b ↔ IsInOrder t
+pub in_order-told : (t front : List ℕ) (b : Bool) → is_absolute t ≡ true → front ≡ bare t → IsEmptyOrPlace front
+    → IsTrue b ↔ IsUtf8 t → IsTrue b ↔ IsInOrder t
 in_order-told t front b absolute is h utf8 = (
   λ k. record { absolute = absolute; utf8 = utf8.0 k; normal = by_case (subst IsEmptyOrPlace is h) },
   λ k. utf8.1 k.utf8,
@@ -246,7 +312,8 @@ in_order-told t front b absolute is h utf8 = (
     by_case (inl e) = inl e
     by_case (inr e) = inr (normal-open (bare t) (bare-unended t) ∙ e)
 
-pub in_order-not : (t : List ℕ) (b : Bool) → b ≡ false → (is_absolute t ≡ false) ⊎ (¬ IsEmptyOrPlace (bare t)) → IsTrue b ↔ IsInOrder t
+pub in_order-not : (t : List ℕ) (b : Bool) → b ≡ false → (is_absolute t ≡ false) ⊎ (¬ IsEmptyOrPlace (bare t))
+    → IsTrue b ↔ IsInOrder t
 in_order-not t b is cases = (λ h. absurd (let e : false ≡ true = sym is ∙ h in cc), λ h. absurd (by_case cases h))
   where
     settled : (bare t ≡ []) ⊎ (normal (bare t) ≡ bare t) → IsEmptyOrPlace (bare t)
@@ -261,7 +328,8 @@ in_order-not t b is cases = (λ h. absurd (let e : false ≡ true = sym is ∙ h
 pub not_told : (b : Bool) (P : Type 0) → b ≡ false → (P → b ≡ true) → ¬ P
 not_told b P is tells h = let e : false ≡ true = sym is ∙ tells h in cc
 
-pub bare-done : (s : List ℕ) (r : Option (Bor (List ℕ))) → ((x : Bor (List ℕ)) → r ≢ Some x) → MatchOption r ((front : List ℕ) → s ≢ front ++ 47 ∷ []) (λ x. s ≡ x.now ++ 47 ∷ []) → bare s ≡ s
+pub bare-done : (s : List ℕ) (r : Option (Bor (List ℕ))) → ((x : Bor (List ℕ)) → r ≢ Some x)
+    → MatchOption r ((front : List ℕ) → s ≢ front ++ 47 ∷ []) (λ x. s ≡ x.now ++ 47 ∷ []) → bare s ≡ s
 bare-done s None other h = bare-same s (unended s h)
   where
     unended : (s : List ℕ) → ((front : List ℕ) → s ≢ front ++ 47 ∷ []) → ends_in_slash s ≡ false

@@ -1,5 +1,42 @@
 -- A base that is the front of its target: what follows it there, and that it is in order where the target is.
-use Rattle.std.proofs.Common.{◌≡◌, ◌==◌, ◌⊎◌, inl, inr, ℕ, zero, suc, ◌+◌, ◌-◌, ◌<◌, ◌≤◌, Bool, true, false, cond, min, List, [], ◌∷◌, ◌++◌, length, get_or, take, drop, nat_eq, replicate, refl, sym, ap, ◌∙◌, subst, arith, append-nil, append_assoc, length-drop}
+use Rattle.std.proofs.Common.{
+  ◌≡◌,
+  ◌==◌,
+  ◌⊎◌,
+  inl,
+  inr,
+  ℕ,
+  zero,
+  suc,
+  ◌+◌,
+  ◌-◌,
+  ◌<◌,
+  ◌≤◌,
+  Bool,
+  true,
+  false,
+  cond,
+  min,
+  List,
+  [],
+  ◌∷◌,
+  ◌++◌,
+  length,
+  get_or,
+  take,
+  drop,
+  nat_eq,
+  replicate,
+  refl,
+  sym,
+  ap,
+  ◌∙◌,
+  subst,
+  arith,
+  append-nil,
+  append_assoc,
+  length-drop,
+}
 use Rattle.std.specs.Prelude.{Some, None}
 use Rattle.std.specs.Str.{IsUtf8, IsAscii}
 use Rattle.std.specs.List.{common_prefix_len}
@@ -25,26 +62,34 @@ shared-front : (front r : List ℕ) → common_prefix_len nat_eq front (front ++
 shared-front [] r = refl
 shared-front (c ∷ front) r = let rest = shared-front front r in rw ((Decides-eqb c c).1 refl) (omega (arith, rest))
 
-pub rest-differs : (front text : List ℕ) (n : ℕ) → n ≡ common_prefix_len nat_eq front text → n < length front → IsRestBehind front text None
+pub rest-differs : (front text : List ℕ) (n : ℕ) → n ≡ common_prefix_len nat_eq front text → n < length front
+    → IsRestBehind front text None
 rest-differs front text n is lt = (λ e. apart [] (e ∙ sym (append-nil front)), λ r. apart (47 ∷ r))
   where
     apart : (r : List ℕ) → text ≡ front ++ r → ⊥
-    apart r e = let all : n ≡ length front = is ∙ ap (common_prefix_len nat_eq front) e ∙ shared-front front r in omega (arith, all, lt)
+    apart r e = let all : n ≡ length front = is ∙ ap (common_prefix_len nat_eq front) e ∙ shared-front front r in
+        omega (arith, all, lt)
 
-pub rest-follows : (front text : List ℕ) (n m : ℕ) → n ≡ common_prefix_len nat_eq front text → length front ≤ n → (length front < length text → get_or text (length front) 0 ≡ 47) → m ≡ min (length text) (length front + 1) → IsRestBehind front text (Some (take (length text - m) (drop m text)))
+pub rest-follows : (front text : List ℕ) (n m : ℕ) → n ≡ common_prefix_len nat_eq front text → length front ≤ n
+    → (length front < length text → get_or text (length front) 0 ≡ 47) → m ≡ min (length text) (length front + 1)
+    → IsRestBehind front text (Some (take (length text - m) (drop m text)))
 rest-follows front text n m is all slash ends = by_place (leb_tells (length text) (length front))
   where
     whole : text ≡ front ++ drop (length front) text
     whole =
         sym (take-append-drop (length front) text)
-        ∙ ap (λ s. s ++ drop (length front) text) (sym (shared-take (length front) front text (omega (arith, is, all))) ∙ take_all (length front) front (omega arith))
+        ∙ ap (λ s. s ++ drop (length front) text) (sym (shared-take (length front) front text (omega (arith, is, all)))
+        ∙ take_all (length front) front (omega arith))
 
     rest : take (length text - m) (drop m text) ≡ drop m text
     rest = take_all (length text - m) (drop m text) (omega (arith, length-drop m text))
 
-    by_place : ((leb (length text) (length front) ≡ true) × (length text ≤ length front)) ⊎ ((leb (length text) (length front) ≡ false) × (length front < length text)) → IsRestBehind front text (Some (take (length text - m) (drop m text)))
+    by_place : ((leb (length text) (length front) ≡ true) × (length text ≤ length front))
+        ⊎ ((leb (length text) (length front) ≡ false) × (length front < length text))
+        → IsRestBehind front text (Some (take (length text - m) (drop m text)))
     by_place (inl w) = inl (
-      whole ∙ ap (λ s. front ++ s) (nil_from_length (drop (length front) text) (omega (arith, length-drop (length front) text, w.1))) ∙ append-nil front,
+      whole ∙ ap (λ s. front ++ s) (nil_from_length (drop (length front) text)
+          (omega (arith, length-drop (length front) text, w.1))) ∙ append-nil front,
       rest ∙ nil_from_length (drop m text) (omega (arith, length-drop m text, ends, w.1)),
     )
     by_place (inr w) =
@@ -61,7 +106,8 @@ steps-front : (xs ys : List (List ℕ)) → are_steps false (xs ++ ys) ≡ true 
 steps-front [] ys h = refl
 steps-front (x ∷ xs) ys h = by_test (is_plain x) (steps-front xs ys) h
   where
-    by_test : (b : Bool) → (are_steps false (xs ++ ys) ≡ true → are_steps false xs ≡ true) → cond b (are_steps false (xs ++ ys)) false ≡ true → cond b (are_steps false xs) false ≡ true
+    by_test : (b : Bool) → (are_steps false (xs ++ ys) ≡ true → are_steps false xs ≡ true)
+        → cond b (are_steps false (xs ++ ys)) false ≡ true → cond b (are_steps false xs) false ≡ true
     by_test true rest h = rest h
     by_test false rest h = h
 
@@ -69,14 +115,16 @@ looks-front : (n r : List ℕ) → looks_rooted (n ++ 47 ∷ r) ≡ true → loo
 looks-front [] r h = refl
 looks-front (c ∷ n) r h =
     or_right (length (c ∷ n) == 0) (are_steps false (parts (c ∷ n)))
-    (steps-front (parts (c ∷ n)) (parts r) (ap (are_steps false) (sym (parts-slash (c ∷ n) r)) ∙ looks-some c (n ++ 47 ∷ r) h))
+    (steps-front (parts (c ∷ n)) (parts r) (ap (are_steps false) (sym (parts-slash (c ∷ n) r))
+    ∙ looks-some c (n ++ 47 ∷ r) h))
 
 -- the front of a place, up to a slash, is a place
 place-front : (b r t : List ℕ) → is_absolute b ≡ true → t ≡ b ++ 47 ∷ r → place t ≡ t → place b ≡ b
 place-front [] r t absolute is same = absurd (let e : false ≡ true = absolute in cc)
 place-front (c ∷ n) r t absolute is same =
     let slash : c ≡ 47 = (Decides-eqb c 47).0 absolute in
-    let looks = looks-front n r (placed-rooted t (n ++ 47 ∷ r) (is ∙ ap (λ d. d ∷ (n ++ 47 ∷ r)) slash) ∙ (bytes_eq-Decides (place t) t).1 same) in
+    let looks = looks-front n r (placed-rooted t (n ++ 47 ∷ r) (is ∙ ap (λ d. d ∷ (n ++ 47 ∷ r)) slash)
+    ∙ (bytes_eq-Decides (place t) t).1 same) in
     (bytes_eq-Decides (place (c ∷ n)) (c ∷ n)).0 (sym (placed-rooted (c ∷ n) n (ap (λ d. d ∷ n) slash)) ∙ looks)
 
 -- ---- UTF-8
@@ -96,7 +144,8 @@ slash-utf8 = IsUtf8-from_ascii (47 ∷ []) ascii
 
 utf8-closed : (b : List ℕ) (k : ℕ) → IsUtf8 b → IsUtf8 (b ++ replicate k 47)
 utf8-closed b zero h = subst IsUtf8 (sym (append-nil b)) h
-utf8-closed b (suc k) h = subst IsUtf8 (append_assoc b (47 ∷ []) (replicate k 47)) (utf8-closed (b ++ 47 ∷ []) k (IsUtf8-append b (47 ∷ []) h slash-utf8))
+utf8-closed b (suc k) h = subst IsUtf8 (append_assoc b (47 ∷ []) (replicate k 47))
+    (utf8-closed (b ++ 47 ∷ []) k (IsUtf8-append b (47 ∷ []) h slash-utf8))
 
 utf8-bare : (b : List ℕ) (m : ℕ) → IsUtf8 (b ++ replicate m 47) → IsUtf8 b
 utf8-bare b zero h = subst IsUtf8 (append-nil b) h
@@ -106,8 +155,10 @@ abbrev IsOrdered : List ℕ → Type 0
 IsOrdered s = (s ≡ []) ⊎ (normal s ≡ s)
 
 -- what is left of a base without its last separators
-bare-ordered : (b t r : List ℕ) → is_absolute b ≡ true → ends_in_slash b ≡ false → ends_in_slash t ≡ false → IsOrdered t → IsRestBehind b t (Some r) → normal b ≡ b
-bare-ordered b t r absolute unclosed unended (inl none) (inl w) = absurd (let e : false ≡ true = ap is_absolute (sym none ∙ w.0) ∙ absolute in cc)
+bare-ordered : (b t r : List ℕ) → is_absolute b ≡ true → ends_in_slash b ≡ false → ends_in_slash t ≡ false → IsOrdered t
+    → IsRestBehind b t (Some r) → normal b ≡ b
+bare-ordered b t r absolute unclosed unended (inl none) (inl w) =
+    absurd (let e : false ≡ true = ap is_absolute (sym none ∙ w.0) ∙ absolute in cc)
 bare-ordered b t r absolute unclosed unended (inr same) (inl w) = ap normal (sym w.0) ∙ same ∙ w.0
 bare-ordered b t r absolute unclosed unended (inl none) (inr w) =
     absurd (let long = ap length (sym none ∙ w) in omega (arith, long, length-append b (47 ∷ r)))
@@ -116,10 +167,12 @@ bare-ordered b t r absolute unclosed unended (inr same) (inr w) =
 
 bare-utf8 : (b t r : List ℕ) (m : ℕ) → IsUtf8 (t ++ replicate m 47) → IsRestBehind b t (Some r) → IsUtf8 b
 bare-utf8 b t r m h (inl w) = utf8-bare b m (subst IsUtf8 (ap (λ s. s ++ replicate m 47) w.0) h)
-bare-utf8 b t r m h (inr w) = utf8-front b (r ++ replicate m 47) (subst IsUtf8 (ap (λ s. s ++ replicate m 47) w ∙ append_assoc b (47 ∷ r) (replicate m 47)) h)
+bare-utf8 b t r m h (inr w) = utf8-front b (r ++ replicate m 47)
+    (subst IsUtf8 (ap (λ s. s ++ replicate m 47) w ∙ append_assoc b (47 ∷ r) (replicate m 47)) h)
 
 -- a base that its target goes on behind is in order where the target is
-pub base-in_order : (base target r : List ℕ) → is_absolute base ≡ true → IsInOrder target → IsRestBehind (bare base) (bare target) (Some r) → IsInOrder base
+pub base-in_order : (base target r : List ℕ) → is_absolute base ≡ true → IsInOrder target
+    → IsRestBehind (bare base) (bare target) (Some r) → IsInOrder base
 base-in_order base target r absolute order rest =
     let ends = bare-split base in
     let closes = bare-split target in
@@ -132,4 +185,6 @@ base-in_order base target r absolute order rest =
   where
     by_text : (b : List ℕ) → bare base ≡ b → IsOrdered (bare base)
     by_text [] e = inl e
-    by_text (c ∷ b) e = inr (bare-ordered (bare base) (bare target) r (bare-absolute base absolute (λ none. absurd (let f : [] ≡ c ∷ b = sym none ∙ e in cc))) (bare-unended base) (bare-unended target) order.normal rest)
+    by_text (c ∷ b) e = inr (bare-ordered (bare base) (bare target) r
+        (bare-absolute base absolute (λ none. absurd (let f : [] ≡ c ∷ b = sym none ∙ e in cc))) (bare-unended base)
+        (bare-unended target) order.normal rest)

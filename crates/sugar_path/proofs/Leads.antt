@@ -12,7 +12,8 @@ by_lead Nowhere stays up down = stays
 by_lead Up stays up down = up
 by_lead Down stays up down = down
 
-pub by_kind-lead : {A : Type 0} (part : List ℕ) (lead : Lead) (stays up down : A) → lead ≡ by_kind part Nowhere Up Down → by_kind part stays up down ≡ by_lead lead stays up down
+pub by_kind-lead : {A : Type 0} (part : List ℕ) (lead : Lead) (stays up down : A) → lead ≡ by_kind part Nowhere Up Down
+    → by_kind part stays up down ≡ by_lead lead stays up down
 by_kind-lead part lead stays up down is = rw is (by_tests (is_silent part) (bytes_eq part (46 ∷ 46 ∷ [])))
   where
     by_tests : (a b : Bool) → cond a stays (cond b up down) ≡ by_lead (cond a Nowhere (cond b Up Down)) stays up down
@@ -22,7 +23,8 @@ by_kind-lead part lead stays up down is = rw is (by_tests (is_silent part) (byte
 
 -- a part that leads up is `..`
 pub up-dots : (part : List ℕ) → Up ≡ by_kind part Nowhere Up Down → part ≡ 46 ∷ 46 ∷ []
-up-dots part is = (bytes_eq-Decides part (46 ∷ 46 ∷ [])).0 (by_tests (is_silent part) (bytes_eq part (46 ∷ 46 ∷ [])) (by_kind-lead part Up false true false is))
+up-dots part is = (bytes_eq-Decides part (46 ∷ 46 ∷ [])).0 (by_tests (is_silent part) (bytes_eq part (46 ∷ 46 ∷ []))
+    (by_kind-lead part Up false true false is))
   where
     by_tests : (a b : Bool) → cond a false (cond b true false) ≡ true → b ≡ true
     by_tests true b h = cc
@@ -31,7 +33,8 @@ up-dots part is = (bytes_eq-Decides part (46 ∷ 46 ∷ [])).0 (by_tests (is_sil
 
 -- one that leads down is a name
 pub down-plain : (part : List ℕ) → Down ≡ by_kind part Nowhere Up Down → is_plain part ≡ true
-down-plain part is = by_tests (bytes_eq part []) (bytes_eq part (46 ∷ [])) (bytes_eq part (46 ∷ 46 ∷ [])) (by_kind-lead part Down false false true is)
+down-plain part is = by_tests (bytes_eq part []) (bytes_eq part (46 ∷ [])) (bytes_eq part (46 ∷ 46 ∷ []))
+    (by_kind-lead part Down false false true is)
   where
     by_tests : (a b c : Bool) → cond (a || b) false (cond c false true) ≡ true → (not a && not b && not c) ≡ true
     by_tests true b c h = cc
@@ -41,7 +44,8 @@ down-plain part is = by_tests (bytes_eq part []) (bytes_eq part (46 ∷ [])) (by
 
 -- one that leads nowhere is neither
 pub nowhere-plain : (part : List ℕ) → Nowhere ≡ by_kind part Nowhere Up Down → is_plain part ≡ false
-nowhere-plain part is = by_tests (bytes_eq part []) (bytes_eq part (46 ∷ [])) (bytes_eq part (46 ∷ 46 ∷ [])) (by_kind-lead part Nowhere true false false is)
+nowhere-plain part is = by_tests (bytes_eq part []) (bytes_eq part (46 ∷ [])) (bytes_eq part (46 ∷ 46 ∷ []))
+    (by_kind-lead part Nowhere true false false is)
   where
     by_tests : (a b c : Bool) → cond (a || b) true (cond c false false) ≡ true → (not a && not b && not c) ≡ false
     by_tests true b c h = refl

@@ -1,15 +1,66 @@
 -- The parts of a text, and the path that they lead to.
-use Rattle.std.proofs.Common.{◌≡◌, ◌≢◌, ◌==◌, ◌&&◌, ◌||◌, ◌⊎◌, inl, inr, ℕ, zero, suc, ◌<◌, ◌+◌, length, get_or, take, drop, arith, Bool, true, false, not, cond, List, [], ◌∷◌, ◌++◌, bytes_eq, refl, sym, ap, ◌∙◌}
+use Rattle.std.proofs.Common.{
+  ◌≡◌,
+  ◌≢◌,
+  ◌==◌,
+  ◌&&◌,
+  ◌||◌,
+  ◌⊎◌,
+  inl,
+  inr,
+  ℕ,
+  zero,
+  suc,
+  ◌<◌,
+  ◌+◌,
+  length,
+  get_or,
+  take,
+  drop,
+  arith,
+  Bool,
+  true,
+  false,
+  not,
+  cond,
+  List,
+  [],
+  ◌∷◌,
+  ◌++◌,
+  bytes_eq,
+  refl,
+  sym,
+  ap,
+  ◌∙◌,
+}
 use Rattle.std.specs.List.{onto_first, AllByRecursion}
 use Rattle.std.proofs.lemmas.List.{take_more, take-append-drop}
-use Rattle.sugar_path.specs.Path.{Path, IsName, IsPath, has_no_slash, parent, steps, text_of, is_absolute, parts, by_part, by_parts, path_in, clean, IsCleanPath, IsSteps, names_in}
+use Rattle.sugar_path.specs.Path.{
+  Path,
+  IsName,
+  IsPath,
+  has_no_slash,
+  parent,
+  steps,
+  text_of,
+  is_absolute,
+  parts,
+  by_part,
+  by_parts,
+  path_in,
+  clean,
+  IsCleanPath,
+  IsSteps,
+  names_in,
+}
 use Rattle.sugar_path.proofs.Bools.{and_left, and_right}
 use Rattle.sugar_path.proofs.Paths.{no_slash-name, names_in-steps, IsSteps-steps}
 
 abbrev pub HasNoSlash : List ℕ → Type 0
 HasNoSlash n = has_no_slash n ≡ true
 
-onto : (x : ℕ) (b : Bool) → (x == 47) ≡ b → (ps : List (List ℕ)) → AllByRecursion HasNoSlash ps → AllByRecursion HasNoSlash (cond b ([] ∷ ps) (onto_first x ps))
+onto : (x : ℕ) (b : Bool) → (x == 47) ≡ b → (ps : List (List ℕ)) → AllByRecursion HasNoSlash ps
+    → AllByRecursion HasNoSlash (cond b ([] ∷ ps) (onto_first x ps))
 onto x true e ps h = (refl, h)
 onto x false e [] h = (rw e refl, tt)
 onto x false e (p ∷ ps) h = (rw e h.0, h.1)
@@ -34,7 +85,8 @@ pub parts-slash : (s t : List ℕ) → parts (s ++ 47 ∷ t) ≡ parts s ++ part
 parts-slash [] t = refl
 parts-slash (c ∷ s) t = rw (parts-slash s t) (by_test (c == 47) (parts s) (parts-some s))
   where
-    by_test : (b : Bool) (ps : List (List ℕ)) → ps ≢ [] → cond b ([] ∷ (ps ++ parts t)) (onto_first c (ps ++ parts t)) ≡ cond b ([] ∷ ps) (onto_first c ps) ++ parts t
+    by_test : (b : Bool) (ps : List (List ℕ)) → ps ≢ []
+        → cond b ([] ∷ (ps ++ parts t)) (onto_first c (ps ++ parts t)) ≡ cond b ([] ∷ ps) (onto_first c ps) ++ parts t
     by_test true ps some = refl
     by_test false [] some = absurd (some refl)
     by_test false (p ∷ ps) some = refl
@@ -42,7 +94,8 @@ parts-slash (c ∷ s) t = rw (parts-slash s t) (by_test (c == 47) (parts s) (par
 -- a text without slash is the one part
 pub parts-name : (n : List ℕ) → HasNoSlash n → parts n ≡ n ∷ []
 parts-name [] h = refl
-parts-name (c ∷ cs) h = rw (parts-name cs (and_right (not (c == 47)) (has_no_slash cs) h)) (by_test (c == 47) (and_left (not (c == 47)) (has_no_slash cs) h))
+parts-name (c ∷ cs) h = rw (parts-name cs (and_right (not (c == 47)) (has_no_slash cs) h))
+    (by_test (c == 47) (and_left (not (c == 47)) (has_no_slash cs) h))
   where
     by_test : (b : Bool) → not b ≡ true → cond b ([] ∷ cs ∷ []) ((c ∷ cs) ∷ []) ≡ (c ∷ cs) ∷ []
     by_test true h = cc
@@ -56,7 +109,8 @@ by_parts-append p (x ∷ xs) ys = by_parts-append (by_part p x) xs ys
 pub by_part-name : (p : Path) (n : List ℕ) → IsName n → by_part p n ≡ n ∷ p
 by_part-name p n h = by_tests (bytes_eq n []) (bytes_eq n (46 ∷ [])) (bytes_eq n (46 ∷ 46 ∷ [])) (has_no_slash n) h
   where
-    by_tests : (a b c d : Bool) → (not a && not b && not c && d) ≡ true → cond (a || b) p (cond c (parent p) (n ∷ p)) ≡ n ∷ p
+    by_tests : (a b c d : Bool) → (not a && not b && not c && d) ≡ true
+        → cond (a || b) p (cond c (parent p) (n ∷ p)) ≡ n ∷ p
     by_tests true b c d h = cc
     by_tests false true c d h = cc
     by_tests false false true d h = cc
@@ -67,9 +121,11 @@ IsPath-parent [] h = tt
 IsPath-parent (n ∷ p) h = h.1
 
 pub IsPath-by_part : (p : Path) (part : List ℕ) → IsPath p → HasNoSlash part → IsPath (by_part p part)
-IsPath-by_part p part h slash = by_tests (bytes_eq part []) (bytes_eq part (46 ∷ [])) (bytes_eq part (46 ∷ 46 ∷ [])) refl refl refl
+IsPath-by_part p part h slash =
+    by_tests (bytes_eq part []) (bytes_eq part (46 ∷ [])) (bytes_eq part (46 ∷ 46 ∷ [])) refl refl refl
   where
-    by_tests : (a b c : Bool) → bytes_eq part [] ≡ a → bytes_eq part (46 ∷ []) ≡ b → bytes_eq part (46 ∷ 46 ∷ []) ≡ c → IsPath (cond (a || b) p (cond c (parent p) (part ∷ p)))
+    by_tests : (a b c : Bool) → bytes_eq part [] ≡ a → bytes_eq part (46 ∷ []) ≡ b → bytes_eq part (46 ∷ 46 ∷ []) ≡ c
+        → IsPath (cond (a || b) p (cond c (parent p) (part ∷ p)))
     by_tests true b c e f g = h
     by_tests false true c e f g = h
     by_tests false false true e f g = IsPath-parent p h
@@ -86,7 +142,8 @@ IsPath-path_in t = IsPath-by_parts [] (parts t) tt (parts-no_slash t)
 
 pub IsPath-clean : (cwd : Path) (t : List ℕ) → IsPath cwd → IsPath (clean cwd t)
 unfolding clean
-IsPath-clean cwd t h = IsPath-by_parts (cond (is_absolute t) [] cwd) (parts t) (by_test (is_absolute t)) (parts-no_slash t)
+IsPath-clean cwd t h =
+    IsPath-by_parts (cond (is_absolute t) [] cwd) (parts t) (by_test (is_absolute t)) (parts-no_slash t)
   where
     by_test : (b : Bool) → IsPath (cond b [] cwd)
     by_test true = tt
@@ -132,30 +189,36 @@ clean-absolute cwd t h = rw h refl
 pub clean-text_of : (cwd p : Path) → IsPath p → clean cwd (text_of p) ≡ p
 clean-text_of cwd p h = clean-absolute cwd (text_of p) (text_of-absolute p) ∙ path_in-text_of p h
 
-AllByRecursion-at : (ps : List (List ℕ)) (i : ℕ) (x : List ℕ) → AllByRecursion HasNoSlash ps → i < length ps → x ≡ get_or ps i x → HasNoSlash x
+AllByRecursion-at : (ps : List (List ℕ)) (i : ℕ) (x : List ℕ) → AllByRecursion HasNoSlash ps → i < length ps
+    → x ≡ get_or ps i x → HasNoSlash x
 AllByRecursion-at [] i x h lt is = absurd (omega arith)
 AllByRecursion-at (p ∷ ps) zero x h lt is = rw is h.0
 AllByRecursion-at (p ∷ ps) (suc i) x h lt is = AllByRecursion-at ps i x h.1 (omega arith) is
 
 -- a part of a text, by its place
-pub part-no_slash : (t : List ℕ) (i : ℕ) (x : List ℕ) → (i < length (parts t)) × (x ≡ get_or (parts t) i x) → HasNoSlash x
+pub part-no_slash : (t : List ℕ) (i : ℕ) (x : List ℕ) → (i < length (parts t)) × (x ≡ get_or (parts t) i x)
+    → HasNoSlash x
 part-no_slash t i x h = AllByRecursion-at (parts t) i x (parts-no_slash t) h.0 h.1
 
 pub by_parts-push : (p : Path) (xs : List (List ℕ)) (x : List ℕ) → by_parts p (xs ++ x ∷ []) ≡ by_part (by_parts p xs) x
 by_parts-push p xs x = by_parts-append p xs (x ∷ [])
 
 -- the steps of a clean text: nothing for `/`, and else the text
-pub steps-clean : (t s : List ℕ) → IsCleanPath t → ((t ≡ 47 ∷ []) × (s ≡ [])) ⊎ ((t ≢ 47 ∷ []) × (s ≡ t)) → IsSteps s × (names_in s ≡ path_in t)
+pub steps-clean : (t s : List ℕ) → IsCleanPath t → ((t ≡ 47 ∷ []) × (s ≡ [])) ⊎ ((t ≢ 47 ∷ []) × (s ≡ t)) → IsSteps s
+    × (names_in s ≡ path_in t)
 steps-clean t s clean (inl (root, none)) = rw (none, root) (IsSteps-steps [] tt, sym (path_in-text_of [] tt))
 steps-clean t s (p, names, is) (inr (other, same)) = by_names p names is
   where
     by_names : (p : Path) → IsPath p → t ≡ text_of p → IsSteps s × (names_in s ≡ path_in t)
     by_names [] h e = absurd (other e)
-    by_names (n ∷ p) h e = rw (same, e) (IsSteps-steps (n ∷ p) h, names_in-steps (n ∷ p) h ∙ sym (path_in-text_of (n ∷ p) h))
+    by_names (n ∷ p) h e =
+        rw (same, e) (IsSteps-steps (n ∷ p) h, names_in-steps (n ∷ p) h ∙ sym (path_in-text_of (n ∷ p) h))
 
 -- parts of which some were seen, and the next one is at hand
-pub seen-whole : (all seen : List (List ℕ)) (x : List ℕ) → seen ≡ take (length seen) all → (length seen < length all) × (x ≡ get_or all (length seen) x) → all ≡ (seen ++ x ∷ []) ++ drop (length seen + 1) all
+pub seen-whole : (all seen : List (List ℕ)) (x : List ℕ) → seen ≡ take (length seen) all → (length seen < length all)
+    × (x ≡ get_or all (length seen) x) → all ≡ (seen ++ x ∷ []) ++ drop (length seen + 1) all
 seen-whole all seen x so_far turn =
     let more : seen ++ x ∷ [] ≡ take (length seen + 1) all =
-    ap (λ xs. xs ++ x ∷ []) so_far ∙ ap (λ y. take (length seen) all ++ y ∷ []) turn.1 ∙ sym (take_more all (length seen) x turn.0) in
+    ap (λ xs. xs ++ x ∷ []) so_far ∙ ap (λ y. take (length seen) all ++ y ∷ []) turn.1
+    ∙ sym (take_more all (length seen) x turn.0) in
     sym (take-append-drop (length seen + 1) all) ∙ ap (λ xs. xs ++ drop (length seen + 1) all) (sym more)

@@ -1,7 +1,45 @@
 -- `join` and the components of a path, beside the words that std has for its own paths.
-use Rattle.std.proofs.Common.{◌≡◌, ◌==◌, ◌&&◌, ◌||◌, ◌-◌, Bool, true, false, not, cond, inl, inr, suc, List, [], ◌∷◌, ◌++◌, ℕ, length, map, filter, slice_index, bytes_eq, refl, sym, ap, ◌∙◌, arith}
+use Rattle.std.proofs.Common.{
+  ◌≡◌,
+  ◌==◌,
+  ◌&&◌,
+  ◌||◌,
+  ◌-◌,
+  Bool,
+  true,
+  false,
+  not,
+  cond,
+  inl,
+  inr,
+  suc,
+  List,
+  [],
+  ◌∷◌,
+  ◌++◌,
+  ℕ,
+  length,
+  map,
+  filter,
+  slice_index,
+  bytes_eq,
+  refl,
+  sym,
+  ap,
+  ◌∙◌,
+  arith,
+}
 use Rattle.std.specs.List.{onto_first}
-use Rattle.std.specs.Path.{path_join, first_piece, later_pieces, is_name, path_names, path_components, leading_components, is_dot_at}
+use Rattle.std.specs.Path.{
+  path_join,
+  first_piece,
+  later_pieces,
+  is_name,
+  path_names,
+  path_components,
+  leading_components,
+  is_dot_at,
+}
 use Rattle.std.proofs.lemmas.Bool.Decides.{eqb_tells}
 use Rattle.std.proofs.lemmas.List.{map-append}
 use Rattle.std.proofs.lemmas.Slice.Eq.{bytes_eq-Decides}
@@ -15,7 +53,9 @@ pub parts-pieces : (t : List ℕ) → parts t ≡ first_piece t ∷ later_pieces
 parts-pieces [] = refl
 parts-pieces (c ∷ cs) = by_test (c == 47) (parts-pieces cs)
   where
-    by_test : (b : Bool) → parts cs ≡ first_piece cs ∷ later_pieces cs → cond b ([] ∷ parts cs) (onto_first c (parts cs)) ≡ cond b [] (c ∷ first_piece cs) ∷ cond b (first_piece cs ∷ later_pieces cs) (later_pieces cs)
+    by_test : (b : Bool) → parts cs ≡ first_piece cs ∷ later_pieces cs
+        → cond b ([] ∷ parts cs) (onto_first c (parts cs)) ≡ cond b [] (c ∷ first_piece cs) ∷ cond b
+        (first_piece cs ∷ later_pieces cs) (later_pieces cs)
     by_test true h = ap (λ ps. [] ∷ ps) h
     by_test false h = ap (onto_first c) h
 
@@ -39,7 +79,9 @@ pieces-names (x ∷ xs) =
     by_test (is_silent x) (pieces-names xs)
     ∙ ap (λ b. cond (not (b || bytes_eq x (46 ∷ []))) (x ∷ filter is_name xs) (filter is_name xs)) (no_length x)
   where
-    by_test : (b : Bool) → map std_text (pieces xs) ≡ filter is_name xs → map std_text (cond b (pieces xs) (piece x ∷ pieces xs)) ≡ cond (not b) (x ∷ filter is_name xs) (filter is_name xs)
+    by_test : (b : Bool) → map std_text (pieces xs) ≡ filter is_name xs
+        → map std_text (cond b (pieces xs) (piece x ∷ pieces xs)) ≡ cond (not b) (x ∷ filter is_name xs)
+        (filter is_name xs)
     by_test true rest = rest
     by_test false rest = ap (λ n. n ∷ map std_text (pieces xs)) (piece-text x) ∙ ap (λ ns. x ∷ ns) rest
 
@@ -49,7 +91,8 @@ starts-dot [] h = refl
 starts-dot (c ∷ []) h = rw h refl
 starts-dot (c ∷ d ∷ cs) h = rw (h, parts-pieces cs) (by_test (d == 47))
   where
-    by_test : (b : Bool) → starts_here (onto_first c (cond b ([] ∷ first_piece cs ∷ later_pieces cs) (onto_first d (first_piece cs ∷ later_pieces cs)))) ≡ ((c == 46) && b)
+    by_test : (b : Bool) → starts_here (onto_first c (cond b ([] ∷ first_piece cs ∷ later_pieces cs)
+        (onto_first d (first_piece cs ∷ later_pieces cs)))) ≡ ((c == 46) && b)
     by_test true = refl
     by_test false = refl
 
@@ -60,7 +103,9 @@ beginning-leading t = by_test (is_absolute t) refl
     lone true = refl
     lone false = refl
 
-    by_test : (b : Bool) → is_absolute t ≡ b → map std_text (cond b (Root ∷ []) (cond (starts_here (parts t)) (Here ∷ []) [])) ≡ cond b ((47 ∷ []) ∷ []) (cond (is_dot_at t 0) ((46 ∷ []) ∷ []) [])
+    by_test : (b : Bool) → is_absolute t ≡ b → map std_text (cond b (Root ∷ [])
+        (cond (starts_here (parts t)) (Here ∷ []) [])) ≡ cond b ((47 ∷ []) ∷ [])
+        (cond (is_dot_at t 0) ((46 ∷ []) ∷ []) [])
     by_test true h = refl
     by_test false h = lone (starts_here (parts t)) ∙ ap (λ b. cond b ((46 ∷ []) ∷ []) []) (starts-dot t h)
 
@@ -80,7 +125,8 @@ needs_none : (b : List ℕ) → (bytes_eq b [] || ends_in_slash b) ≡ (length b
 needs_none [] = refl
 needs_none (c ∷ cs) =
     let behind : length cs ≡ length (c ∷ cs) - 1 = omega arith in
-    last_byte c cs ∙ ap (λ n. slice_index (c ∷ cs) n == 47) behind ∙ ap (λ b. b || slice_index (c ∷ cs) (length (c ∷ cs) - 1) == 47) (sym (some_length (length cs)))
+    last_byte c cs ∙ ap (λ n. slice_index (c ∷ cs) n == 47) behind
+    ∙ ap (λ b. b || slice_index (c ∷ cs) (length (c ∷ cs) - 1) == 47) (sym (some_length (length cs)))
 
 pub join-std : (b t : List ℕ) → join b t ≡ path_join b t
 unfolding path_join

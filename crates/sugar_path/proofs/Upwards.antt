@@ -1,5 +1,30 @@
 -- The relative path from a base, one folder up at a time, with a slash before each part.
-use Rattle.std.proofs.Common.{◌≡◌, ◌≢◌, ◌<◌, ℕ, suc, Bool, true, false, List, [], ◌∷◌, ◌++◌, bytes_eq, length, drop, refl, sym, ap, ◌∙◌, append-nil, arith, reverse, replicate, length-append}
+use Rattle.std.proofs.Common.{
+  ◌≡◌,
+  ◌≢◌,
+  ◌<◌,
+  ℕ,
+  suc,
+  Bool,
+  true,
+  false,
+  List,
+  [],
+  ◌∷◌,
+  ◌++◌,
+  bytes_eq,
+  length,
+  drop,
+  refl,
+  sym,
+  ap,
+  ◌∙◌,
+  append-nil,
+  arith,
+  reverse,
+  replicate,
+  length-append,
+}
 use Rattle.std.specs.Prelude.{flat_map}
 use Rattle.std.specs.List.{join_with_byte, common_prefix_len}
 use Rattle.std.proofs.lemmas.Grind.{reverse_onto, flat_map-append}
@@ -15,7 +40,8 @@ use Rattle.sugar_path.proofs.SharedTexts.{apart_none}
 use Rattle.sugar_path.proofs.WayParts.{between-apart, between-shared}
 
 -- a base that has one name more than another, and a target that begins like neither
-apart-both : (x : List (List ℕ)) (n : List ℕ) (f : List (List ℕ)) → common_prefix_len bytes_eq f (x ++ n ∷ []) ≡ 0 → common_prefix_len bytes_eq f x ≡ 0 → between (x ++ n ∷ []) f ≡ (46 ∷ 46 ∷ []) ∷ between x f
+apart-both : (x : List (List ℕ)) (n : List ℕ) (f : List (List ℕ)) → common_prefix_len bytes_eq f (x ++ n ∷ []) ≡ 0
+    → common_prefix_len bytes_eq f x ≡ 0 → between (x ++ n ∷ []) f ≡ (46 ∷ 46 ∷ []) ∷ between x f
 apart-both x n f longer shorter =
     let more : length (x ++ n ∷ []) ≡ suc (length x) = omega (arith, length-append x (n ∷ [])) in
     between-apart (x ++ n ∷ []) f longer
@@ -23,7 +49,8 @@ apart-both x n f longer shorter =
     ∙ ap (λ ps. (46 ∷ 46 ∷ []) ∷ ps) (sym (between-apart x f shorter))
 
 -- behind a base that the target doesn't begin with, its last name is gone up from
-between-behind : (x : List (List ℕ)) (n : List ℕ) (f : List (List ℕ)) → ((q : List (List ℕ)) → f ≢ (x ++ n ∷ []) ++ q) → between (x ++ n ∷ []) f ≡ (46 ∷ 46 ∷ []) ∷ between x f
+between-behind : (x : List (List ℕ)) (n : List ℕ) (f : List (List ℕ)) → ((q : List (List ℕ)) → f ≢ (x ++ n ∷ []) ++ q)
+    → between (x ++ n ∷ []) f ≡ (46 ∷ 46 ∷ []) ∷ between x f
 between-behind [] n [] other = apart-both [] n [] refl refl
 between-behind [] n (m ∷ f) other = by_test (bytes_eq m n) refl
   where
@@ -33,7 +60,9 @@ between-behind [] n (m ∷ f) other = by_test (bytes_eq m n) refl
 between-behind (y ∷ x) n [] other = apart-both (y ∷ x) n [] refl refl
 between-behind (y ∷ x) n (m ∷ f) other = by_test (bytes_eq m y) refl (λ h. between-behind x n f h)
   where
-    by_test : (b : Bool) → bytes_eq m y ≡ b → (((q : List (List ℕ)) → f ≢ (x ++ n ∷ []) ++ q) → between (x ++ n ∷ []) f ≡ (46 ∷ 46 ∷ []) ∷ between x f) → between (y ∷ (x ++ n ∷ [])) (m ∷ f) ≡ (46 ∷ 46 ∷ []) ∷ between (y ∷ x) (m ∷ f)
+    by_test : (b : Bool) → bytes_eq m y ≡ b → (((q : List (List ℕ)) → f ≢ (x ++ n ∷ []) ++ q)
+        → between (x ++ n ∷ []) f ≡ (46 ∷ 46 ∷ []) ∷ between x f)
+        → between (y ∷ (x ++ n ∷ [])) (m ∷ f) ≡ (46 ∷ 46 ∷ []) ∷ between (y ∷ x) (m ∷ f)
     by_test true e rest =
         let same : m ≡ y = (bytes_eq-Decides m y).0 e in
         ap (λ z. between (y ∷ (x ++ n ∷ [])) (z ∷ f)) same
@@ -71,7 +100,8 @@ steps-parts (n ∷ q) =
     ∙ ap (λ s. steps q ++ 47 ∷ s) (append-nil n)
 
 -- from a folder that the path is below, what stands behind the folder
-pub parts_from-below : (d f : Path) (behind : List ℕ) → below f d ≡ true → steps f ≡ steps d ++ behind → parts_from d f ≡ behind
+pub parts_from-below : (d f : Path) (behind : List ℕ) → below f d ≡ true → steps f ≡ steps d ++ behind
+    → parts_from d f ≡ behind
 parts_from-below d f behind h is =
     let w = below-tells f d h in
     let way : between (reverse d) (reverse f) ≡ reverse w.0 =
@@ -90,21 +120,25 @@ joined-parts [] = refl
 joined-parts (p ∷ []) = sym (append-nil p)
 joined-parts (p ∷ q ∷ ps) = ap (λ t. p ++ 47 ∷ t) (joined-parts (q ∷ ps))
 
-relative-parts : (d f : Path) → IsPath d → IsPath f → relative_from (text_of d) (text_of d) (text_of f) ≡ drop 1 (parts_from d f)
+relative-parts : (d f : Path) → IsPath d → IsPath f
+    → relative_from (text_of d) (text_of d) (text_of f) ≡ drop 1 (parts_from d f)
 unfolding relative_from way
 relative-parts d f base path =
     let from = route_of-absolute (text_of d) (text_of-absolute d) ∙ ap Rooted (path_in-text_of d base) in
     let to = route_of-absolute (text_of f) (text_of-absolute f) ∙ ap Rooted (path_in-text_of f path) in
     rw (from, to) (joined-parts (between (reverse d) (reverse f)))
 
-pub relative-none : (d f : Path) (t : List ℕ) → IsPath d → IsPath f → parts_from d f ≡ t → ((rest : List ℕ) → t ≢ 47 ∷ rest) → [] ≡ relative_from (text_of d) (text_of d) (text_of f)
-relative-none d f t base path is other = by_text (between (reverse d) (reverse f)) is ∙ sym (relative-parts d f base path)
+pub relative-none : (d f : Path) (t : List ℕ) → IsPath d → IsPath f → parts_from d f ≡ t
+    → ((rest : List ℕ) → t ≢ 47 ∷ rest) → [] ≡ relative_from (text_of d) (text_of d) (text_of f)
+relative-none d f t base path is other =
+    by_text (between (reverse d) (reverse f)) is ∙ sym (relative-parts d f base path)
   where
     by_text : (ps : List (List ℕ)) → flat_map (λ n. 47 ∷ n) ps ≡ t → [] ≡ drop 1 (flat_map (λ n. 47 ∷ n) ps)
     by_text [] is = refl
     by_text (p ∷ ps) is = absurd (other (p ++ flat_map (λ n. 47 ∷ n) ps) (sym is))
 
-pub relative-some : (d f : Path) (t rest : List ℕ) → IsPath d → IsPath f → parts_from d f ≡ t → t ≡ 47 ∷ rest → rest ≡ relative_from (text_of d) (text_of d) (text_of f)
+pub relative-some : (d f : Path) (t rest : List ℕ) → IsPath d → IsPath f → parts_from d f ≡ t → t ≡ 47 ∷ rest
+    → rest ≡ relative_from (text_of d) (text_of d) (text_of f)
 relative-some d f t rest base path is at = ap (drop 1) (sym (is ∙ at)) ∙ sym (relative-parts d f base path)
 
 -- only `/` has no folder above, and each path is below it

@@ -1,5 +1,33 @@
 -- A word at a text's front or end: what follows it, and what stands before it.
-use Rattle.std.proofs.Common.{◌≡◌, ◌≢◌, ◌-◌, ◌==◌, ◌⊎◌, ℕ, Bool, true, false, List, [], ◌∷◌, ◌++◌, length, take, drop, refl, sym, ap, ◌∙◌, Option, Some, None, Bor, inl, inr, reverse}
+use Rattle.std.proofs.Common.{
+  ◌≡◌,
+  ◌≢◌,
+  ◌-◌,
+  ◌==◌,
+  ◌⊎◌,
+  ℕ,
+  Bool,
+  true,
+  false,
+  List,
+  [],
+  ◌∷◌,
+  ◌++◌,
+  length,
+  take,
+  drop,
+  refl,
+  sym,
+  ap,
+  ◌∙◌,
+  Option,
+  Some,
+  None,
+  Bor,
+  inl,
+  inr,
+  reverse,
+}
 use Rattle.std.proofs.lemmas.List.{reverse-append, reverse-reverse}
 use Rattle.std.specs.Prelude.{option_map, MatchOption}
 use Rattle.std.specs.Str.Pattern.{FindsTextPrefix, StripsPrefix, LacksTextAt, FindsTextSuffix, StripsSuffix}
@@ -35,7 +63,8 @@ after-some [] s t e = cc
 after-some (c ∷ cs) [] t e = cc
 after-some (c ∷ cs) (d ∷ s) t e = by_test (eqb_tells d c) (after-some cs s t)
   where
-    by_test : ((d == c) ≡ true) × (d ≡ c) ⊎ ((d == c) ≡ false) × (d ≢ c) → (after cs s ≡ Some t → s ≡ cs ++ t) → d ∷ s ≡ c ∷ cs ++ t
+    by_test : ((d == c) ≡ true) × (d ≡ c) ⊎ ((d == c) ≡ false) × (d ≢ c) → (after cs s ≡ Some t → s ≡ cs ++ t)
+        → d ∷ s ≡ c ∷ cs ++ t
     by_test (inl w) rest = let found = rw w.0 at e in let tail = rest found in rw (w.1, tail) refl
     by_test (inr w) rest = let none = rw w.0 at e in cc
 
@@ -46,9 +75,12 @@ after-lacks w s lacks = by_found (after w s) (after-some w s)
     by_found None h = refl
     by_found (Some t) h = absurd (lacks t (h t refl))
 
-pub after-strip_prefix : (w s : List ℕ) (r : Option (Bor (List ℕ))) → MatchOption r (FindsTextPrefix w s None) (λ x. StripsPrefix (FindsTextPrefix w) s x.now) → option_map (λ t. t.now) r ≡ after w s
+pub after-strip_prefix : (w s : List ℕ) (r : Option (Bor (List ℕ)))
+    → MatchOption r (FindsTextPrefix w s None) (λ x. StripsPrefix (FindsTextPrefix w) s x.now)
+    → option_map (λ t. t.now) r ≡ after w s
 after-strip_prefix w s None h = sym (after-lacks w s h)
-after-strip_prefix w s (Some x) (n, found, is, len) = ap Some is ∙ sym (ap (after w) found.1 ∙ after-append w (drop n s))
+after-strip_prefix w s (Some x) (n, found, is, len) =
+    ap Some is ∙ sym (ap (after w) found.1 ∙ after-append w (drop n s))
 
 -- ---- a word at the end
 
@@ -65,7 +97,8 @@ before-some w s t e = by_found (after (reverse w) (reverse s)) refl e
     by_found (Some r) found e =
         let turned = after-some (reverse w) (reverse s) r found in
         let is : reverse r ≡ t = cc in
-        sym (reverse-reverse s) ∙ ap reverse turned ∙ reverse-append (reverse w) r ∙ ap (λ x. x ++ reverse (reverse w)) is ∙ ap (λ x. t ++ x) (reverse-reverse w)
+        sym (reverse-reverse s) ∙ ap reverse turned ∙ reverse-append (reverse w) r
+        ∙ ap (λ x. x ++ reverse (reverse w)) is ∙ ap (λ x. t ++ x) (reverse-reverse w)
 
 pub before-lacks : (w s : List ℕ) → ((front : List ℕ) → s ≢ front ++ w) → before w s ≡ None
 before-lacks w s lacks = by_found (before w s) (before-some w s)
@@ -74,6 +107,9 @@ before-lacks w s lacks = by_found (before w s) (before-some w s)
     by_found None h = refl
     by_found (Some t) h = absurd (lacks t (h t refl))
 
-pub before-strip_suffix : (w s : List ℕ) (r : Option (Bor (List ℕ))) → MatchOption r (FindsTextSuffix w s None) (λ x. StripsSuffix (FindsTextSuffix w) s x.now) → option_map (λ t. t.now) r ≡ before w s
+pub before-strip_suffix : (w s : List ℕ) (r : Option (Bor (List ℕ)))
+    → MatchOption r (FindsTextSuffix w s None) (λ x. StripsSuffix (FindsTextSuffix w) s x.now)
+    → option_map (λ t. t.now) r ≡ before w s
 before-strip_suffix w s None h = sym (before-lacks w s h)
-before-strip_suffix w s (Some x) (n, found, is, len) = ap Some is ∙ sym (ap (before w) found.1 ∙ before-append w (take (length s - n) s))
+before-strip_suffix w s (Some x) (n, found, is, len) =
+    ap Some is ∙ sym (ap (before w) found.1 ∙ before-append w (take (length s - n) s))

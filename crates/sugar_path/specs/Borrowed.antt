@@ -1,4 +1,5 @@
--- When a path's own text can be borrowed: for its normal form, for its place, and for the relative path from a base to it.
+-- When a path's own text can be borrowed: for its normal form, for its place, and for the relative path from a base to
+-- it.
 use Rattle.std.specs.Prelude.{◌≡◌, ◌==◌, ◌&&◌, ◌⊎◌, ℕ, if◌then◌else◌, IsTrue, List, [], ◌∷◌, bytes_eq}
 use Rattle.std.specs.Str.{IsUtf8}
 use Rattle.sugar_path.specs.Path.{is_absolute, path_in, below}

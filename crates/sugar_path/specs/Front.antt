@@ -1,6 +1,20 @@
--- Readings of a text's front: what the front says, or nothing where it doesn't fit. The first of two that fits is std's `option_or`.
+-- Readings of a text's front: what the front says, or nothing where it doesn't fit. The first of two that fits is std's
+-- `option_or`.
 -- A `do` over `◌>>=◌` here is of results that may be missing: it ends at the first reading that doesn't fit.
-use Rattle.std.specs.Prelude.{ℕ, ◌==◌, if◌then◌else◌, List, [], ◌∷◌, reverse, Option, Some, None, option_and_then, option_map}
+use Rattle.std.specs.Prelude.{
+  ℕ,
+  ◌==◌,
+  if◌then◌else◌,
+  List,
+  [],
+  ◌∷◌,
+  reverse,
+  Option,
+  Some,
+  None,
+  option_and_then,
+  option_map,
+}
 
 -- one reading, and then the next, where both fit
 infixl 10 ◌>>=◌

@@ -14,12 +14,14 @@ NormalTwice = (t : List ℕ) → normal (normal t) ≡ normal t
 -- a base, and behind it the relative path from it to a target, lead to the target
 abbrev pub RelativeLeadsThere : Type 0
 RelativeLeadsThere =
-    (cwd base target : List ℕ) → is_absolute cwd ≡ true → from_folder cwd (join base (relative_from cwd base target)) ≡ from_folder cwd target
+    (cwd base target : List ℕ) → is_absolute cwd ≡ true
+    → from_folder cwd (join base (relative_from cwd base target)) ≡ from_folder cwd target
 
 -- the relative path is empty exactly between two paths to one place
 abbrev pub RelativeEmptyAtOnePlace : Type 0
 RelativeEmptyAtOnePlace =
-    (cwd base target : List ℕ) → is_absolute cwd ≡ true → (relative_from cwd base target ≡ []) ↔ (from_folder cwd base ≡ from_folder cwd target)
+    (cwd base target : List ℕ) → is_absolute cwd ≡ true
+    → (relative_from cwd base target ≡ []) ↔ (from_folder cwd base ≡ from_folder cwd target)
 
 -- a route read on by one component
 abbrev pub by_piece : Route → Piece → Route
@@ -38,7 +40,8 @@ ComponentsLeadThere = (t : List ℕ) → by_pieces (Relative 0 []) (components_o
 
 -- a parent has the components of its path but the last one
 abbrev pub ParentLeavesLast : Type 0
-ParentLeavesLast = (t u : List ℕ) → parent_of t ≡ Some u → (last : Piece) × (components_of t ≡ components_of u ++ last ∷ [])
+ParentLeavesLast =
+    (t u : List ℕ) → parent_of t ≡ Some u → (last : Piece) × (components_of t ≡ components_of u ++ last ∷ [])
 
 -- a path has no parent exactly where it has no component but the root
 abbrev pub RootHasNoParent : Type 0

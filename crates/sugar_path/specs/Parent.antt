@@ -23,7 +23,8 @@ abbrev pub or_slash : List ℕ → List ℕ
 or_slash [] = 47 ∷ []
 or_slash (c ∷ t) = c ∷ t
 
--- by the first part and the components behind it: the root and the empty path have no parent, and that of a lone component is empty
+-- by the first part and the components behind it: the root and the empty path have no parent, and that of a lone
+-- component is empty
 abbrev pub parent_by : List ℕ → List (List ℕ) → Option (List ℕ)
 parent_by [] [] = None
 parent_by (c ∷ first) [] = Some []

@@ -1,5 +1,23 @@
 -- Clean paths: lists of names, the last name first, and their texts.
-use Rattle.std.specs.Prelude.{◌≡◌, ◌==◌, ◌&&◌, ◌||◌, ℕ, Bool, true, false, not, if◌then◌else◌, IsTrue, List, [], ◌∷◌, ◌++◌, bytes_eq, get_or}
+use Rattle.std.specs.Prelude.{
+  ◌≡◌,
+  ◌==◌,
+  ◌&&◌,
+  ◌||◌,
+  ℕ,
+  Bool,
+  true,
+  false,
+  not,
+  if◌then◌else◌,
+  IsTrue,
+  List,
+  [],
+  ◌∷◌,
+  ◌++◌,
+  bytes_eq,
+  get_or,
+}
 use Rattle.std.specs.List.{AllByRecursion, slice_split}
 use Rattle.sugar_path.specs.Part.{by_kind}
 
@@ -73,7 +91,8 @@ parts t = slice_split (λ b. b == 47) t
 abbrev pub is_plain : List ℕ → Bool
 is_plain part = not (bytes_eq part []) && not (bytes_eq part (46 ∷ [])) && not (bytes_eq part (46 ∷ 46 ∷ []))
 
--- a path read on by one part: an empty one and `.` stay, `..` goes to the folder above, where `/` stays, and a name goes to the child
+-- a path read on by one part: an empty one and `.` stay, `..` goes to the folder above, where `/` stays, and a name
+-- goes to the child
 abbrev pub by_part : Path → List ℕ → Path
 by_part p part = by_kind part p (parent p) (part ∷ p)
 
@@ -111,7 +130,8 @@ path_eq [] (m ∷ q) = false
 path_eq (n ∷ p) [] = false
 path_eq (n ∷ p) (m ∷ q) = bytes_eq n m && path_eq p q
 
--- a path is a location or lies below it: the location is the path itself, or the folder above the path is the location or lies below it
+-- a path is a location or lies below it: the location is the path itself, or the folder above the path is the location
+-- or lies below it
 abbrev pub below : Path → Path → Bool
 below [] l = path_eq [] l
 below (n ∷ p) l = path_eq (n ∷ p) l || below p l

@@ -1,9 +1,41 @@
 -- A path being read part by part.
-use Rattle.std.specs.Prelude.{◌≡◌, ◌≤◌, ◌+◌, ◌-◌, ℕ, drop, take, vec_len, ◌&&◌, Bool, true, false, if◌then◌else◌, bytes_eq, suc, zero, List, [], ◌∷◌, ◌++◌, length}
+use Rattle.std.specs.Prelude.{
+  ◌≡◌,
+  ◌≤◌,
+  ◌+◌,
+  ◌-◌,
+  ℕ,
+  drop,
+  take,
+  vec_len,
+  ◌&&◌,
+  Bool,
+  true,
+  false,
+  if◌then◌else◌,
+  bytes_eq,
+  suc,
+  zero,
+  List,
+  [],
+  ◌∷◌,
+  ◌++◌,
+  length,
+}
 use Rattle.sugar_path.specs.declared.reading.Reading.{Reading}
 use Rattle.sugar_path.specs.declared.normal.Climb.{Climb}
 use Rattle.sugar_path.specs.Path.{Path, IsPath, parts, with_slash, ends_in_slash, is_plain, has_no_slash}
-use Rattle.sugar_path.specs.Route.{Route, Rooted, Relative, route_by_part, route_by_parts, route_names, is_rooted, route_text, or_dot}
+use Rattle.sugar_path.specs.Route.{
+  Route,
+  Rooted,
+  Relative,
+  route_by_part,
+  route_by_parts,
+  route_names,
+  is_rooted,
+  route_text,
+  or_dot,
+}
 
 -- so many `..`, joined by `/`
 abbrev pub dots_text : ℕ → List ℕ
@@ -72,7 +104,8 @@ pub record IsPartEnd (t : List ℕ) (at end : ℕ) : Type 0 where
   pub order : at ≤ end
   pub within : end ≤ length t
   pub part : has_no_slash (part_in at end t) ≡ true
-  pub next : (r : Route) → route_by_parts r (parts (drop at t)) ≡ route_by_parts (route_by_part r (part_in at end t)) (parts (drop (end + 1) t))
+  pub next : (r : Route) → route_by_parts r (parts (drop at t)) ≡ route_by_parts (route_by_part r (part_in at end t))
+      (parts (drop (end + 1) t))
   pub last : end ≡ length t → ends_in_slash t ≡ false
 
 -- the first bytes of a text that are kept: all of it, or its beginning where the text ends in a name

@@ -1,5 +1,23 @@
 -- The path from one place to another, by root, parents and names.
-use Rattle.std.specs.Prelude.{ℕ, ◌-◌, ◌==◌, Bool, true, false, not, if◌then◌else◌, List, [], ◌∷◌, ◌++◌, length, drop, bytes_eq, reverse, replicate}
+use Rattle.std.specs.Prelude.{
+  ℕ,
+  ◌-◌,
+  ◌==◌,
+  Bool,
+  true,
+  false,
+  not,
+  if◌then◌else◌,
+  List,
+  [],
+  ◌∷◌,
+  ◌++◌,
+  length,
+  drop,
+  bytes_eq,
+  reverse,
+  replicate,
+}
 use Rattle.std.specs.List.{join_with_byte, common_prefix_len}
 use Rattle.sugar_path.specs.Path.{join}
 use Rattle.sugar_path.specs.Route.{Route, Rooted, Relative, route_names, route_of}
@@ -11,7 +29,8 @@ same_start (Rooted p) (Relative k q) = false
 same_start (Relative k p) (Rooted q) = false
 same_start (Relative k p) (Relative m q) = k == m
 
--- from a base to a target by their names in the order of reading: one `..` for each name of the base behind those that both begin with, then what is left of the target
+-- from a base to a target by their names in the order of reading: one `..` for each name of the base behind those that
+-- both begin with, then what is left of the target
 abbrev pub between : List (List ℕ) → List (List ℕ) → List (List ℕ)
 between base target =
     let shared = common_prefix_len bytes_eq target base in

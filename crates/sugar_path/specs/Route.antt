@@ -1,10 +1,27 @@
 -- What a path says, absolute or not: its root, the folders that it first goes up, and its names.
-use Rattle.std.specs.Prelude.{Bool, true, false, ℕ, ◌+◌, ◌&&◌, not, if◌then◌else◌, List, [], ◌∷◌, ◌++◌, bytes_eq, reverse, replicate}
+use Rattle.std.specs.Prelude.{
+  Bool,
+  true,
+  false,
+  ℕ,
+  ◌+◌,
+  ◌&&◌,
+  not,
+  if◌then◌else◌,
+  List,
+  [],
+  ◌∷◌,
+  ◌++◌,
+  bytes_eq,
+  reverse,
+  replicate,
+}
 use Rattle.std.specs.List.{join_with_byte}
 use Rattle.sugar_path.specs.Part.{by_kind}
 use Rattle.sugar_path.specs.Path.{Path, parent, is_absolute, parts, ends_in_slash, join}
 
--- where a path leads: from `/` down some names, the last one first, or from some folder so many folders up and then down some names
+-- where a path leads: from `/` down some names, the last one first, or from some folder so many folders up and then
+-- down some names
 pub data Route : Type 0 where
   Rooted : Path → Route
   Relative : ℕ → Path → Route

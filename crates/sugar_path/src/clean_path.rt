@@ -1,6 +1,36 @@
 // A clean absolute path, seen as the list of its names, the last one first.
-ghost use Rattle.std.specs.Prelude.{◌≡◌, [], ◌∷◌, ◌++◌, IfOk, IsTrue, MatchOption, OnOk, OnErr, cond, not, string_bytes};
-ghost use Rattle.sugar_path.specs.Path.{IsName, IsPath, IsCleanPath, has_no_slash, steps, text_of, parent, is_root, is_absolute, by_part, by_parts, parts, path_in, path_eq, clean, below};
+ghost use Rattle.std.specs.Prelude.{
+  ◌≡◌,
+  [],
+  ◌∷◌,
+  ◌++◌,
+  IfOk,
+  IsTrue,
+  MatchOption,
+  OnOk,
+  OnErr,
+  cond,
+  not,
+  string_bytes,
+};
+ghost use Rattle.sugar_path.specs.Path.{
+  IsName,
+  IsPath,
+  IsCleanPath,
+  has_no_slash,
+  steps,
+  text_of,
+  parent,
+  is_root,
+  is_absolute,
+  by_part,
+  by_parts,
+  parts,
+  path_in,
+  path_eq,
+  clean,
+  below,
+};
 ghost use Rattle.std.specs.Cmp.{partial_equiv_from_equiv};
 ghost use Rattle.std.specs.Hash as fed;
 ghost use Rattle.std.specs.Hash.{same_Alike};

@@ -1,5 +1,16 @@
 // Laws of the path operations, each proved for all paths. The calls have them by their contracts.
-ghost use Rattle.sugar_path.specs.Laws.{NormalTwice, RelativeLeadsThere, RelativeEmptyAtOnePlace, ComponentsLeadThere, ParentLeavesLast, RootHasNoParent, PlaceIsClean, JoinIsStds, ComponentsAreStds, ParentIsStds};
+ghost use Rattle.sugar_path.specs.Laws.{
+  NormalTwice,
+  RelativeLeadsThere,
+  RelativeEmptyAtOnePlace,
+  ComponentsLeadThere,
+  ParentLeavesLast,
+  RootHasNoParent,
+  PlaceIsClean,
+  JoinIsStds,
+  ComponentsAreStds,
+  ParentIsStds,
+};
 
 /// A normal form is its own normal form. So `normalize` answers borrowed what it answered, where that is UTF-8.
 pub fn normal_twice()

@@ -1,5 +1,22 @@
 // Lexical operations over a borrowed path, which never ask the file system.
-ghost use Rattle.std.specs.Prelude.{◌≡◌, ◌↔◌, ◌⊎◌, ◌||◌, ◌∷◌, [], List, ℕ, IfOk, IsOk, IfSome, IsNone, OnSome, IsTrue, false, not};
+ghost use Rattle.std.specs.Prelude.{
+  ◌≡◌,
+  ◌↔◌,
+  ◌⊎◌,
+  ◌||◌,
+  ◌∷◌,
+  [],
+  List,
+  ℕ,
+  IfOk,
+  IsOk,
+  IfSome,
+  IsNone,
+  OnSome,
+  IsTrue,
+  false,
+  not,
+};
 ghost use Rattle.std.specs.Str.{IsUtf8};
 ghost use Rattle.std.specs.Str.Lossy.{utf8_lossy};
 ghost use Rattle.std.specs.Cow.{cow_str_bytes, IsBorrowedStr};
@@ -7,7 +24,14 @@ ghost use Rattle.sugar_path.specs.Path.{is_absolute};
 ghost use Rattle.sugar_path.specs.Route.{place, normal, from_folder};
 ghost use Rattle.sugar_path.specs.Borrowed.{IsNormalBorrowed, IsPlaceBorrowed, IsWayBorrowed};
 ghost use Rattle.sugar_path.specs.Relative.{needs_folder, relative_from};
-ghost use Rattle.sugar_path.specs.PathTypes.{path_bytes, cow_bytes, is_borrowed, folder_of, is_known, absolute_if_known};
+ghost use Rattle.sugar_path.specs.PathTypes.{
+  path_bytes,
+  cow_bytes,
+  is_borrowed,
+  folder_of,
+  is_known,
+  absolute_if_known,
+};
 
 use crate::borrowed::borrowed_way;
 use crate::faults::TryError;

@@ -1,5 +1,25 @@
 // A path read part by part, and its text edited in its own room.
-ghost use Rattle.std.specs.Prelude.{◌≡◌, ◌<◌, ◌≤◌, ◌+◌, ◌∷◌, ◌++◌, [], ◌||◌, List, ℕ, OnOk, IsTrue, bytes_eq, drop, length, not, slice_set, take, vec_len};
+ghost use Rattle.std.specs.Prelude.{
+  ◌≡◌,
+  ◌<◌,
+  ◌≤◌,
+  ◌+◌,
+  ◌∷◌,
+  ◌++◌,
+  [],
+  ◌||◌,
+  List,
+  ℕ,
+  OnOk,
+  IsTrue,
+  bytes_eq,
+  drop,
+  length,
+  not,
+  slice_set,
+  take,
+  vec_len,
+};
 ghost use Rattle.sugar_path.specs.Path.{has_no_slash, ends_in_slash, with_slash, is_absolute, parts, IsName};
 ghost use Rattle.sugar_path.specs.Route.{Route, route_up, route_by_part, route_by_parts, route_start, route_of};
 ghost use Rattle.sugar_path.specs.Reading.{HasRead, HasPassed, IsAhead, IsPartEnd, StandsOn, part_in, read_text};

@@ -1,5 +1,21 @@
 // The way from one place to another, by the names that lead there.
-ghost use Rattle.std.specs.Prelude.{◌≡◌, ◌||◌, List, ℕ, length, IfOk, IfSome, IsTrue, not, bytes_eq, replicate, reverse, ◌≤◌, ◌∷◌, []};
+ghost use Rattle.std.specs.Prelude.{
+  ◌≡◌,
+  ◌||◌,
+  List,
+  ℕ,
+  length,
+  IfOk,
+  IfSome,
+  IsTrue,
+  not,
+  bytes_eq,
+  replicate,
+  reverse,
+  ◌≤◌,
+  ◌∷◌,
+  [],
+};
 ghost use Rattle.std.specs.List.{common_prefix_len, join_with_byte};
 ghost use Rattle.sugar_path.specs.ComponentTypes.{parts_if};
 ghost use Rattle.sugar_path.specs.Path.{is_absolute, parts, path_in};

@@ -1,5 +1,44 @@
 -- Names with endings are names, and what the last dot of a name cuts.
-use Rattle.std.proofs.Common.{◌≡◌, ◌≢◌, ◌==◌, ◌&&◌, ◌<◌, ◌+◌, ◌-◌, inl, inr, Some, ℕ, zero, suc, Bool, true, false, not, cond, IsTrue, List, [], ◌∷◌, ◌++◌, length, get_or, take, drop, map, Bor, bytes_eq, refl, sym, ap, ◌∙◌, subst, arith, eqb-true, append_assoc}
+use Rattle.std.proofs.Common.{
+  ◌≡◌,
+  ◌≢◌,
+  ◌==◌,
+  ◌&&◌,
+  ◌<◌,
+  ◌+◌,
+  ◌-◌,
+  inl,
+  inr,
+  Some,
+  ℕ,
+  zero,
+  suc,
+  Bool,
+  true,
+  false,
+  not,
+  cond,
+  IsTrue,
+  List,
+  [],
+  ◌∷◌,
+  ◌++◌,
+  length,
+  get_or,
+  take,
+  drop,
+  map,
+  Bor,
+  bytes_eq,
+  refl,
+  sym,
+  ap,
+  ◌∙◌,
+  subst,
+  arith,
+  eqb-true,
+  append_assoc,
+}
 use Rattle.std.specs.List.{list_any, list_all, slice_range, suffix_len}
 use Rattle.std.specs.Map.{lookup}
 use Rattle.std.proofs.lemmas.Bool.Decides.{eqb_tells}
@@ -17,14 +56,16 @@ use Rattle.swc_loader.specs.Candidates.{is_dot, has_extension, extension, stem}
 -- text without a slash, in two parts
 pub has_no_slash-append : (n e : List ℕ) → has_no_slash n ≡ true → has_no_slash e ≡ true → has_no_slash (n ++ e) ≡ true
 has_no_slash-append [] e hn he = he
-has_no_slash-append (c ∷ cs) e hn he = rw (and_left (not (c == 47)) _ hn) (has_no_slash-append cs e (and_right (not (c == 47)) _ hn) he)
+has_no_slash-append (c ∷ cs) e hn he =
+    rw (and_left (not (c == 47)) _ hn) (has_no_slash-append cs e (and_right (not (c == 47)) _ hn) he)
 
 -- an ending has no slash
 pub has_no_slash-ending : (e : List ℕ) → is_ending e ≡ true → has_no_slash e ≡ true
 has_no_slash-ending [] h = refl
 has_no_slash-ending (a ∷ []) h = cc
 has_no_slash-ending (a ∷ b ∷ cs) h =
-    let dot : a ≡ 46 = eqb-true a 46 (and_left (a == 46) _ (and_left ((a == 46) && not (b == 46)) (has_no_slash (b ∷ cs)) h)) in
+    let dot : a ≡ 46 =
+    eqb-true a 46 (and_left (a == 46) _ (and_left ((a == 46) && not (b == 46)) (has_no_slash (b ∷ cs)) h)) in
     rw dot (and_right ((a == 46) && not (b == 46)) (has_no_slash (b ∷ cs)) h)
 
 never : (a b : Bool) → (a && (b && false)) ≡ false
@@ -60,36 +101,46 @@ is_name-ending [] (a ∷ b ∷ cs) hn he =
     rw (dot, other) (and_right ((a == 46) && not (b == 46)) (has_no_slash (b ∷ cs)) he)
 is_name-ending (c ∷ []) [] hn he = cc
 is_name-ending (c ∷ []) (a ∷ []) hn he = cc
-is_name-ending (c ∷ []) (a ∷ b ∷ cs) hn he = long_name c a b cs (has_no_slash-append (c ∷ []) (a ∷ b ∷ cs) hn (has_no_slash-ending (a ∷ b ∷ cs) he))
+is_name-ending (c ∷ []) (a ∷ b ∷ cs) hn he =
+    long_name c a b cs (has_no_slash-append (c ∷ []) (a ∷ b ∷ cs) hn (has_no_slash-ending (a ∷ b ∷ cs) he))
 is_name-ending (c ∷ d ∷ []) [] hn he = cc
-is_name-ending (c ∷ d ∷ []) (a ∷ as') hn he = long_name c d a as' (has_no_slash-append (c ∷ d ∷ []) (a ∷ as') hn (has_no_slash-ending (a ∷ as') he))
-is_name-ending (c ∷ d ∷ x ∷ xs) e hn he = long_name c d x (xs ++ e) (has_no_slash-append (c ∷ d ∷ x ∷ xs) e hn (has_no_slash-ending e he))
+is_name-ending (c ∷ d ∷ []) (a ∷ as') hn he =
+    long_name c d a as' (has_no_slash-append (c ∷ d ∷ []) (a ∷ as') hn (has_no_slash-ending (a ∷ as') he))
+is_name-ending (c ∷ d ∷ x ∷ xs) e hn he =
+    long_name c d x (xs ++ e) (has_no_slash-append (c ∷ d ∷ x ∷ xs) e hn (has_no_slash-ending e he))
 
 -- a name's text has no slash
 pub no_slash-of_name : (n : List ℕ) → IsName n → has_no_slash n ≡ true
-no_slash-of_name n h = and_right (not (bytes_eq n []) && not (bytes_eq n (46 ∷ [])) && not (bytes_eq n (46 ∷ 46 ∷ []))) (has_no_slash n) h
+no_slash-of_name n h =
+    and_right (not (bytes_eq n []) && not (bytes_eq n (46 ∷ [])) && not (bytes_eq n (46 ∷ 46 ∷ []))) (has_no_slash n) h
 
 pub no_slash-take : (k : ℕ) (n : List ℕ) → has_no_slash n ≡ true → has_no_slash (take k n) ≡ true
 no_slash-take zero n h = refl
 no_slash-take (suc k) [] h = refl
-no_slash-take (suc k) (c ∷ cs) h = rw (and_left (not (c == 47)) _ h) (no_slash-take k cs (and_right (not (c == 47)) _ h))
+no_slash-take (suc k) (c ∷ cs) h =
+    rw (and_left (not (c == 47)) _ h) (no_slash-take k cs (and_right (not (c == 47)) _ h))
 
 not_eq : (a b : ℕ) → a ≢ b → (a == b) ≡ false
 not_eq a b h = elim (eqb_tells a b) [ inl w ↦ absurd (h w.1) | inr w ↦ w.0 ]
 
 -- The dot at k is the last one of a name: what stands before it is the stem, and what follows it the extension.
-dots_after : (n : List ℕ) (k : ℕ) → k < length n → get_or n k 0 ≡ 46 → ((i : ℕ) → k < i → i < length n → get_or n i 0 ≢ 46) → suffix_len (λ c. not (is_dot c)) n ≡ length n - (k + 1)
-dots_after n k lt at after = suffix_len_is (λ c. not (is_dot c)) n (k + 1) 0 (omega arith) (λ i above below. ap not (not_eq (get_or n i 0) 46 (after i (omega arith) below))) (λ _. last ((k + 1) - 1) (omega arith))
+dots_after : (n : List ℕ) (k : ℕ) → k < length n → get_or n k 0 ≡ 46
+    → ((i : ℕ) → k < i → i < length n → get_or n i 0 ≢ 46) → suffix_len (λ c. not (is_dot c)) n ≡ length n - (k + 1)
+dots_after n k lt at after = suffix_len_is (λ c. not (is_dot c)) n (k + 1) 0 (omega arith)
+    (λ i above below. ap not (not_eq (get_or n i 0) 46 (after i (omega arith) below)))
+    (λ _. last ((k + 1) - 1) (omega arith))
   where
     last : (j : ℕ) → j ≡ k → not (is_dot (get_or n j 0)) ≡ false
     last j is = rw (is, at) refl
 
-pub stem_is : (n : List ℕ) (k : ℕ) → k < length n → get_or n k 0 ≡ 46 → ((i : ℕ) → k < i → i < length n → get_or n i 0 ≢ 46) → slice_range n 0 k ≡ stem n
+pub stem_is : (n : List ℕ) (k : ℕ) → k < length n → get_or n k 0 ≡ 46
+    → ((i : ℕ) → k < i → i < length n → get_or n i 0 ≢ 46) → slice_range n 0 k ≡ stem n
 stem_is n k lt at after =
     let len : k - 0 ≡ length n - suffix_len (λ c. not (is_dot c)) n - 1 = omega (arith, dots_after n k lt at after) in
     ap (λ j. take j n) len
 
-pub extension_is : (n : List ℕ) (k : ℕ) → k < length n → get_or n k 0 ≡ 46 → ((i : ℕ) → k < i → i < length n → get_or n i 0 ≢ 46) → drop (k + 1) n ≡ extension n
+pub extension_is : (n : List ℕ) (k : ℕ) → k < length n → get_or n k 0 ≡ 46
+    → ((i : ℕ) → k < i → i < length n → get_or n i 0 ≢ 46) → drop (k + 1) n ≡ extension n
 extension_is n k lt at after =
     let len : k + 1 ≡ length n - suffix_len (λ c. not (is_dot c)) n = omega (arith, dots_after n k lt at after) in
     ap (λ j. drop j n) len
@@ -115,26 +166,42 @@ abbrev pub sources_behind : List (Bor (List ℕ) × Bor (List (Bor (List ℕ))))
 sources_behind table = map (λ s. (s.0.now, map (λ e. e.now) s.1.now)) table
 
 -- the extension at a place of the table is the one that is looked for, or isn't
-pub sources-hit : (e : List ℕ) (table : List (Bor (List ℕ) × Bor (List (Bor (List ℕ))))) (i : ℕ) (d : Bor (List ℕ) × Bor (List (Bor (List ℕ)))) → i < length table → bytes_eq e (get_or table i d).0.now ≡ true → lookup (bytes_eq e) (sources_behind (drop i table)) ≡ Some (map (λ s. s.now) (get_or table i d).1.now)
-sources-hit e table i d lt is = at_drop_more (λ left. lookup (bytes_eq e) (sources_behind left)) table i d lt ∙ rw is refl
+pub sources-hit : (e : List ℕ) (table : List (Bor (List ℕ) × Bor (List (Bor (List ℕ))))) (i : ℕ)
+    (d : Bor (List ℕ) × Bor (List (Bor (List ℕ)))) → i < length table → bytes_eq e (get_or table i d).0.now ≡ true
+    → lookup (bytes_eq e) (sources_behind (drop i table)) ≡ Some (map (λ s. s.now) (get_or table i d).1.now)
+sources-hit e table i d lt is =
+    at_drop_more (λ left. lookup (bytes_eq e) (sources_behind left)) table i d lt ∙ rw is refl
 
-pub sources-miss : (e : List ℕ) (table : List (Bor (List ℕ) × Bor (List (Bor (List ℕ))))) (i : ℕ) (d : Bor (List ℕ) × Bor (List (Bor (List ℕ)))) → i < length table → bytes_eq e (get_or table i d).0.now ≡ false → lookup (bytes_eq e) (sources_behind (drop i table)) ≡ lookup (bytes_eq e) (sources_behind (drop (i + 1) table))
-sources-miss e table i d lt is = at_drop_more (λ left. lookup (bytes_eq e) (sources_behind left)) table i d lt ∙ rw is refl
+pub sources-miss : (e : List ℕ) (table : List (Bor (List ℕ) × Bor (List (Bor (List ℕ))))) (i : ℕ)
+    (d : Bor (List ℕ) × Bor (List (Bor (List ℕ)))) → i < length table → bytes_eq e (get_or table i d).0.now ≡ false
+    → lookup (bytes_eq e) (sources_behind (drop i table)) ≡ lookup (bytes_eq e) (sources_behind (drop (i + 1) table))
+sources-miss e table i d lt is =
+    at_drop_more (λ left. lookup (bytes_eq e) (sources_behind left)) table i d lt ∙ rw is refl
 
 -- all are endings: those at a place of the table, and those behind it
-pub endings-next : (table : List (Bor (List ℕ) × Bor (List (Bor (List ℕ))))) (i : ℕ) (d : Bor (List ℕ) × Bor (List (Bor (List ℕ)))) → i < length table → all_are_endings (sources_behind (drop i table)) ≡ true → AreEndings (map (λ s. s.now) (get_or table i d).1.now) × (all_are_endings (sources_behind (drop (i + 1) table)) ≡ true)
+pub endings-next : (table : List (Bor (List ℕ) × Bor (List (Bor (List ℕ))))) (i : ℕ)
+    (d : Bor (List ℕ) × Bor (List (Bor (List ℕ)))) → i < length table
+    → all_are_endings (sources_behind (drop i table)) ≡ true → AreEndings (map (λ s. s.now) (get_or table i d).1.now)
+    × (all_are_endings (sources_behind (drop (i + 1) table)) ≡ true)
 endings-next table i d lt all =
-    let both = sym (at_drop_more (λ left. all_are_endings (sources_behind left)) table i d lt) ∙ all in
-    (and_left (are_endings (map (λ s. s.now) (get_or table i d).1.now)) (all_are_endings (sources_behind (drop (i + 1) table))) both, and_right (are_endings (map (λ s. s.now) (get_or table i d).1.now)) (all_are_endings (sources_behind (drop (i + 1) table))) both)
+    let both = sym (at_drop_more (λ left. all_are_endings (sources_behind left)) table i d lt) ∙ all in (
+      and_left (are_endings (map (λ s. s.now) (get_or table i d).1.now))
+          (all_are_endings (sources_behind (drop (i + 1) table))) both,
+      and_right (are_endings (map (λ s. s.now) (get_or table i d).1.now))
+          (all_are_endings (sources_behind (drop (i + 1) table))) both,
+    )
 
 -- the sources' endings are among those of conventions
-pub sources_are_endings : (c : conventions.Conventions) → IsTrue (make_names c) → all_are_endings c.source_endings ≡ true
+pub sources_are_endings : (c : conventions.Conventions) → IsTrue (make_names c)
+    → all_are_endings c.source_endings ≡ true
 sources_are_endings c h =
     and_right (are_endings c.endings && are_endings c.first_endings) (all_are_endings c.source_endings)
-    (and_left (are_endings c.endings && are_endings c.first_endings && all_are_endings c.source_endings) (list_all has_no_slash c.index_names) h)
+    (and_left (are_endings c.endings && are_endings c.first_endings && all_are_endings c.source_endings)
+    (list_all has_no_slash c.index_names) h)
 
 -- the text of a path with a `/` behind it, which that of `/` has already
-pub with_slash-text : (p : Path) → IsPath p → with_slash (text_of p) ≡ cond (is_root p) (text_of p) (text_of p ++ 47 ∷ [])
+pub with_slash-text : (p : Path) → IsPath p → with_slash (text_of p) ≡ cond (is_root p) (text_of p)
+    (text_of p ++ 47 ∷ [])
 with_slash-text [] h = refl
 with_slash-text (n ∷ p) h =
     let P : List ℕ → Type 0 = λ t. with_slash t ≡ t ++ 47 ∷ [] in
@@ -143,7 +210,8 @@ with_slash-text (n ∷ p) h =
 dot_at : (n e : List ℕ) → is_ending e ≡ true → get_or (n ++ e) (length n) 0 ≡ 46
 dot_at [] [] h = cc
 dot_at [] (a ∷ []) h = cc
-dot_at [] (a ∷ b ∷ cs) h = eqb-true a 46 (and_left (a == 46) _ (and_left ((a == 46) && not (b == 46)) (has_no_slash (b ∷ cs)) h))
+dot_at [] (a ∷ b ∷ cs) h =
+    eqb-true a 46 (and_left (a == 46) _ (and_left ((a == 46) && not (b == 46)) (has_no_slash (b ∷ cs)) h))
 dot_at (c ∷ cs) e h = dot_at cs e h
 
 -- behind a base stands the dot of its ending

@@ -9,8 +9,11 @@ use Rattle.swc_loader.specs.Conventions.{Conventions}
 use Rattle.swc_loader.specs.Search.{place_at, place}
 
 -- a call by the place of a text that was read from the root
-pub asks_place : {old new : Asking} {result : Result Searched ReadError} {c c' : Conventions} {env env' : TargetEnv} {text said read : List ℕ} {root at : Path} → c' ≡ c → env' ≡ env → said ≡ text → read ≡ text → root ≡ [] → at ≡ clean root read → Asks old new result (place_at c' env' at said) → Asks old new result (place c env [] text)
-asks_place {old = old} {new = new} {result = result} {c = c} {env = env} {env' = env'} {text = text} {said = said} {read = read} {at = at} conventions target same from root is h =
+pub asks_place : {old new : Asking} {result : Result Searched ReadError} {c c' : Conventions} {env env' : TargetEnv}
+    {text said read : List ℕ} {root at : Path} → c' ≡ c → env' ≡ env → said ≡ text → read ≡ text → root ≡ []
+    → at ≡ clean root read → Asks old new result (place_at c' env' at said) → Asks old new result (place c env [] text)
+asks_place {old = old} {new = new} {result = result} {c = c} {env = env} {env' = env'} {text = text} {said = said}
+    {read = read} {at = at} conventions target same from root is h =
     let at_is : at ≡ clean [] text = is ∙ ap (λ d. clean d read) root ∙ ap (clean []) from in
     let C : Conventions → Type 0 = λ x. Asks old new result (place_at x env' at said) in
     let E : TargetEnv → Type 0 = λ x. Asks old new result (place_at c x at said) in

@@ -11,8 +11,30 @@ use Rattle.swc_loader.specs.declared.entry.PackageEntry.TheVariants as entry
 use Rattle.swc_loader.specs.declared.search.Searched.TheVariants.{File, Malformed}
 use Rattle.swc_loader.specs.Conventions.{Conventions}
 use Rattle.swc_loader.specs.Candidates.{files_at}
-use Rattle.swc_loader.specs.Search.{package_file, index_files, entry_places, places, found_or_nothing, first_found, by_entry, packaged, folder, or_else, place_at}
-use Rattle.swc_loader.specs.SearchOnTree.{first_on, by_entry_on, packaged_on, folder_on, or_folder, place_at_on, FolderOnTree, PlaceOnTree, PlainPlaceOnTree}
+use Rattle.swc_loader.specs.Search.{
+  package_file,
+  index_files,
+  entry_places,
+  places,
+  found_or_nothing,
+  first_found,
+  by_entry,
+  packaged,
+  folder,
+  or_else,
+  place_at,
+}
+use Rattle.swc_loader.specs.SearchOnTree.{
+  first_on,
+  by_entry_on,
+  packaged_on,
+  folder_on,
+  or_folder,
+  place_at_on,
+  FolderOnTree,
+  PlaceOnTree,
+  PlainPlaceOnTree,
+}
 
 told-found : (t : Files) (ps : List Path) → told t (first_found ps) ≡ first_on t ps
 unfolding first_found
@@ -23,18 +45,23 @@ told-entry t c d entry.Malformed = told-done t (Malformed (package_file d))
 told-entry t c d entry.Missing = told-found t (index_files c d)
 told-entry t c d (entry.At text) = told-found t (entry_places c d text)
 
-told-packaged : (t : Files) (c : Conventions) (env : TargetEnv) (d : Path) → told t (packaged c env d) ≡ packaged_on t c env d
+told-packaged : (t : Files) (c : Conventions) (env : TargetEnv) (d : Path)
+    → told t (packaged c env d) ≡ packaged_on t c env d
 unfolding packaged
-told-packaged t c env d = told-by t (read (package_file d)) _ (told-read t (package_file d)) (λ content. told-entry t c d _)
+told-packaged t c env d =
+    told-by t (read (package_file d)) _ (told-read t (package_file d)) (λ content. told-entry t c d _)
 
 told-folder : (t : Files) (c : Conventions) (env : TargetEnv) (d : Path) → told t (folder c env d) ≡ folder_on t c env d
 unfolding folder
 told-folder t c env d =
-    told-by t (file (package_file d)) _ (told-file t (package_file d)) (λ there. told-if t there _ _ (told-packaged t c env d) (told-found t (index_files c d)))
+    told-by t (file (package_file d)) _ (told-file t (package_file d))
+    (λ there. told-if t there _ _ (told-packaged t c env d) (told-found t (index_files c d)))
 
-told-place : (t : Files) (c : Conventions) (env : TargetEnv) (p : Path) (text : List ℕ) → told t (place_at c env p text) ≡ place_at_on t c env p text
+told-place : (t : Files) (c : Conventions) (env : TargetEnv) (p : Path) (text : List ℕ)
+    → told t (place_at c env p text) ≡ place_at_on t c env p text
 unfolding place_at
-told-place t c env p text = told-by t (first_file (files_at c p text)) _ (told-first_file t (files_at c p text)) by_found
+told-place t c env p text =
+    told-by t (first_file (files_at c p text)) _ (told-first_file t (files_at c p text)) by_found
   where
     by_found : (found : Option Path) → told t (or_else found (folder c env p)) ≡ or_folder found (folder_on t c env p)
     by_found (Some f) = told-done t (File f)

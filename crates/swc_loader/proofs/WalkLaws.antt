@@ -13,19 +13,22 @@ use Rattle.swc_loader.specs.Walk.{modules_of, text_in_modules, in_modules, or_hi
 use Rattle.swc_loader.specs.WalkOnTree.{in_modules_on, file_or, walk_on, WalkOnTree}
 use Rattle.swc_loader.proofs.Searches.{place_on_tree}
 
-told-in_modules : (t : Files) (c : Conventions) (env : TargetEnv) (target : List ℕ) (d : Path) → told t (in_modules c env target d) ≡ in_modules_on t c env target d
+told-in_modules : (t : Files) (c : Conventions) (env : TargetEnv) (target : List ℕ) (d : Path)
+    → told t (in_modules c env target d) ≡ in_modules_on t c env target d
 unfolding in_modules
 told-in_modules t c env target d =
     let text = text_in_modules d target in
     told-by t (folder_there (modules_of d)) _ (told-folder_there t (modules_of d)) (λ there.
     told-if t there _ _ (place_on_tree.tells t c env (clean [] text) text) (told-done t Nothing))
 
-told-walk : (t : Files) (c : Conventions) (env : TargetEnv) (target : List ℕ) (ds : List Path) → told t (walk c env target ds) ≡ walk_on t c env target ds
+told-walk : (t : Files) (c : Conventions) (env : TargetEnv) (target : List ℕ) (ds : List Path)
+    → told t (walk c env target ds) ≡ walk_on t c env target ds
 told-walk t c env target [] = told-done t None
 told-walk t c env target (d ∷ ds) =
     told-by t (in_modules c env target d) _ (told-in_modules t c env target d) (by_found (told-walk t c env target ds))
   where
-    by_found : told t (walk c env target ds) ≡ walk_on t c env target ds → (found : Searched) → told t (or_higher found (walk c env target ds)) ≡ file_or found (walk_on t c env target ds)
+    by_found : told t (walk c env target ds) ≡ walk_on t c env target ds → (found : Searched)
+        → told t (or_higher found (walk c env target ds)) ≡ file_or found (walk_on t c env target ds)
     by_found higher (File f) = told-done t (Some f)
     by_found higher Nothing = higher
     by_found higher (Malformed p) = higher

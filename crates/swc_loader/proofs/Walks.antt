@@ -1,5 +1,22 @@
 -- The way up through folders, one at a time.
-use Rattle.std.proofs.Common.{◌≡◌, ◌<◌, ℕ, Bool, true, false, not, List, [], ◌∷◌, Option, Result, length, refl, subst, arith}
+use Rattle.std.proofs.Common.{
+  ◌≡◌,
+  ◌<◌,
+  ℕ,
+  Bool,
+  true,
+  false,
+  not,
+  List,
+  [],
+  ◌∷◌,
+  Option,
+  Result,
+  length,
+  refl,
+  subst,
+  arith,
+}
 use Rattle.sugar_path.specs.Path.{Path, parent, is_root, up}
 use Rattle.tree_core.specs.declared.tree.ReadError.{ReadError}
 use Rattle.tree_core.specs.Asks.{Asking, Asks}
@@ -24,13 +41,16 @@ up-shorter [] went is rises = cc
 up-shorter (n ∷ d) went is rises = omega arith
 
 -- what is no file goes on
-pub higher-other : (found : Searched) (next : Plan (Option Path)) → ((f : Path) → found ≡ File f → ⊥) → or_higher found next ≡ next
+pub higher-other : (found : Searched) (next : Plan (Option Path)) → ((f : Path) → found ≡ File f → ⊥)
+    → or_higher found next ≡ next
 higher-other (File f) next other = absurd (other f refl)
 higher-other Nothing next other = refl
 higher-other (Malformed p) next other = refl
 
 -- a call by the walk, where the code has read the settings itself
-pub asks_walk : {old new : Asking} {result : Result (Option Path) ReadError} {c c' : Conventions} {env env' : TargetEnv} (target : List ℕ) (ds : List Path) → c' ≡ c → env' ≡ env → Asks old new result (walk c' env' target ds) → Asks old new result (walk c env target ds)
+pub asks_walk : {old new : Asking} {result : Result (Option Path) ReadError} {c c' : Conventions} {env env' : TargetEnv}
+    (target : List ℕ) (ds : List Path) → c' ≡ c → env' ≡ env → Asks old new result (walk c' env' target ds)
+    → Asks old new result (walk c env target ds)
 asks_walk {old = old} {new = new} {result = result} {c = c} {env' = env'} target ds conventions env h =
     let C : Conventions → Type 0 = λ x. Asks old new result (walk x env' target ds) in
     let E : TargetEnv → Type 0 = λ x. Asks old new result (walk c x target ds) in

@@ -1,5 +1,25 @@
--- The rules that the `browser` map of a package.json gives, as bundlers read it: which files and modules something else stands for, and which are ignored. Each `do` here is over plans.
-use Rattle.std.specs.Prelude.{ℕ, Bool, true, false, if◌then◌else◌, List, [], ◌∷◌, map, filter, codes, bytes_eq, Option, Some, None, option_map, option_and_then, unwrap_or}
+-- The rules that the `browser` map of a package.json gives, as bundlers read it: which files and modules something else
+-- stands for, and which are ignored. Each `do` here is over plans.
+use Rattle.std.specs.Prelude.{
+  ℕ,
+  Bool,
+  true,
+  false,
+  if◌then◌else◌,
+  List,
+  [],
+  ◌∷◌,
+  map,
+  filter,
+  codes,
+  bytes_eq,
+  Option,
+  Some,
+  None,
+  option_map,
+  option_and_then,
+  unwrap_or,
+}
 use Rattle.std.specs.List.{list_any, last_or}
 use Rattle.std.specs.Option.{option_map_or}
 use Rattle.serde_json.specs.Data.{Data, boolean, string, Members, no_members, member}
@@ -45,7 +65,8 @@ ignoring_rule about = Some (record { source = about; target = None })
 abbrev pub placed_rule : Source → Option Path → Option Rule
 placed_rule about target = option_map (λ f. record { source = about; target = Some f }) target
 
--- The rule of an entry, by the kind of its value: the place of a text stands for the source, whatever the text begins with; by `false` the source is ignored; any other value gives no rule.
+-- The rule of an entry, by the kind of its value: the place of a text stands for the source, whatever the text begins
+-- with; by `false` the source is ignored; any other value gives no rule.
 abbrev pub rule_of : Conventions → Path → List ℕ → Data → Plan (Option Rule)
 rule_of c root key (string text) = do
   about ← source_of c root key
@@ -70,7 +91,8 @@ rules_of c root (member key value entries) = do
 abbrev pub map_in : Data → Option Members
 map_in value = option_and_then as_object (get (codes "browser") value)
 
--- The entries of a package.json's `browser` map, in the byte order of their keys, as objects keep them. A file that can't be read or is malformed has none, and so has one whose `browser` is a text.
+-- The entries of a package.json's `browser` map, in the byte order of their keys, as objects keep them. A file that
+-- can't be read or is malformed has none, and so has one whose `browser` is a text.
 abbrev pub browser_entries : Conventions → Option (List ℕ) → Members
 browser_entries c content = unwrap_or (option_and_then map_in (package_in c content)) no_members
 
@@ -149,7 +171,8 @@ placed_by f NoRule = placed.File f false
 placed_by f Ignored = placed.Ignored (text_of f)
 placed_by f (File g) = placed.File g true
 
--- A file that was found, by the rules for it. They are applied once: what stands for it is not looked for among them again.
+-- A file that was found, by the rules for it. They are applied once: what stands for it is not looked for among them
+-- again.
 unfoldable pub ruled_file : NodeSettings → Path → Plan Placed
 ruled_file s f = do
   rule ← rule_for s f (source.File f)

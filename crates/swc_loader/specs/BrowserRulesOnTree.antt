@@ -1,4 +1,5 @@
--- What the reading of the rules for browsers tells of a tree: the laws by which a reader checks the plans. Each `do` here is over what is told.
+-- What the reading of the rules for browsers tells of a tree: the laws by which a reader checks the plans. Each `do`
+-- here is over what is told.
 use Rattle.std.specs.Prelude.{◌≡◌, ℕ, false, if◌then◌else◌, List, [], map, codes, Option, Some, None, option_map}
 use Rattle.serde_json.specs.Data.{Data, boolean, string, Members, no_members, member}
 use Rattle.sugar_path.specs.Path.{Path, text_of, join, up, parent}
@@ -16,7 +17,17 @@ use Rattle.swc_loader.specs.Conventions.{Conventions}
 use Rattle.swc_loader.specs.Search.{places, package_file}
 use Rattle.swc_loader.specs.Specifier.{begins_in}
 use Rattle.swc_loader.specs.Settings.{NodeSettings}
-use Rattle.swc_loader.specs.BrowserRules.{file_or_specifier, ignoring_rule, placed_rule, with_rule, browser_entries, ruled, placed_by, rules_for, rule_for}
+use Rattle.swc_loader.specs.BrowserRules.{
+  file_or_specifier,
+  ignoring_rule,
+  placed_rule,
+  with_rule,
+  browser_entries,
+  ruled,
+  placed_by,
+  rules_for,
+  rule_for,
+}
 
 -- the place of a text behind a root, without entry
 abbrev pub place_behind_on : Files → Conventions → Path → List ℕ → Told (Option Path)

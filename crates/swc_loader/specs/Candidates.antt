@@ -1,5 +1,25 @@
--- File candidates: the paths at which the text of a specifier may be a file, in order, as bundlers and TypeScript's resolver try them.
-use Rattle.std.specs.Prelude.{ℕ, ◌==◌, ◌&&◌, Bool, false, not, if◌then◌else◌, List, [], ◌∷◌, ◌++◌, map, filter, None, bytes_eq, codes, drop, unwrap_or}
+-- File candidates: the paths at which the text of a specifier may be a file, in order, as bundlers and TypeScript's
+-- resolver try them.
+use Rattle.std.specs.Prelude.{
+  ℕ,
+  ◌==◌,
+  ◌&&◌,
+  Bool,
+  false,
+  not,
+  if◌then◌else◌,
+  List,
+  [],
+  ◌∷◌,
+  ◌++◌,
+  map,
+  filter,
+  None,
+  bytes_eq,
+  codes,
+  drop,
+  unwrap_or,
+}
 use Rattle.std.specs.List.{list_any, before_last, after_last, last_or}
 use Rattle.std.specs.Option.{option_map_or}
 use Rattle.std.specs.Map.{lookup}
@@ -32,7 +52,8 @@ with_endings n es = map (λ e. n ++ e) es
 abbrev pub itself : Bool → List ℕ → List (List ℕ)
 itself closed n = if closed then n ∷ [] else []
 
--- the names that are tried for a name with an extension: the name itself, the endings, and the sources that the extension stands for
+-- the names that are tried for a name with an extension: the name itself, the endings, and the sources that the
+-- extension stands for
 abbrev pub names_with_extension : Conventions → List ℕ → Bool → List ℕ → List ℕ → List (List ℕ)
 names_with_extension c n closed base e =
     itself closed n ++ (with_endings n c.endings ++ with_endings base (sources_of c e))

@@ -1,5 +1,21 @@
 -- The entry that a package.json names, as bundlers read its fields `module`, `main` and `browser`.
-use Rattle.std.specs.Prelude.{ℕ, Bool, true, false, not, ◌&&◌, if◌then◌else◌, List, [], ◌∷◌, codes, Option, Some, None, option_and_then}
+use Rattle.std.specs.Prelude.{
+  ℕ,
+  Bool,
+  true,
+  false,
+  not,
+  ◌&&◌,
+  if◌then◌else◌,
+  List,
+  [],
+  ◌∷◌,
+  codes,
+  Option,
+  Some,
+  None,
+  option_and_then,
+}
 use Rattle.std.specs.Option.{option_or}
 use Rattle.std.specs.List.{list_all}
 use Rattle.serde_json.specs.Data.{Data, null, boolean, number, string, array, object, Members, no_members, member}
@@ -53,7 +69,8 @@ is_browser_field (Some (string s)) = true
 is_browser_field (Some (array ds)) = false
 is_browser_field (Some (object ms)) = are_rule_values ms
 
--- A package.json that the order can read is an object without floats, and the fields that it reads are of their kinds. Every other one is malformed.
+-- A package.json that the order can read is an object without floats, and the fields that it reads are of their kinds.
+-- Every other one is malformed.
 abbrev pub is_readable : Conventions → Data → Bool
 is_readable c d =
     is_object d && not (has_float d) &&

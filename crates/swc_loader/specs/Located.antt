@@ -39,7 +39,8 @@ abbrev pub text_at : Path → Option (List ℕ) → List ℕ
 text_at l None = text_of l
 text_at l (Some subpath) = behind l subpath
 
--- whether a search is that of the location itself: without subpath, or where the text behind the location means the location itself
+-- whether a search is that of the location itself: without subpath, or where the text behind the location means the
+-- location itself
 abbrev pub is_whole : Path → Option (List ℕ) → Bool
 is_whole l None = true
 is_whole l (Some subpath) = path_eq (clean [] (behind l subpath)) l

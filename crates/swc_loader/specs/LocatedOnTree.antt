@@ -1,4 +1,5 @@
--- What the search at the location of a package tells of a tree: the law by which a reader checks the plan. Each `do` here is over what is told.
+-- What the search at the location of a package tells of a tree: the law by which a reader checks the plan. Each `do`
+-- here is over what is told.
 use Rattle.std.specs.Prelude.{◌≡◌, ℕ, if◌then◌else◌, List, [], Option, Result, Ok, Err}
 use Rattle.sugar_path.specs.Path.{Path, text_of}
 use Rattle.tree_core.specs.Tree.{Files}

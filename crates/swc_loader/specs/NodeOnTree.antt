@@ -1,5 +1,23 @@
--- What the order for Node's modules tells of a tree: the laws by which a reader checks the plans. Each `do` here is over what is told.
-use Rattle.std.specs.Prelude.{◌≡◌, ℕ, Bool, true, false, not, if◌then◌else◌, List, [], ◌∷◌, Option, Some, None, Result, Ok, Err}
+-- What the order for Node's modules tells of a tree: the laws by which a reader checks the plans. Each `do` here is
+-- over what is told.
+use Rattle.std.specs.Prelude.{
+  ◌≡◌,
+  ℕ,
+  Bool,
+  true,
+  false,
+  not,
+  if◌then◌else◌,
+  List,
+  [],
+  ◌∷◌,
+  Option,
+  Some,
+  None,
+  Result,
+  Ok,
+  Err,
+}
 use Rattle.std.specs.Option.{option_or}
 use Rattle.sugar_path.specs.Path.{Path, text_of, clean, join, up, below, is_absolute}
 use Rattle.tree_core.specs.Tree.{Files}
@@ -26,7 +44,17 @@ use Rattle.swc_loader.specs.Settings.{NodeSettings}
 use Rattle.swc_loader.specs.Spelling.{path_as_written, canonical_or_path, spelled, custom, answer_of, answered}
 use Rattle.swc_loader.specs.BrowserRulesOnTree.{rule_for_on}
 use Rattle.swc_loader.specs.LocatedOnTree.{searched_on}
-use Rattle.swc_loader.specs.NodeRows.{is_probed, path_text, core_module_for, decided_or_target, before_search, target_or_answer, folder_from, is_told_relative, search}
+use Rattle.swc_loader.specs.NodeRows.{
+  is_probed,
+  path_text,
+  core_module_for,
+  decided_or_target,
+  before_search,
+  target_or_answer,
+  folder_from,
+  is_told_relative,
+  search,
+}
 use Rattle.swc_loader.specs.NodeOrder.{node}
 
 -- the name that a file is answered by: where links are preserved its path, which asks nothing, else its canonical name
@@ -96,7 +124,8 @@ answer_placed_on t s relative (placed.Ignored name) = unasked (custom name)
 -- what a search by a target comes to: a file by the rules for it, and then its answer
 abbrev pub told_on : Files → NodeSettings → List ℕ → Bool → Searched → Told (Result Resolution NodeRefusal)
 told_on t s target relative found =
-    searched_on t s target found >>=? λ placed. made (λ resolution. Ok resolution) (answer_placed_on t s relative placed)
+    searched_on t s target found >>=? λ placed. made (λ resolution. Ok resolution)
+    (answer_placed_on t s relative placed)
 
 -- an absolute target
 abbrev pub at_root_on : Files → NodeSettings → List ℕ → Told (Result Resolution NodeRefusal)

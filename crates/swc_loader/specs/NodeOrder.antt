@@ -1,4 +1,5 @@
--- The order of search for Node's modules, as one text over its rows. The `do` here is over rows: plans that may end the order.
+-- The order of search for Node's modules, as one text over its rows. The `do` here is over rows: plans that may end the
+-- order.
 use Rattle.std.specs.Prelude.{ℕ, List, Result}
 use Rattle.tree_core.specs.Plan.{Plan}
 use Rattle.tree_core.specs.Rows.{Row, order, decided, refuses_by}

@@ -1,5 +1,27 @@
--- The rows of the order of search for Node's modules, each by itself, as docs/ORDER.md lists the node rows. Each `do` here is over plans.
-use Rattle.std.specs.Prelude.{ℕ, ◌==◌, ◌&&◌, Bool, true, false, not, if◌then◌else◌, List, [], ◌∷◌, ◌++◌, codes, get_or, Option, Some, None, Result, Ok, Err}
+-- The rows of the order of search for Node's modules, each by itself, as docs/ORDER.md lists the node rows. Each `do`
+-- here is over plans.
+use Rattle.std.specs.Prelude.{
+  ℕ,
+  ◌==◌,
+  ◌&&◌,
+  Bool,
+  true,
+  false,
+  not,
+  if◌then◌else◌,
+  List,
+  [],
+  ◌∷◌,
+  ◌++◌,
+  codes,
+  get_or,
+  Option,
+  Some,
+  None,
+  Result,
+  Ok,
+  Err,
+}
 use Rattle.std.specs.Option.{option_or}
 use Rattle.sugar_path.specs.Path.{Path, text_of, clean, join, up, parent, below, is_absolute}
 use Rattle.tree_core.specs.Builtins.{is_builtin}
@@ -64,7 +86,8 @@ ruled_specifier s importer specifier = do
   said ← module_rule s importer specifier
   by_rule s specifier said
 
--- Node row 4: for the target Node, a specifier with Node's scheme is answered as it is, and a core module's name by that scheme
+-- Node row 4: for the target Node, a specifier with Node's scheme is answered as it is, and a core module's name by
+-- that scheme
 abbrev pub core_module : List ℕ → Option Resolution
 core_module specifier =
     if has_node_scheme specifier then Some (custom specifier)
@@ -105,7 +128,8 @@ base_folder importer = do
   is_file ← file importer
   Done (folder_from importer is_file)
 
--- Where links are preserved, a file that a rule led to is told from the working folder if it lies below it, and any other as its row tells it.
+-- Where links are preserved, a file that a rule led to is told from the working folder if it lies below it, and any
+-- other as its row tells it.
 abbrev pub is_told_relative : NodeSettings → Bool → Path → Bool → Bool
 is_told_relative s relative f rewritten = if rewritten then below f s.cwd else relative
 

@@ -22,4 +22,5 @@ IsReadAt kept place bytes =
 -- what is kept now for bytes was kept for them before
 abbrev pub AreKeptOf : {A : Type 0} → List (List ℕ × A) → List (List ℕ × A) → Type 0
 AreKeptOf {A = A} before now =
-    (bytes : List ℕ) (value : A) → lookup (bytes_eq bytes) now ≡ Some value → lookup (bytes_eq bytes) before ≡ Some value
+    (bytes : List ℕ) (value : A) → lookup (bytes_eq bytes) now ≡ Some value
+    → lookup (bytes_eq bytes) before ≡ Some value

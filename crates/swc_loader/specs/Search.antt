@@ -15,7 +15,8 @@ use Rattle.swc_loader.specs.Entry as of
 abbrev pub index_files : Conventions → Path → List Path
 index_files c d = in_folder d (flat_map (λ name. with_endings name c.endings) c.index_names)
 
--- where a text that means a path may be found without entry: its file candidates, and then the index files of its folder
+-- where a text that means a path may be found without entry: its file candidates, and then the index files of its
+-- folder
 abbrev pub places_at : Conventions → Path → List ℕ → List Path
 places_at c p t = files_at c p t ++ index_files c p
 

@@ -1,4 +1,5 @@
--- What the search of a folder and of a place tells of a tree: the laws by which a reader checks the plans. Each `do` here is over what is told.
+-- What the search of a folder and of a place tells of a tree: the laws by which a reader checks the plans. Each `do`
+-- here is over what is told.
 use Rattle.std.specs.Prelude.{◌≡◌, if◌then◌else◌, ℕ, List, Option, Some, None}
 use Rattle.sugar_path.specs.Path.{Path, clean}
 use Rattle.tree_core.specs.Tree.{Files}
@@ -11,7 +12,16 @@ use Rattle.swc_loader.specs.declared.search.Searched.TheVariants.{File, Malforme
 use Rattle.swc_loader.specs.Conventions.{Conventions}
 use Rattle.swc_loader.specs.Candidates.{files_at}
 use Rattle.swc_loader.specs.Entry as of
-use Rattle.swc_loader.specs.Search.{index_files, places, place_without_entry, package_file, found_or_nothing, entry_places, folder, place_at}
+use Rattle.swc_loader.specs.Search.{
+  index_files,
+  places,
+  place_without_entry,
+  package_file,
+  found_or_nothing,
+  entry_places,
+  folder,
+  place_at,
+}
 
 -- the first of paths that is a file
 abbrev pub first_on : Files → List Path → Told Searched

@@ -37,7 +37,8 @@ abbrev pub answer_of : Option Via → Path → FileName → Resolution
 answer_of via f name =
     record { filename = name; slug = None; found = Some (record { file = text_of f; via = via }) }
 
--- A name that isn't looked for as a file: that of a builtin module, or of what a rule ignores. It is answered without a file.
+-- A name that isn't looked for as a file: that of a builtin module, or of what a rule ignores. It is answered without a
+-- file.
 abbrev pub custom : List ℕ → Resolution
 custom name = record { filename = Custom name; slug = None; found = None }
 

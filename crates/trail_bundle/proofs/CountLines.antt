@@ -1,5 +1,26 @@
 -- The line of the counts: it has no line end, and tells both counts.
-use Rattle.std.proofs.Common.{◌≡◌, ◌≤◌, ◌<◌, ◌==◌, nat_le, not, ℕ, true, List, [], ◌∷◌, ◌++◌, refl, sym, ap, ◌∙◌, leb-true, ◌^◌, append_assoc, arith}
+use Rattle.std.proofs.Common.{
+  ◌≡◌,
+  ◌≤◌,
+  ◌<◌,
+  ◌==◌,
+  nat_le,
+  not,
+  ℕ,
+  true,
+  List,
+  [],
+  ◌∷◌,
+  ◌++◌,
+  refl,
+  sym,
+  ap,
+  ◌∙◌,
+  leb-true,
+  ◌^◌,
+  append_assoc,
+  arith,
+}
 use Rattle.std.specs.Fmt.{decimal}
 use Rattle.std.specs.List.{list_all}
 use Rattle.std.specs.Prelude.{codes}
@@ -19,10 +40,12 @@ digits-lack : (c : ℕ) → c < 48 → (ds : List ℕ) → list_all is_decimal d
 digits-lack c small [] h = refl
 digits-lack c small (d ∷ ds) h =
     let low : 48 ≤ d = leb-true 48 d (and_left (nat_le 48 d) _ (and_left (is_decimal d) _ h)) in
-    and_both (not (d == c)) _ (ap not (ne_eqb d c (λ e. omega arith))) (digits-lack c small ds (and_right (is_decimal d) _ h))
+    and_both (not (d == c)) _ (ap not (ne_eqb d c (λ e. omega arith)))
+    (digits-lack c small ds (and_right (is_decimal d) _ h))
 
 pub count-lacks : (c : ℕ) → c < 48 → (n : ℕ) → lacks c (count_text n) ≡ true
-count-lacks c small n = digits-lack c small (count_text n) (and_left (list_all is_decimal (count_text n)) _ (count_text-is_count n))
+count-lacks c small n =
+    digits-lack c small (count_text n) (and_left (list_all is_decimal (count_text n)) _ (count_text-is_count n))
 
 pub line-counts : (r q : ℕ) → is_line (counts_line r q) ≡ true
 unfolding counts_line
@@ -33,12 +56,14 @@ line-counts r q =
 pub same-counts : (r q m n : ℕ) → counts_line r q ≡ counts_line m n → (r ≡ m) × (q ≡ n)
 unfolding counts_line
 same-counts r q m n is =
-    let told = same_parts 32 (count_text r) (count_text m) (count_text q) (count_text n) (count-lacks 32 (omega arith) r) (count-lacks 32 (omega arith) m)
+    let told = same_parts 32 (count_text r) (count_text m) (count_text q) (count_text n)
+    (count-lacks 32 (omega arith) r) (count-lacks 32 (omega arith) m)
     (append_cancel_left (codes "trail-bundle 1 ") _ _ is) in
     (same-count r m told.0, same-count q n told.1)
 
 -- how the line is written
-pub counts-written : (r q : ℕ) → r < 2 ^ 64 → q < 2 ^ 64 → codes "trail-bundle 1 " ++ (decimal r ++ 32 ∷ (decimal q ++ 10 ∷ [])) ≡ ended (counts_line r q)
+pub counts-written : (r q : ℕ) → r < 2 ^ 64 → q < 2 ^ 64 → codes "trail-bundle 1 "
+    ++ (decimal r ++ 32 ∷ (decimal q ++ 10 ∷ [])) ≡ ended (counts_line r q)
 unfolding counts_line
 counts-written r q h k =
     let word = codes "trail-bundle 1 " in

@@ -1,5 +1,45 @@
 -- What a map has for a question, and what is put in and taken out.
-use Rattle.std.proofs.Common.{◌≡◌, ◌||◌, ℕ, zero, suc, Bool, true, false, cond, List, [], ◌∷◌, ◌++◌, Option, Some, None, is_some, Ordering, Less, Equal, Greater, length, Result, Ok, Err, inl, inr, refl, sym, ap, ◌∙◌, subst, arith, append_assoc, append-nil, take, ◌-◌, is_err, length-append}
+use Rattle.std.proofs.Common.{
+  ◌≡◌,
+  ◌||◌,
+  ℕ,
+  zero,
+  suc,
+  Bool,
+  true,
+  false,
+  cond,
+  List,
+  [],
+  ◌∷◌,
+  ◌++◌,
+  Option,
+  Some,
+  None,
+  is_some,
+  Ordering,
+  Less,
+  Equal,
+  Greater,
+  length,
+  Result,
+  Ok,
+  Err,
+  inl,
+  inr,
+  refl,
+  sym,
+  ap,
+  ◌∙◌,
+  subst,
+  arith,
+  append_assoc,
+  append-nil,
+  take,
+  ◌-◌,
+  is_err,
+  length-append,
+}
 use Rattle.std.specs.Prelude.{IfErr, IsErrAnd, OnErr}
 use Rattle.std.specs.BTreeMap.{BTreeMap, UpdatesBy, insert_entry, is_at}
 use Rattle.std.specs.Bool.{passes}
@@ -66,31 +106,42 @@ equal Greater h = cc
 pub same_test : (p q : Question) → is_eq (question_cmp q p) ≡ question_eq p q
 same_test p q = both_ways (is_eq (question_cmp q p)) (question_eq p q)
     (λ h. let same = one_question q p (equal _ h) in ap (question_eq p) same ∙ question_eq-refl p)
-    (λ h. let same = question_eq-is p q h in ap (λ r. is_eq (question_cmp r p)) (sym same) ∙ ap is_eq (tied_itself question_cmp_total p))
+    (λ h. let same = question_eq-is p q h in ap (λ r. is_eq (question_cmp r p)) (sym same)
+    ∙ ap is_eq (tied_itself question_cmp_total p))
 
 -- what a look-up finds
-pub lookup_is : (es : List (Ordered × Reply)) (q : Question) → lookup (is_at (λ (k : Ordered). question_cmp q k.question)) es ≡ reply_in (steps_of es) q
+pub lookup_is : (es : List (Ordered × Reply)) (q : Question)
+    → lookup (is_at (λ (k : Ordered). question_cmp q k.question)) es ≡ reply_in (steps_of es) q
 lookup_is [] q = refl
 lookup_is (e ∷ es) q =
-    ap (λ b. cond b (Some e.1) (lookup (is_at (λ (k : Ordered). question_cmp q k.question)) es)) (same_test e.0.question q)
+    ap (λ b. cond b (Some e.1) (lookup (is_at (λ (k : Ordered). question_cmp q k.question)) es))
+    (same_test e.0.question q)
     ∙ ap (cond (question_eq e.0.question q) (Some e.1)) (lookup_is es q)
 
-pub fit-insert : (es : List (Ordered × Reply)) (k : Ordered) (r : Reply) → list_all is_reply (steps_of es) ≡ true → is_reply (k.question, r) ≡ true → list_all is_reply (steps_of (insert_entry ordered_cmp es k r)) ≡ true
+pub fit-insert : (es : List (Ordered × Reply)) (k : Ordered) (r : Reply) → list_all is_reply (steps_of es) ≡ true
+    → is_reply (k.question, r) ≡ true → list_all is_reply (steps_of (insert_entry ordered_cmp es k r)) ≡ true
 fit-insert [] k r h fits = and_both (is_reply (k.question, r)) true fits refl
-fit-insert (e ∷ es) k r h fits = by_order (ordered_cmp k e.0) refl (fit-insert es k r (and_right (is_reply (e.0.question, e.1)) _ h) fits)
+fit-insert (e ∷ es) k r h fits =
+    by_order (ordered_cmp k e.0) refl (fit-insert es k r (and_right (is_reply (e.0.question, e.1)) _ h) fits)
   where
-    by_order : (c : Ordering) → ordered_cmp k e.0 ≡ c → list_all is_reply (steps_of (insert_entry ordered_cmp es k r)) ≡ true → list_all is_reply (steps_of (match_ordering c ((k, r) ∷ e ∷ es) ((e.0, r) ∷ es) (e ∷ insert_entry ordered_cmp es k r))) ≡ true
+    by_order : (c : Ordering) → ordered_cmp k e.0 ≡ c
+        → list_all is_reply (steps_of (insert_entry ordered_cmp es k r)) ≡ true
+        → list_all is_reply (steps_of (match_ordering c ((k, r) ∷ e ∷ es) ((e.0, r) ∷ es)
+        (e ∷ insert_entry ordered_cmp es k r))) ≡ true
     by_order Less is rest = and_both (is_reply (k.question, r)) _ fits h
     by_order Equal is rest =
-        and_both (is_reply (e.0.question, r)) _ (ap (λ q. is_reply (q, r)) (sym (one_question k.question e.0.question is)) ∙ fits)
+        and_both (is_reply (e.0.question, r)) _ (ap (λ q. is_reply (q, r))
+        (sym (one_question k.question e.0.question is)) ∙ fits)
         (and_right (is_reply (e.0.question, e.1)) _ h)
     by_order Greater is rest = and_both (is_reply (e.0.question, e.1)) _ (and_left _ _ h) rest
 
-pub fit-remove : (test : Ordered → Bool) (es : List (Ordered × Reply)) → list_all is_reply (steps_of es) ≡ true → list_all is_reply (steps_of (remove_entry test es)) ≡ true
+pub fit-remove : (test : Ordered → Bool) (es : List (Ordered × Reply)) → list_all is_reply (steps_of es) ≡ true
+    → list_all is_reply (steps_of (remove_entry test es)) ≡ true
 fit-remove test [] h = refl
 fit-remove test (e ∷ es) h = by_test (test e.0) (fit-remove test es (and_right (is_reply (e.0.question, e.1)) _ h))
   where
-    by_test : (b : Bool) → list_all is_reply (steps_of (remove_entry test es)) ≡ true → list_all is_reply (steps_of (cond b es (e ∷ remove_entry test es))) ≡ true
+    by_test : (b : Bool) → list_all is_reply (steps_of (remove_entry test es)) ≡ true
+        → list_all is_reply (steps_of (cond b es (e ∷ remove_entry test es))) ≡ true
     by_test true rest = and_right (is_reply (e.0.question, e.1)) _ h
     by_test false rest = and_both (is_reply (e.0.question, e.1)) _ (and_left _ _ h) rest
 
@@ -109,7 +160,8 @@ or_held None x h = cc
 or_held (Some r) x h = refl
 
 -- a question that is held already
-pub held : (a : Question → Option Reply) (trail : Question → Option Reply) (p : Question) → is_some (a p) ≡ true → (q : Question) → a q ≡ option_or (a q) (cond (question_eq p q) (trail q) None)
+pub held : (a : Question → Option Reply) (trail : Question → Option Reply) (p : Question) → is_some (a p) ≡ true
+    → (q : Question) → a q ≡ option_or (a q) (cond (question_eq p q) (trail q) None)
 held a trail p some q = by_test (question_eq p q) refl
   where
     by_test : (b : Bool) → question_eq p q ≡ b → a q ≡ option_or (a q) (cond b (trail q) None)
@@ -117,7 +169,9 @@ held a trail p some q = by_test (question_eq p q) refl
     by_test false is = sym (or_nothing (a q))
 
 -- a question that is put in
-pub put_in : (a b : Question → Option Reply) (trail : Question → Option Reply) (p : Question) (r : Reply) → a p ≡ None → trail p ≡ Some r → ((q : Question) → b q ≡ cond (is_eq (question_cmp p q)) (Some r) (a q)) → (q : Question) → b q ≡ option_or (a q) (cond (question_eq p q) (trail q) None)
+pub put_in : (a b : Question → Option Reply) (trail : Question → Option Reply) (p : Question) (r : Reply) → a p ≡ None
+    → trail p ≡ Some r → ((q : Question) → b q ≡ cond (is_eq (question_cmp p q)) (Some r) (a q)) → (q : Question)
+    → b q ≡ option_or (a q) (cond (question_eq p q) (trail q) None)
 put_in a b trail p r none told up q =
     up q ∙ ap (λ t. cond t (Some r) (a q)) (same_test q p ∙ turned q p) ∙ by_test (question_eq p q) refl
   where
@@ -127,7 +181,8 @@ put_in a b trail p r none told up q =
         sym (ap (λ o. option_or o (trail q)) (ap a (sym same) ∙ none) ∙ ap trail (sym same) ∙ told)
     by_test false is = sym (or_nothing (a q))
 
-among-push : (fresh : List Ordered) (k : Ordered) (q : Question) → is_among (fresh ++ k ∷ []) q ≡ (is_among fresh q || question_eq k.question q)
+among-push : (fresh : List Ordered) (k : Ordered) (q : Question)
+    → is_among (fresh ++ k ∷ []) q ≡ (is_among fresh q || question_eq k.question q)
 among-push [] k q = or_false (question_eq k.question q)
   where
     or_false : (b : Bool) → (b || false) ≡ b
@@ -135,12 +190,15 @@ among-push [] k q = or_false (question_eq k.question q)
     or_false false = refl
 among-push (f ∷ fresh) k q = by_first (question_eq f.question q) (among-push fresh k q)
   where
-    by_first : (b : Bool) → is_among (fresh ++ k ∷ []) q ≡ (is_among fresh q || question_eq k.question q) → (b || is_among (fresh ++ k ∷ []) q) ≡ ((b || is_among fresh q) || question_eq k.question q)
+    by_first : (b : Bool) → is_among (fresh ++ k ∷ []) q ≡ (is_among fresh q || question_eq k.question q)
+        → (b || is_among (fresh ++ k ∷ []) q) ≡ ((b || is_among fresh q) || question_eq k.question q)
     by_first true rest = refl
     by_first false rest = rest
 
 -- without a fresh question all is as before it was put in
-pub as_before : (fresh : List Ordered) (k : Ordered) (a b : Question → Option Reply) → a k.question ≡ None → ((q : Question) → question_eq k.question q ≡ false → b q ≡ a q) → (q : Question) → cond (is_among (fresh ++ k ∷ []) q) None (b q) ≡ cond (is_among fresh q) None (a q)
+pub as_before : (fresh : List Ordered) (k : Ordered) (a b : Question → Option Reply) → a k.question ≡ None
+    → ((q : Question) → question_eq k.question q ≡ false → b q ≡ a q) → (q : Question)
+    → cond (is_among (fresh ++ k ∷ []) q) None (b q) ≡ cond (is_among fresh q) None (a q)
 as_before fresh k a b none same q =
     ap (λ t. cond t None (b q)) (among-push fresh k q) ∙ by_fresh (is_among fresh q)
   where
@@ -153,7 +211,8 @@ as_before fresh k a b none same q =
     by_fresh false = by_key (question_eq k.question q) refl
 
 -- one question more is taken out
-pub one_out : (p : Question) (a b : Question → Option Reply) (before : Bool) (q : Question) → b q ≡ cond (is_eq (question_cmp p q)) None (a q) → b q ≡ cond (question_eq p q) None (a q)
+pub one_out : (p : Question) (a b : Question → Option Reply) (before : Bool) (q : Question)
+    → b q ≡ cond (is_eq (question_cmp p q)) None (a q) → b q ≡ cond (question_eq p q) None (a q)
 one_out p a b before q up = up ∙ ap (λ t. cond t None (a q)) (same_test q p ∙ turned q p)
 
 none_of : (o : Option Reply) → is_some o ≡ false → o ≡ None
@@ -161,45 +220,61 @@ none_of None h = refl
 none_of (Some r) h = cc
 
 -- what a look-up by a key tells of its question
-pub found_at : (m : BTreeMap Ordered Reply) (k : Ordered) (p : Question) (b : Bool) → b ≡ is_some (lookup (is_at (ordered_cmp k)) m.entries) → k.question ≡ p → is_some (reply_at m p) ≡ b
-found_at m k p b is same = ap (λ q. is_some (reply_at m q)) (sym same) ∙ ap is_some (sym (lookup_is m.entries k.question)) ∙ sym is
+pub found_at : (m : BTreeMap Ordered Reply) (k : Ordered) (p : Question) (b : Bool)
+    → b ≡ is_some (lookup (is_at (ordered_cmp k)) m.entries) → k.question ≡ p → is_some (reply_at m p) ≡ b
+found_at m k p b is same =
+    ap (λ q. is_some (reply_at m q)) (sym same) ∙ ap is_some (sym (lookup_is m.entries k.question)) ∙ sym is
 
-pub absent_at : (m : BTreeMap Ordered Reply) (k : Ordered) (p : Question) (b : Bool) → b ≡ is_some (lookup (is_at (ordered_cmp k)) m.entries) → k.question ≡ p → b ≡ false → reply_at m p ≡ None
+pub absent_at : (m : BTreeMap Ordered Reply) (k : Ordered) (p : Question) (b : Bool)
+    → b ≡ is_some (lookup (is_at (ordered_cmp k)) m.entries) → k.question ≡ p → b ≡ false → reply_at m p ≡ None
 absent_at m k p b is same lacks = none_of (reply_at m p) (found_at m k p b is same ∙ lacks)
 
 -- a map after a change at a key
-pub changed : (m n : BTreeMap Ordered Reply) (k : Ordered) (p : Question) (w : Option Reply) → UpdatesBy ordered_cmp (ordered_cmp k) m n w → k.question ≡ p → (q : Question) → reply_at n q ≡ cond (is_eq (question_cmp p q)) w (reply_at m q)
+pub changed : (m n : BTreeMap Ordered Reply) (k : Ordered) (p : Question) (w : Option Reply)
+    → UpdatesBy ordered_cmp (ordered_cmp k) m n w → k.question ≡ p → (q : Question)
+    → reply_at n q ≡ cond (is_eq (question_cmp p q)) w (reply_at m q)
 changed m n k p w up same q =
     sym (lookup_is n.entries q) ∙ up.0 (record { question = q })
     ∙ ap (cond (is_eq (question_cmp k.question q)) w) (lookup_is m.entries q)
     ∙ ap (λ r. cond (is_eq (question_cmp r q)) w (reply_at m q)) same
 
-pub others : (a b : Question → Option Reply) (p : Question) (w : Option Reply) → ((q : Question) → b q ≡ cond (is_eq (question_cmp p q)) w (a q)) → (q : Question) → question_eq p q ≡ false → b q ≡ a q
+pub others : (a b : Question → Option Reply) (p : Question) (w : Option Reply)
+    → ((q : Question) → b q ≡ cond (is_eq (question_cmp p q)) w (a q)) → (q : Question) → question_eq p q ≡ false
+    → b q ≡ a q
 others a b p w up q h = up q ∙ ap (λ t. cond t w (a q)) (same_test q p ∙ turned q p ∙ h)
 
 pub unchanged : (m n : BTreeMap Ordered Reply) → n.entries ≡ m.entries → (q : Question) → reply_at n q ≡ reply_at m q
 unchanged m n h q = ap (λ es. reply_in (steps_of es) q) h
 
-pub before_push : (fresh after : List Ordered) (k : Ordered) (m n : BTreeMap Ordered Reply) → after ≡ fresh ++ k ∷ [] → reply_at m k.question ≡ None → ((q : Question) → question_eq k.question q ≡ false → reply_at n q ≡ reply_at m q) → (q : Question) → kept_without after n q ≡ kept_without fresh m q
+pub before_push : (fresh after : List Ordered) (k : Ordered) (m n : BTreeMap Ordered Reply) → after ≡ fresh ++ k ∷ []
+    → reply_at m k.question ≡ None → ((q : Question) → question_eq k.question q ≡ false → reply_at n q ≡ reply_at m q)
+    → (q : Question) → kept_without after n q ≡ kept_without fresh m q
 before_push fresh after k m n is none same q =
     ap (λ f. kept_without f n q) is ∙ as_before fresh k (reply_at m) (reply_at n) none same q
 
-pub are_with : (m n : BTreeMap Ordered Reply) (k : Ordered) (r : Reply) → n.entries ≡ insert_entry ordered_cmp m.entries k r → IsStrictlySortedBy ordered_cmp (keys_of n.entries) → is_reply (k.question, r) ≡ true → AreReplies (steps_of m.entries) → AreReplies (steps_of n.entries)
+pub are_with : (m n : BTreeMap Ordered Reply) (k : Ordered) (r : Reply)
+    → n.entries ≡ insert_entry ordered_cmp m.entries k r → IsStrictlySortedBy ordered_cmp (keys_of n.entries)
+    → is_reply (k.question, r) ≡ true → AreReplies (steps_of m.entries) → AreReplies (steps_of n.entries)
 are_with m n k r is sorted fits are = record {
   ascend = sorted-entries n.entries sorted;
   fit = ap (λ es. list_all is_reply (steps_of es)) is ∙ fit-insert m.entries k r are.fit fits;
 }
 
-pub are_without : (m n : BTreeMap Ordered Reply) (test : Ordered → Bool) → n.entries ≡ remove_entry test m.entries → IsStrictlySortedBy ordered_cmp (keys_of n.entries) → AreReplies (steps_of m.entries) → AreReplies (steps_of n.entries)
+pub are_without : (m n : BTreeMap Ordered Reply) (test : Ordered → Bool) → n.entries ≡ remove_entry test m.entries
+    → IsStrictlySortedBy ordered_cmp (keys_of n.entries) → AreReplies (steps_of m.entries)
+    → AreReplies (steps_of n.entries)
 are_without m n test is sorted are = record {
   ascend = sorted-entries n.entries sorted;
   fit = ap (λ es. list_all is_reply (steps_of es)) is ∙ fit-remove test m.entries are.fit;
 }
 
 -- what is left to be taken out
-pub out_step : (x : Ordered) (rest : List Ordered) (m n : BTreeMap Ordered Reply) → ((q : Question) → reply_at n q ≡ cond (is_eq (question_cmp x.question q)) None (reply_at m q)) → (q : Question) → kept_without rest n q ≡ kept_without (x ∷ rest) m q
+pub out_step : (x : Ordered) (rest : List Ordered) (m n : BTreeMap Ordered Reply)
+    → ((q : Question) → reply_at n q ≡ cond (is_eq (question_cmp x.question q)) None (reply_at m q)) → (q : Question)
+    → kept_without rest n q ≡ kept_without (x ∷ rest) m q
 out_step x rest m n up q =
-    ap (cond (is_among rest q) None) (up q ∙ ap (λ t. cond t None (reply_at m q)) (same_test q x.question ∙ turned q x.question))
+    ap (cond (is_among rest q) None) (up q ∙ ap (λ t. cond t None (reply_at m q))
+    (same_test q x.question ∙ turned q x.question))
     ∙ by_tests (is_among rest q) (question_eq x.question q)
   where
     by_tests : (t u : Bool) → cond t None (cond u None (reply_at m q)) ≡ cond (u || t) None (reply_at m q)
@@ -212,14 +287,19 @@ out_step x rest m n up q =
 pub find_is : (steps : List (Question × Reply)) (q : Question) → find question_cmp q steps ≡ reply_in steps q
 find_is [] q = refl
 find_is (s ∷ steps) q =
-    ap (λ b. cond b (Some s.1) (find question_cmp q steps)) (same_test s.0 q) ∙ ap (cond (question_eq s.0 q) (Some s.1)) (find_is steps q)
+    ap (λ b. cond b (Some s.1) (find question_cmp q steps)) (same_test s.0 q)
+    ∙ ap (cond (question_eq s.0 q) (Some s.1)) (find_is steps q)
 
-pub one_list : (xs ys : List (Question × Reply)) → AreReplies xs → AreReplies ys → ((q : Question) → reply_in xs q ≡ reply_in ys q) → xs ≡ ys
+pub one_list : (xs ys : List (Question × Reply)) → AreReplies xs → AreReplies ys
+    → ((q : Question) → reply_in xs q ≡ reply_in ys q) → xs ≡ ys
 one_list xs ys h k is =
-    same_entries question_cmp question_cmp_total one_question xs ys (passes _ h.ascend) (passes _ k.ascend) (λ q. find_is xs q ∙ is q ∙ sym (find_is ys q))
+    same_entries question_cmp question_cmp_total one_question xs ys (passes _ h.ascend) (passes _ k.ascend)
+    (λ q. find_is xs q ∙ is q ∙ sym (find_is ys q))
 
 -- the conflict of a trail, if there is one
-agree_push : (kept trail before : List (Question × Reply)) (step : Question × Reply) → AllByRecursion (λ s. AgreeAt kept trail s.0) before → AgreeAt kept trail step.0 → AllByRecursion (λ s. AgreeAt kept trail s.0) (before ++ step ∷ [])
+agree_push : (kept trail before : List (Question × Reply)) (step : Question × Reply)
+    → AllByRecursion (λ s. AgreeAt kept trail s.0) before → AgreeAt kept trail step.0
+    → AllByRecursion (λ s. AgreeAt kept trail s.0) (before ++ step ∷ [])
 agree_push kept trail [] step all here = (here, tt)
 agree_push kept trail (s ∷ before) step all here = (all.0, agree_push kept trail before step all.1 here)
 
@@ -229,14 +309,16 @@ pub record Agreed (kept trail rest : List (Question × Reply)) : Type 0 where
   pub in_order : trail ≡ before ++ rest
   pub agree : AllByRecursion (λ s. AgreeAt kept trail s.0) before
 
-pub agreed_more : (kept trail rest more : List (Question × Reply)) (step : Question × Reply) → Agreed kept trail rest → rest ≡ step ∷ more → AgreeAt kept trail step.0 → Agreed kept trail more
+pub agreed_more : (kept trail rest more : List (Question × Reply)) (step : Question × Reply) → Agreed kept trail rest
+    → rest ≡ step ∷ more → AgreeAt kept trail step.0 → Agreed kept trail more
 agreed_more kept trail rest more step so_far next here = record {
   before = so_far.before ++ step ∷ [];
   in_order = so_far.in_order ∙ ap (λ r. so_far.before ++ r) next ∙ sym (append_assoc so_far.before (step ∷ []) more);
   agree = agree_push kept trail so_far.before step so_far.agree here;
 }
 
-agree_found : (kept trail steps : List (Question × Reply)) → AllByRecursion (λ s. AgreeAt kept trail s.0) steps → (q : Question) (x : Reply) → reply_in steps q ≡ Some x → AgreeAt kept trail q
+agree_found : (kept trail steps : List (Question × Reply)) → AllByRecursion (λ s. AgreeAt kept trail s.0) steps
+    → (q : Question) (x : Reply) → reply_in steps q ≡ Some x → AgreeAt kept trail q
 agree_found kept trail [] all q x found = cc
 agree_found kept trail (s ∷ steps) all q x found =
     elim (chosen (question_eq s.0 q) (Some s.1) _ (Some x) found) [
@@ -248,14 +330,19 @@ no_step : (rest : List (Question × Reply)) → length rest ≡ 0 → rest ≡ [
 no_step [] h = refl
 no_step (s ∷ rest) h = absurd (omega arith)
 
-pub all_agree : (kept trail rest : List (Question × Reply)) → Agreed kept trail rest → length rest ≡ 0 → (q : Question) → AgreeAt kept trail q
+pub all_agree : (kept trail rest : List (Question × Reply)) → Agreed kept trail rest → length rest ≡ 0 → (q : Question)
+    → AgreeAt kept trail q
 all_agree kept trail rest so_far none q = λ a b h k.
-    let all : trail ≡ so_far.before = so_far.in_order ∙ ap (λ r. so_far.before ++ r) (no_step rest none) ∙ append-nil so_far.before in
+    let all : trail ≡ so_far.before =
+    so_far.in_order ∙ ap (λ r. so_far.before ++ r) (no_step rest none) ∙ append-nil so_far.before in
     agree_found kept trail so_far.before so_far.agree q b (ap (λ t. reply_in t q) (sym all) ∙ k) a b h k
 
-pub refused_so : {A : Type 0} (kept trail rest more : List (Question × Reply)) (step : Question × Reply) (e : BundleError) (r : Result A BundleError) → IsErrAnd r (λ x. x ≡ e) → Agreed kept trail rest → rest ≡ step ∷ more → TellsDiffer e step.0 kept trail → IfErr r (λ x. IsRefusedBy x kept trail)
+pub refused_so : {A : Type 0} (kept trail rest more : List (Question × Reply)) (step : Question × Reply)
+    (e : BundleError) (r : Result A BundleError) → IsErrAnd r (λ x. x ≡ e) → Agreed kept trail rest → rest ≡ step ∷ more
+    → TellsDiffer e step.0 kept trail → IfErr r (λ x. IsRefusedBy x kept trail)
 refused_so kept trail rest more step e (Ok a) is so_far next told = elim is [ ]
-refused_so kept trail rest more step e (Err x) is so_far next told = subst (λ x. IsRefusedBy x kept trail) (sym is) (by_error e told)
+refused_so kept trail rest more step e (Err x) is so_far next told =
+    subst (λ x. IsRefusedBy x kept trail) (sym is) (by_error e told)
   where
     by_error : (e : BundleError) → TellsDiffer e step.0 kept trail → IsRefusedBy e kept trail
     by_error (Conflict q a b) told = record {
@@ -270,7 +357,8 @@ refused_so kept trail rest more step e (Err x) is so_far next told = subst (λ x
     by_error NoMemory told = tt
 
 -- what a trail has added before what is left
-any-push : (p : Question × Reply → Bool) (xs : List (Question × Reply)) (y : Question × Reply) → list_any p (xs ++ y ∷ []) ≡ (list_any p xs || p y)
+any-push : (p : Question × Reply → Bool) (xs : List (Question × Reply)) (y : Question × Reply)
+    → list_any p (xs ++ y ∷ []) ≡ (list_any p xs || p y)
 any-push p [] y = or_false (p y)
   where
     or_false : (b : Bool) → (b || false) ≡ b
@@ -278,11 +366,13 @@ any-push p [] y = or_false (p y)
     or_false false = refl
 any-push p (x ∷ xs) y = by_first (p x) (any-push p xs y)
   where
-    by_first : (b : Bool) → list_any p (xs ++ y ∷ []) ≡ (list_any p xs || p y) → (b || list_any p (xs ++ y ∷ [])) ≡ ((b || list_any p xs) || p y)
+    by_first : (b : Bool) → list_any p (xs ++ y ∷ []) ≡ (list_any p xs || p y)
+        → (b || list_any p (xs ++ y ∷ [])) ≡ ((b || list_any p xs) || p y)
     by_first true rest = refl
     by_first false rest = rest
 
-or_step : (f t : Option Reply) (a e : Bool) → option_or (option_or f (cond a t None)) (cond e t None) ≡ option_or f (cond (a || e) t None)
+or_step : (f t : Option Reply) (a e : Bool) → option_or (option_or f (cond a t None)) (cond e t None) ≡ option_or f
+    (cond (a || e) t None)
 or_step (Some r) t a e = refl
 or_step None None true true = refl
 or_step None None true false = refl
@@ -296,21 +386,27 @@ pub record Added (from m : Question → Option Reply) (trail rest : List (Questi
   pub in_order : trail ≡ before ++ rest
   pub has : (q : Question) → m q ≡ option_or (from q) (first_of trail before q)
 
-pub added_more : (from m n : Question → Option Reply) (trail rest more : List (Question × Reply)) (step : Question × Reply) → Added from m trail rest → rest ≡ step ∷ more → ((q : Question) → n q ≡ option_or (m q) (cond (question_eq step.0 q) (reply_in trail q) None)) → Added from n trail more
+pub added_more : (from m n : Question → Option Reply) (trail rest more : List (Question × Reply))
+    (step : Question × Reply) → Added from m trail rest → rest ≡ step ∷ more
+    → ((q : Question) → n q ≡ option_or (m q) (cond (question_eq step.0 q) (reply_in trail q) None))
+    → Added from n trail more
 added_more from m n trail rest more step so_far next here = record {
   before = so_far.before ++ step ∷ [];
   in_order = so_far.in_order ∙ ap (λ r. so_far.before ++ r) next ∙ sym (append_assoc so_far.before (step ∷ []) more);
   has = λ q.
       here q ∙ ap (λ o. option_or o (cond (question_eq step.0 q) (reply_in trail q) None)) (so_far.has q)
       ∙ or_step (from q) (reply_in trail q) (list_any (λ s. question_eq s.0 q) so_far.before) (question_eq step.0 q)
-      ∙ ap (λ t. option_or (from q) (cond t (reply_in trail q) None)) (sym (any-push (λ s. question_eq s.0 q) so_far.before step));
+      ∙ ap (λ t. option_or (from q) (cond t (reply_in trail q) None))
+      (sym (any-push (λ s. question_eq s.0 q) so_far.before step));
 }
 
-all_first : (trail : List (Question × Reply)) (steps : List (Question × Reply)) (q : Question) → list_any (λ s. question_eq s.0 q) steps ≡ is_some (reply_in steps q)
+all_first : (trail : List (Question × Reply)) (steps : List (Question × Reply)) (q : Question)
+    → list_any (λ s. question_eq s.0 q) steps ≡ is_some (reply_in steps q)
 all_first trail [] q = refl
 all_first trail (s ∷ steps) q = by_first (question_eq s.0 q) (all_first trail steps q)
   where
-    by_first : (b : Bool) → list_any (λ s. question_eq s.0 q) steps ≡ is_some (reply_in steps q) → (b || list_any (λ s. question_eq s.0 q) steps) ≡ is_some (cond b (Some s.1) (reply_in steps q))
+    by_first : (b : Bool) → list_any (λ s. question_eq s.0 q) steps ≡ is_some (reply_in steps q)
+        → (b || list_any (λ s. question_eq s.0 q) steps) ≡ is_some (cond b (Some s.1) (reply_in steps q))
     by_first true rest = refl
     by_first false rest = rest
 
@@ -318,9 +414,11 @@ if_some : (o : Option Reply) → cond (is_some o) o None ≡ o
 if_some None = refl
 if_some (Some r) = refl
 
-pub all_added : (from m : Question → Option Reply) (trail rest : List (Question × Reply)) → Added from m trail rest → length rest ≡ 0 → (q : Question) → m q ≡ option_or (from q) (reply_in trail q)
+pub all_added : (from m : Question → Option Reply) (trail rest : List (Question × Reply)) → Added from m trail rest
+    → length rest ≡ 0 → (q : Question) → m q ≡ option_or (from q) (reply_in trail q)
 all_added from m trail rest so_far none q =
-    let all : trail ≡ so_far.before = so_far.in_order ∙ ap (λ r. so_far.before ++ r) (no_step rest none) ∙ append-nil so_far.before in
+    let all : trail ≡ so_far.before =
+    so_far.in_order ∙ ap (λ r. so_far.before ++ r) (no_step rest none) ∙ append-nil so_far.before in
     so_far.has q ∙ ap (λ b. option_or (from q) (first_of trail b q)) (sym all)
     ∙ ap (λ t. option_or (from q) (cond t (reply_in trail q) None)) (all_first trail trail q)
     ∙ ap (option_or (from q)) (if_some (reply_in trail q))
@@ -333,10 +431,12 @@ on_error (Err e) P h = h
 pub agree_absent : (kept trail : List (Question × Reply)) (q : Question) → reply_in kept q ≡ None → AgreeAt kept trail q
 agree_absent kept trail q none = λ a b h k. cc
 
-pub agree_same : (kept trail : List (Question × Reply)) (q : Question) (x y : Reply) → Some x ≡ reply_in kept q → Some y ≡ reply_in trail q → x ≡ y → AgreeAt kept trail q
+pub agree_same : (kept trail : List (Question × Reply)) (q : Question) (x y : Reply) → Some x ≡ reply_in kept q
+    → Some y ≡ reply_in trail q → x ≡ y → AgreeAt kept trail q
 agree_same kept trail q x y of_kept of_trail same = λ a b h k. cc
 
-pub kept_at : (m : BTreeMap Ordered Reply) (k : Ordered) (p : Question) (o : Option Reply) → o ≡ lookup (is_at (ordered_cmp k)) m.entries → k.question ≡ p → o ≡ reply_in (steps_of m.entries) p
+pub kept_at : (m : BTreeMap Ordered Reply) (k : Ordered) (p : Question) (o : Option Reply)
+    → o ≡ lookup (is_at (ordered_cmp k)) m.entries → k.question ≡ p → o ≡ reply_in (steps_of m.entries) p
 kept_at m k p o is same = is ∙ lookup_is m.entries k.question ∙ ap (reply_in (steps_of m.entries)) same
 
 pub from_error : {A E : Type 0} (r : Result A E) (P : Type 0) → is_err r ≡ true → OnErr r P → P
@@ -344,7 +444,8 @@ from_error (Ok a) P is h = cc
 from_error (Err e) P is h = h
 
 -- what is left when the last is gone
-pub without_last : {A : Type 0} (xs new old : List A) (y : A) (n : ℕ) → new ≡ take (n - 1) old → n ≡ length old → old ≡ xs ++ y ∷ [] → new ≡ xs
+pub without_last : {A : Type 0} (xs new old : List A) (y : A) (n : ℕ) → new ≡ take (n - 1) old → n ≡ length old
+    → old ≡ xs ++ y ∷ [] → new ≡ xs
 without_last xs new old y n is count front =
     let held : n - 1 ≡ length xs = omega (arith, count, ap length front, length-append xs (y ∷ [])) in
     is ∙ ap (λ k. take k old) held ∙ ap (take (length xs)) front ∙ take-append_seam xs (y ∷ [])

@@ -1,5 +1,32 @@
 -- No line of a bundle has a line end in it.
-use Rattle.std.proofs.Common.{◌≡◌, ◌+◌, ◌/◌, ◌%◌, ◌==◌, ◌&&◌, ◌||◌, nat_lt, not, ℕ, Bool, true, false, cond, List, [], ◌∷◌, ◌++◌, Some, None, refl, ap, ◌∙◌, arith, inl, inr}
+use Rattle.std.proofs.Common.{
+  ◌≡◌,
+  ◌+◌,
+  ◌/◌,
+  ◌%◌,
+  ◌==◌,
+  ◌&&◌,
+  ◌||◌,
+  nat_lt,
+  not,
+  ℕ,
+  Bool,
+  true,
+  false,
+  cond,
+  List,
+  [],
+  ◌∷◌,
+  ◌++◌,
+  Some,
+  None,
+  refl,
+  ap,
+  ◌∙◌,
+  arith,
+  inl,
+  inr,
+}
 use Rattle.std.specs.Char.{digit_char}
 use Rattle.std.proofs.lemmas.Bool.{ne_eqb}
 use Rattle.std.proofs.lemmas.Bool.Decides.{eqb_tells}
@@ -18,7 +45,8 @@ use Rattle.trail_bundle.specs.declared.request.BundleRequest.{BundleRequest}
 use Rattle.trail_bundle.specs.BundleText.{request_line, reply_line}
 use Rattle.trail_bundle.specs.Lines.{is_line}
 
-more_line : (b : Bool) (xs ys : List ℕ) → (is_line xs ≡ true → is_line (xs ++ ys) ≡ true) → b && is_line xs ≡ true → b && is_line (xs ++ ys) ≡ true
+more_line : (b : Bool) (xs ys : List ℕ) → (is_line xs ≡ true → is_line (xs ++ ys) ≡ true) → b && is_line xs ≡ true → b
+    && is_line (xs ++ ys) ≡ true
 more_line true xs ys more h = more h
 more_line false xs ys more h = h
 
@@ -42,12 +70,14 @@ chosen_line true xs ys h k = h
 chosen_line false xs ys h k = k
 
 digit_other : (n : ℕ) → IsOther (digit_char n)
-digit_other n = chosen (nat_lt n 10) (48 + n) (87 + n) (ne_eqb (48 + n) 10 (λ h. omega arith)) (ne_eqb (87 + n) 10 (λ h. omega arith))
+digit_other n = chosen (nat_lt n 10) (48 + n) (87 + n) (ne_eqb (48 + n) 10 (λ h. omega arith))
+    (ne_eqb (87 + n) 10 (λ h. omega arith))
 
 letter_other : (x : ℕ) → IsOther x → IsOther (escape_letter x)
 letter_other x h =
     chosen ((x == 34) || (x == 92)) x _ h
-    (chosen (x == 8) 98 _ refl (chosen (x == 12) 102 _ refl (chosen (x == 10) 110 _ refl (chosen (x == 13) 114 _ refl (chosen (x == 9) 116 0 refl refl)))))
+    (chosen (x == 8) 98 _ refl (chosen (x == 12) 102 _ refl (chosen (x == 10) 110 _ refl
+    (chosen (x == 13) 114 _ refl (chosen (x == 9) 116 0 refl refl)))))
 
 two : (a b : ℕ) → IsOther a → IsOther b → is_line (a ∷ b ∷ []) ≡ true
 two a b h k = one a (b ∷ []) h (one b [] k refl)
@@ -83,7 +113,8 @@ line-quoted : (s : List ℕ) → is_line (quoted s) ≡ true
 line-quoted s = line-append (escape s) (34 ∷ []) (line-escape s) refl
 
 -- a value's text with more behind it
-before : (d : Data) (rest : List ℕ) → is_line (compact_text d) ≡ true → is_line rest ≡ true → is_line (compact_text d ++ rest) ≡ true
+before : (d : Data) (rest : List ℕ) → is_line (compact_text d) ≡ true → is_line rest ≡ true
+    → is_line (compact_text d ++ rest) ≡ true
 before d rest h k = line-append (compact_text d) rest h k
 
 importer_line : (name : FileName) → is_line (compact_text (importer_value name)) ≡ true

@@ -1,5 +1,21 @@
 -- Each line of a bundle reads as the value that it was written for.
-use Rattle.std.proofs.Common.{◌≡◌, ◌≤◌, ℕ, List, [], Option, Some, None, option_and_then, refl, sym, ap, ◌∙◌, arith, append-nil}
+use Rattle.std.proofs.Common.{
+  ◌≡◌,
+  ◌≤◌,
+  ℕ,
+  List,
+  [],
+  Option,
+  Some,
+  None,
+  option_and_then,
+  refl,
+  sym,
+  ap,
+  ◌∙◌,
+  arith,
+  append-nil,
+}
 use Rattle.json.specs.Lex.{tokens}
 use Rattle.json.specs.Json as json
 use Rattle.json.specs.Token.{Token}
@@ -31,17 +47,22 @@ read_back : (d : Data) → IsPlain d → read (compact_text d) ≡ Some d
 read_back d plain =
     let ts = tree.json_tokens (outline d) in
     ap (λ us. alone (json.value max_depth us))
-    (ap tokens (sym (print-outline d)) ∙ tokens-print ts (ArePrintable-json_tokens (outline d) plain.numbers) ∙ sym (append-nil ts))
+    (ap tokens (sym (print-outline d)) ∙ tokens-print ts (ArePrintable-json_tokens (outline d) plain.numbers)
+    ∙ sym (append-nil ts))
     ∙ ap alone (value-json_tokens (outline d) max_depth [] plain.shallow) ∙ plain.same
 
-pub read-request : (importer : FileName) (specifier : List ℕ) → read (compact_text (request_value importer specifier)) ≡ Some (request_value importer specifier)
+pub read-request : (importer : FileName) (specifier : List ℕ)
+    → read (compact_text (request_value importer specifier)) ≡ Some (request_value importer specifier)
 read-request (Real t) specifier = read_back _ (record { same = refl; numbers = (tt, (tt, tt)); shallow = omega arith })
-read-request (Custom t) specifier = read_back _ (record { same = refl; numbers = ((tt, tt), (tt, tt)); shallow = omega arith })
+read-request (Custom t) specifier =
+    read_back _ (record { same = refl; numbers = ((tt, tt), (tt, tt)); shallow = omega arith })
 read-request Anon specifier = read_back _ (record { same = refl; numbers = (tt, (tt, tt)); shallow = omega arith })
 
 pub read-step : (step : Question × Reply) → read (compact_text (step_value step)) ≡ Some (step_value step)
 read-step (q, Flag b) = read_back _ (record { same = refl; numbers = (tt, (tt, (tt, tt))); shallow = omega arith })
 read-step (q, Bytes None) = read_back _ (record { same = refl; numbers = (tt, (tt, (tt, tt))); shallow = omega arith })
-read-step (q, Bytes (Some bytes)) = read_back _ (record { same = refl; numbers = (tt, (tt, (tt, tt))); shallow = omega arith })
+read-step (q, Bytes (Some bytes)) =
+    read_back _ (record { same = refl; numbers = (tt, (tt, (tt, tt))); shallow = omega arith })
 read-step (q, Name None) = read_back _ (record { same = refl; numbers = (tt, (tt, (tt, tt))); shallow = omega arith })
-read-step (q, Name (Some name)) = read_back _ (record { same = refl; numbers = (tt, (tt, (tt, tt))); shallow = omega arith })
+read-step (q, Name (Some name)) =
+    read_back _ (record { same = refl; numbers = (tt, (tt, (tt, tt))); shallow = omega arith })

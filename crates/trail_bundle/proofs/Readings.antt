@@ -1,5 +1,35 @@
 -- Each line's value reads as what it was written for, so that no two have one line.
-use Rattle.std.proofs.Common.{◌≡◌, ◌<◌, ◌/◌, ◌%◌, nat_lt, ltb-true, lt-ltb, ◌&&◌, inl, inr, ℕ, zero, suc, slice_index, Bool, true, List, [], ◌∷◌, Option, Some, None, option_map, option_and_then, refl, sym, ap, ◌∙◌, arith}
+use Rattle.std.proofs.Common.{
+  ◌≡◌,
+  ◌<◌,
+  ◌/◌,
+  ◌%◌,
+  nat_lt,
+  ltb-true,
+  lt-ltb,
+  ◌&&◌,
+  inl,
+  inr,
+  ℕ,
+  zero,
+  suc,
+  slice_index,
+  Bool,
+  true,
+  List,
+  [],
+  ◌∷◌,
+  Option,
+  Some,
+  None,
+  option_map,
+  option_and_then,
+  refl,
+  sym,
+  ap,
+  ◌∙◌,
+  arith,
+}
 use Rattle.std.specs.List.{list_all}
 use Rattle.std.proofs.lemmas.Bool.{cases_lt}
 use Rattle.hex.specs.Hex.{IsBytes, encode_lower, encode_with, lower_digits}
@@ -30,7 +60,8 @@ importer-value Anon = refl
 
 pub request_of-value : (r : BundleRequest) → request_of (request_value r.importer r.specifier) ≡ Some r
 unfolding request_of
-request_of-value r = ap (λ o. option_and_then (λ importer. Some (record { importer = importer; specifier = r.specifier })) o) (importer-value r.importer)
+request_of-value r = ap (λ o. option_and_then (λ importer. Some
+    (record { importer = importer; specifier = r.specifier })) o) (importer-value r.importer)
 
 -- a test that the first numbers pass
 abbrev all_pass : (ℕ → Bool) → ℕ → Bool
@@ -55,7 +86,8 @@ are_bytes [] h k = omega arith
 are_bytes (b ∷ bytes) h zero = ltb-true b 256 (and_left (nat_lt b 256) _ h)
 are_bytes (b ∷ bytes) h (suc k) = are_bytes bytes (and_right (nat_lt b 256) _ h) k
 
-all_lower : (bytes : List ℕ) → list_all (λ b. nat_lt b 256) bytes ≡ true → list_all is_lower_hex_digit (encode_lower bytes) ≡ true
+all_lower : (bytes : List ℕ) → list_all (λ b. nat_lt b 256) bytes ≡ true
+    → list_all is_lower_hex_digit (encode_lower bytes) ≡ true
 unfolding encode_with
 all_lower [] h = refl
 all_lower (b ∷ bytes) h =
@@ -65,7 +97,8 @@ all_lower (b ∷ bytes) h =
     (all_lower bytes (and_right (nat_lt b 256) _ h)))
 
 hex-written : (bytes : List ℕ) → list_all (λ b. nat_lt b 256) bytes ≡ true → hex_bytes (encode_lower bytes) ≡ Some bytes
-hex-written bytes h = hex_read (encode_lower bytes) bytes (all_lower bytes h) (decode_of-encode_lower bytes (are_bytes bytes h))
+hex-written bytes h =
+    hex_read (encode_lower bytes) bytes (all_lower bytes h) (decode_of-encode_lower bytes (are_bytes bytes h))
 
 reply_to-value : (q : Question) (r : Reply) → is_reply (q, r) ≡ true → reply_to q (reply_value r) ≡ Some r
 reply_to-value (File p) (Flag b) h = refl
@@ -96,7 +129,8 @@ question_named-kind (Canon p) = refl
 pub step_of-value : (step : Question × Reply) → is_reply step ≡ true → step_of (step_value step) ≡ Some step
 unfolding step_of
 step_of-value step h =
-    ap (option_and_then (λ q. option_and_then (λ reply. Some (q, reply)) (reply_to q (reply_value step.1)))) (question_named-kind step.0)
+    ap (option_and_then (λ q. option_and_then (λ reply. Some (q, reply)) (reply_to q (reply_value step.1))))
+    (question_named-kind step.0)
     ∙ ap (option_and_then (λ reply. Some (step.0, reply))) (reply_to-value step.0 step.1 h)
 
 -- what a line is read as
@@ -104,7 +138,8 @@ pub line-request : (r : BundleRequest) → option_and_then request_of (read (req
 unfolding request_line
 line-request r = ap (option_and_then request_of) (read-request r.importer r.specifier) ∙ request_of-value r
 
-pub line-reply : (step : Question × Reply) → is_reply step ≡ true → option_and_then step_of (read (reply_line step)) ≡ Some step
+pub line-reply : (step : Question × Reply) → is_reply step ≡ true
+    → option_and_then step_of (read (reply_line step)) ≡ Some step
 unfolding reply_line
 line-reply step h = ap (option_and_then step_of) (read-step step) ∙ step_of-value step h
 
@@ -112,7 +147,8 @@ some : {A : Type 0} (a b : A) → Some a ≡ Some b → a ≡ b
 some a b is = cc
 
 pub same-request : (a b : BundleRequest) → request_line a ≡ request_line b → a ≡ b
-same-request a b is = some a b (sym (line-request a) ∙ ap (λ t. option_and_then request_of (read t)) is ∙ line-request b)
+same-request a b is =
+    some a b (sym (line-request a) ∙ ap (λ t. option_and_then request_of (read t)) is ∙ line-request b)
 
 pub same-reply : (a b : Question × Reply) → is_reply a ≡ true → is_reply b ≡ true → reply_line a ≡ reply_line b → a ≡ b
 same-reply a b h k is = some a b (sym (line-reply a h) ∙ ap (λ t. option_and_then step_of (read t)) is ∙ line-reply b k)
@@ -122,19 +158,28 @@ unfolding step_of
 step_of-nothing d is = rw is refl
 
 -- a line that reads as nothing, or as another one, isn't that of a request
-pub no-request : (line : List ℕ) (r : BundleRequest) → option_and_then request_of (read line) ≡ None → line ≡ request_line r → ⊥
-no-request line r nothing is = let some = sym nothing ∙ ap (λ t. option_and_then request_of (read t)) is ∙ line-request r in cc
+pub no-request : (line : List ℕ) (r : BundleRequest) → option_and_then request_of (read line) ≡ None
+    → line ≡ request_line r → ⊥
+no-request line r nothing is =
+    let some = sym nothing ∙ ap (λ t. option_and_then request_of (read t)) is ∙ line-request r in cc
 
-pub read-as : (line : List ℕ) (r found : BundleRequest) → option_and_then request_of (read line) ≡ Some found → line ≡ request_line r → request_line found ≡ line
-read-as line r found reads is = ap request_line (some found r (sym reads ∙ ap (λ t. option_and_then request_of (read t)) is ∙ line-request r)) ∙ sym is
+pub read-as : (line : List ℕ) (r found : BundleRequest) → option_and_then request_of (read line) ≡ Some found
+    → line ≡ request_line r → request_line found ≡ line
+read-as line r found reads is = ap request_line (some found r
+    (sym reads ∙ ap (λ t. option_and_then request_of (read t)) is ∙ line-request r)) ∙ sym is
 
-pub no-step : (line : List ℕ) (step : Question × Reply) → is_reply step ≡ true → option_and_then step_of (read line) ≡ None → line ≡ reply_line step → ⊥
-no-step line step h nothing is = let some = sym nothing ∙ ap (λ t. option_and_then step_of (read t)) is ∙ line-reply step h in cc
+pub no-step : (line : List ℕ) (step : Question × Reply) → is_reply step ≡ true
+    → option_and_then step_of (read line) ≡ None → line ≡ reply_line step → ⊥
+no-step line step h nothing is =
+    let some = sym nothing ∙ ap (λ t. option_and_then step_of (read t)) is ∙ line-reply step h in cc
 
-pub step-read-as : (line : List ℕ) (step found : Question × Reply) → is_reply step ≡ true → option_and_then step_of (read line) ≡ Some found → line ≡ reply_line step → reply_line found ≡ line
-step-read-as line step found h reads is = ap reply_line (some found step (sym reads ∙ ap (λ t. option_and_then step_of (read t)) is ∙ line-reply step h)) ∙ sym is
+pub step-read-as : (line : List ℕ) (step found : Question × Reply) → is_reply step ≡ true
+    → option_and_then step_of (read line) ≡ Some found → line ≡ reply_line step → reply_line found ≡ line
+step-read-as line step found h reads is = ap reply_line (some found step
+    (sym reads ∙ ap (λ t. option_and_then step_of (read t)) is ∙ line-reply step h)) ∙ sym is
 
-map-some : {A : Type 0} (wrap : A → Reply) (o : Option A) (r : Reply) → option_map wrap o ≡ Some r → (a : A) × (r ≡ wrap a)
+map-some : {A : Type 0} (wrap : A → Reply) (o : Option A) (r : Reply) → option_map wrap o ≡ Some r → (a : A)
+    × (r ≡ wrap a)
 map-some wrap None r is = cc
 map-some wrap (Some a) r is = (a, sym (some (wrap a) r is))
 

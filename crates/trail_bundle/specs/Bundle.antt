@@ -1,4 +1,5 @@
--- A bundle: its requests in order, and a finite map from questions to replies, as the list of its pairs in the order of the questions.
+-- A bundle: its requests in order, and a finite map from questions to replies, as the list of its pairs in the order of
+-- the questions.
 use Rattle.std.specs.Prelude.{Bool, true, nat_lt, ◌&&◌, IsTrue, List, Some, None}
 use Rattle.std.specs.FinMap.{is_sorted}
 use Rattle.std.specs.List.{list_all}

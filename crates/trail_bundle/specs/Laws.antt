@@ -25,13 +25,16 @@ AreAmong trail replies = (q : Question) (r : Reply) → reply_in trail q ≡ Som
 -- The trails that were added decide their requests.
 pub record TrailsDecide : Type 0 where
   -- After a trail was added, its first replies are among the bundle's, beside all that were there before.
-  pub added : (request : BundleRequest) (trail : List (Question × Reply)) (old new : Bundle) → IsAdded request trail old new
+  pub added : (request : BundleRequest) (trail : List (Question × Reply)) (old new : Bundle)
+      → IsAdded request trail old new
       → AreAmong trail new.replies × AreAmong old.replies new.replies
-  -- Where the first replies of a trail that settles a request's verdict are among a bundle's, that is the verdict on each tree that agrees with the bundle.
+  -- Where the first replies of a trail that settles a request's verdict are among a bundle's, that is the verdict on
+  -- each tree that agrees with the bundle.
   pub outcome : (project : ProjectSettings) (r : BundleRequest) (v : Verdict) (trail replies : List (Question × Reply))
       → Settles v trail (request_plan project r) → AreAmong trail replies
       → (t : Files) → Agrees t replies → v ≡ answer t (request_plan project r)
-  -- Where the replies of a tree to a request's questions are among a bundle's, each tree that agrees with the bundle has the verdict of that tree.
+  -- Where the replies of a tree to a request's questions are among a bundle's, each tree that agrees with the bundle
+  -- has the verdict of that tree.
   pub verdict : (project : ProjectSettings) (r : BundleRequest) (replies : List (Question × Reply)) (t u : Files)
       → StandsIn replies t (request_plan project r) → Agrees u replies
       → answer u (request_plan project r) ≡ answer t (request_plan project r)

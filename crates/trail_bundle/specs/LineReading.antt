@@ -1,4 +1,5 @@
--- What the value of a line reads as: a request, or a question with its reply. Only the text that is written for it again tells whether the line is one.
+-- What the value of a line reads as: a request, or a question with its reply. Only the text that is written for it
+-- again tells whether the line is one.
 use Rattle.std.specs.Prelude.{ℕ, List, bytes_eq, codes, Option, Some, None, option_map, if◌then◌else◌}
 use Rattle.serde_json.specs.Data.{Data}
 use Rattle.serde_json.specs.Find.{at, as_bool, as_str}

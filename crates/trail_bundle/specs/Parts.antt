@@ -25,7 +25,8 @@ NoRequest text = (r : BundleRequest) → first_lines 1 text ≡ ended (request_l
 
 -- the text's first line isn't that of a reply that may follow these
 abbrev pub NoReply : List (Question × Reply) → List ℕ → Type 0
-NoReply before text = (step : Question × Reply) → AreReplies (before ++ step ∷ []) → first_lines 1 text ≡ ended (reply_line step) → ⊥
+NoReply before text =
+    (step : Question × Reply) → AreReplies (before ++ step ∷ []) → first_lines 1 text ≡ ended (reply_line step) → ⊥
 
 -- an error that tells a line tells this one, for this cause
 abbrev pub TellsLine : DecodeError → ℕ → Type 0 → Type 0

@@ -28,13 +28,15 @@ abbrev pub IsHeld : List (Question × Reply) → ProjectSettings → BundleReque
 IsHeld replies project r = (t : Files) → Agrees t replies
     → first_unrecorded replies (asked t (request_plan project r)) ≡ None
 
--- Verdicts that were replayed: they are those of the requests on each tree that agrees with the replies, which have all questions that are put there.
+-- Verdicts that were replayed: they are those of the requests on each tree that agrees with the replies, which have all
+-- questions that are put there.
 pub record AreReplayed (told : List Verdict) (replies : List (Question × Reply))
     (project : ProjectSettings) (requests : List BundleRequest) : Type 0 where
   pub verdicts : (t : Files) → Agrees t replies → told ≡ verdicts_on t project requests
   pub held : AllByRecursion (IsHeld replies project) requests
 
--- The first request whose order comes to a question that the replies don't have: on each tree that agrees with them it is the first such question of its order, and they have all questions of the requests before.
+-- The first request whose order comes to a question that the replies don't have: on each tree that agrees with them it
+-- is the first such question of its order, and they have all questions of the requests before.
 pub record IsMissed (number : ℕ) (q : Question) (replies : List (Question × Reply))
     (project : ProjectSettings) (requests : List BundleRequest) : Type 0 where
   pub before : List BundleRequest

@@ -6,7 +6,15 @@ use Rattle.swc_loader.specs.declared.resolution.FileName.TheVariants.{Real, Cust
 use Rattle.tree_core.specs.declared.question.Question.{Question}
 use Rattle.tree_core.specs.declared.question.Reply.{Reply}
 use Rattle.tree_core.specs.declared.question.Reply.TheVariants.{Flag, Bytes, Name}
-use Rattle.trail_texts.specs.TrailTexts.{bytes_value, importer_value, question_value, reply_value, request_value, step_value, text_or_null}
+use Rattle.trail_texts.specs.TrailTexts.{
+  bytes_value,
+  importer_value,
+  question_value,
+  reply_value,
+  request_value,
+  step_value,
+  text_or_null,
+}
 
 pub text_without : (o : Option (List ℕ)) → has_float (text_or_null o) ≡ false
 text_without None = refl

@@ -1,7 +1,14 @@
 // Writes questions and replies as values of JSON.
 ghost use Rattle.std.specs.Prelude.{◌≡◌, IfOk};
 ghost use Rattle.serde_json.specs.View.{view};
-ghost use Rattle.trail_texts.specs.TrailTexts.{bytes_value, kind_name, question_value, reply_value, step_value, text_or_null};
+ghost use Rattle.trail_texts.specs.TrailTexts.{
+  bytes_value,
+  kind_name,
+  question_value,
+  reply_value,
+  step_value,
+  text_or_null,
+};
 
 use serde_json::{Value, json};
 use std::alloc::{AllocError, Global};

@@ -1,5 +1,44 @@
 -- Which file is in the way of a path, and what putting and taking files keeps.
-use Rattle.std.proofs.Common.{◌≡◌, ◌≤◌, ◌&&◌, ◌||◌, ◌++◌, ◌⊎◌, inl, inr, ℕ, Bool, true, false, not, cond, List, [], ◌∷◌, Option, Some, None, Result, Ok, Err, OnOk, OnErr, is_err, option_map, IsSome, IfSome, IfNone, is_some, length, refl, sym, ap, ◌∙◌, subst, arith}
+use Rattle.std.proofs.Common.{
+  ◌≡◌,
+  ◌≤◌,
+  ◌&&◌,
+  ◌||◌,
+  ◌++◌,
+  ◌⊎◌,
+  inl,
+  inr,
+  ℕ,
+  Bool,
+  true,
+  false,
+  not,
+  cond,
+  List,
+  [],
+  ◌∷◌,
+  Option,
+  Some,
+  None,
+  Result,
+  Ok,
+  Err,
+  OnOk,
+  OnErr,
+  is_err,
+  option_map,
+  IsSome,
+  IfSome,
+  IfNone,
+  is_some,
+  length,
+  refl,
+  sym,
+  ap,
+  ◌∙◌,
+  subst,
+  arith,
+}
 use Rattle.std.specs.List.{find, list_any}
 use Rattle.std.specs.Bool.{Decides}
 use Rattle.std.specs.Borrow.{Bor}
@@ -8,15 +47,38 @@ use Rattle.std.specs.Cmp.Lexicographic.{slice_cmp, nat_list_cmp_total}
 use Rattle.std.specs.FinMap as finite
 use Rattle.std.proofs.lemmas.Map.Text.{is_eq-slice_cmp}
 use Rattle.std.proofs.lemmas.Slice.Eq.{bytes_eq-Decides}
-use Rattle.tree_core.specs.Tree.{Files, TreeFile, IsValidTree, IsFilePath, is_root_text, is_clean_path, is_file, is_folder, stands_above}
+use Rattle.tree_core.specs.Tree.{
+  Files,
+  TreeFile,
+  IsValidTree,
+  IsFilePath,
+  is_root_text,
+  is_clean_path,
+  is_file,
+  is_folder,
+  stands_above,
+}
 use Rattle.tree_core.specs.Memory.{IsStore, with_file, NoneAbove, HasBelow, conflicts, conflict}
-use Rattle.tree_core.proofs.Above.{continues, above-continues, continues-from, above-from, above-is, above-trans, above-shorter, of_two_above}
+use Rattle.tree_core.proofs.Above.{
+  continues,
+  above-continues,
+  continues-from,
+  above-from,
+  above-is,
+  above-trans,
+  above-shorter,
+  of_two_above,
+}
 
 abbrev pub same_text : List ℕ → List ℕ → Bool
 same_text = eq_by_cmp (slice_cmp nat_cmp)
 
 pub same_text-Decides : (a b : List ℕ) → Decides (same_text a b) (a ≡ b)
-same_text-Decides a b = (λ h. (bytes_eq-Decides a b).0 (sym (is_eq-slice_cmp a b) ∙ h), λ e. is_eq-slice_cmp a b ∙ (bytes_eq-Decides a b).1 e)
+same_text-Decides a b = (
+  λ h. (bytes_eq-Decides a b).0 (sym (is_eq-slice_cmp a b) ∙ h),
+  λ e. is_eq-slice_cmp a b
+      ∙ (bytes_eq-Decides a b).1 e,
+)
 
 -- the list has the text
 abbrev pub Has : List (List ℕ) → List ℕ → Type 0
@@ -47,26 +109,34 @@ pub has-tail : (k q : List ℕ) (ks : List (List ℕ)) → Has ks q → Has (k �
 has-tail k q ks h = or_right (same_text q k) (list_any (same_text q) ks) h
 
 -- the only one that passes is the first that does
-pub find-only : (P : List ℕ → Bool) (k : List ℕ) (ks : List (List ℕ)) → Has ks k → P k ≡ true → ((q : List ℕ) → Has ks q → P q ≡ true → q ≡ k) → find P ks ≡ Some k
+pub find-only : (P : List ℕ → Bool) (k : List ℕ) (ks : List (List ℕ)) → Has ks k → P k ≡ true
+    → ((q : List ℕ) → Has ks q → P q ≡ true → q ≡ k) → find P ks ≡ Some k
 find-only P k [] has pass only = cc
 find-only P k (x ∷ ks) has pass only =
-    by_test (P x) refl (or_cases (same_text k x) (list_any (same_text k) ks) has) (λ rest. find-only P k ks rest pass (λ q h. only q (has-tail x q ks h)))
+    by_test (P x) refl (or_cases (same_text k x) (list_any (same_text k) ks) has)
+    (λ rest. find-only P k ks rest pass (λ q h. only q (has-tail x q ks h)))
   where
-    by_test : (b : Bool) → P x ≡ b → (same_text k x ≡ true) ⊎ Has ks k → (Has ks k → find P ks ≡ Some k) → cond b (Some x) (find P ks) ≡ Some k
+    by_test : (b : Bool) → P x ≡ b → (same_text k x ≡ true) ⊎ Has ks k → (Has ks k → find P ks ≡ Some k)
+        → cond b (Some x) (find P ks) ≡ Some k
     by_test true e w rest = ap Some (only x (has-head x ks) e)
-    by_test false e (inl w) rest = let same : k ≡ x = (same_text-Decides k x).0 w in let passed : P x ≡ true = subst (λ (q : List ℕ). P q ≡ true) same pass in cc
+    by_test false e (inl w) rest = let same : k ≡ x = (same_text-Decides k x).0 w in let passed : P x ≡ true =
+        subst (λ (q : List ℕ). P q ≡ true) same pass in cc
     by_test false e (inr w) rest = rest w
 
-pub find-same : (P Q : List ℕ → Bool) (ks : List (List ℕ)) → ((q : List ℕ) → Has ks q → P q ≡ Q q) → find P ks ≡ find Q ks
+pub find-same : (P Q : List ℕ → Bool) (ks : List (List ℕ)) → ((q : List ℕ) → Has ks q → P q ≡ Q q)
+    → find P ks ≡ find Q ks
 find-same P Q [] same = refl
 find-same P Q (x ∷ ks) same =
-    ap (λ b. cond b (Some x) (find P ks)) (same x (has-head x ks)) ∙ ap (cond (Q x) (Some x)) (find-same P Q ks (λ q h. same q (has-tail x q ks h)))
+    ap (λ b. cond b (Some x) (find P ks)) (same x (has-head x ks))
+    ∙ ap (cond (Q x) (Some x)) (find-same P Q ks (λ q h. same q (has-tail x q ks h)))
 
 pub none-found : (P : List ℕ → Bool) (ks : List (List ℕ)) → find P ks ≡ None → (q : List ℕ) → Has ks q → P q ≡ false
 none-found P [] none q has = cc
-none-found P (x ∷ ks) none q has = by_test (P x) refl none (or_cases (same_text q x) (list_any (same_text q) ks) has) (none-found P ks)
+none-found P (x ∷ ks) none q has =
+    by_test (P x) refl none (or_cases (same_text q x) (list_any (same_text q) ks) has) (none-found P ks)
   where
-    by_test : (b : Bool) → P x ≡ b → cond b (Some x) (find P ks) ≡ None → (same_text q x ≡ true) ⊎ Has ks q → (find P ks ≡ None → (q : List ℕ) → Has ks q → P q ≡ false) → P q ≡ false
+    by_test : (b : Bool) → P x ≡ b → cond b (Some x) (find P ks) ≡ None → (same_text q x ≡ true) ⊎ Has ks q
+        → (find P ks ≡ None → (q : List ℕ) → Has ks q → P q ≡ false) → P q ≡ false
     by_test true e none w rest = cc
     by_test false e none (inl w) rest = let same : q ≡ x = (same_text-Decides q x).0 w in ap P same ∙ e
     by_test false e none (inr w) rest = rest none q w
@@ -75,7 +145,8 @@ pub any-found : (P : List ℕ → Bool) (ks : List (List ℕ)) → list_any P ks
 any-found P [] = refl
 any-found P (x ∷ ks) = by_test (P x) (any-found P ks)
   where
-    by_test : (b : Bool) → list_any P ks ≡ is_some (find P ks) → (b || list_any P ks) ≡ is_some (cond b (Some x) (find P ks))
+    by_test : (b : Bool) → list_any P ks ≡ is_some (find P ks)
+        → (b || list_any P ks) ≡ is_some (cond b (Some x) (find P ks))
     by_test true rest = refl
     by_test false rest = rest
 
@@ -91,20 +162,25 @@ file-apart t q valid there = not_first (is_root_text q) (is_clean_path q) (valid
     not_first true b h = cc
     not_first false b h = refl
 
-pub any-below : (p : List ℕ) (ks : List (List ℕ)) → is_root_text p ≡ false → list_any (stands_above p) ks ≡ list_any (continues p) ks
+pub any-below : (p : List ℕ) (ks : List (List ℕ)) → is_root_text p ≡ false
+    → list_any (stands_above p) ks ≡ list_any (continues p) ks
 any-below p ks apart = ap (λ root. list_any (λ q. cond root (not (is_root_text q)) (continues p q)) ks) apart
 
-pub find-below : (p : List ℕ) (ks : List (List ℕ)) → is_root_text p ≡ false → find (stands_above p) ks ≡ find (continues p) ks
+pub find-below : (p : List ℕ) (ks : List (List ℕ)) → is_root_text p ≡ false
+    → find (stands_above p) ks ≡ find (continues p) ks
 find-below p ks apart = ap (λ root. find (λ q. cond root (not (is_root_text q)) (continues p q)) ks) apart
 
 -- a file above is the only one in the way
-pub conflict-above : (t : Files) (p k : List ℕ) → IsValidTree t → is_root_text p ≡ false → is_file t k ≡ true → stands_above k p ≡ true → conflict t p ≡ Some k
+pub conflict-above : (t : Files) (p k : List ℕ) → IsValidTree t → is_root_text p ≡ false → is_file t k ≡ true
+    → stands_above k p ≡ true → conflict t p ≡ Some k
 conflict-above t p k valid under there above =
-    find-only (conflicts p) k (finite.keys t) (has-key t k there) (or_right (stands_above p k) (stands_above k p) above) (λ q has h. only q (key-has t q has) (or_cases (stands_above p q) (stands_above q p) h))
+    find-only (conflicts p) k (finite.keys t) (has-key t k there) (or_right (stands_above p k) (stands_above k p) above)
+    (λ q has h. only q (key-has t q has) (or_cases (stands_above p q) (stands_above q p) h))
   where
     only : (q : List ℕ) → is_file t q ≡ true → (stands_above p q ≡ true) ⊎ (stands_above q p ≡ true) → q ≡ k
     only q file (inl w) =
-        let through = above-from k q (file-apart t k valid there) (above-trans k p q (continues-from k p (file-apart t k valid there) above) (continues-from p q under w)) in
+        let through = above-from k q (file-apart t k valid there)
+        (above-trans k p q (continues-from k p (file-apart t k valid there) above) (continues-from p q under w)) in
         let apart = valid.apart k q there file in
         cc
     only q file (inr w) = by_case (of_two_above q k (of_q).0 (of_k).0 (sym (of_q).1 ∙ (of_k).1))
@@ -117,19 +193,23 @@ conflict-above t p k valid under there above =
 
         by_case : (q ≡ k) ⊎ ((continues q k ≡ true) ⊎ (continues k q ≡ true)) → q ≡ k
         by_case (inl w) = w
-        by_case (inr (inl w)) = let over = above-from q k (file-apart t q valid file) w in let apart = valid.apart q k file there in cc
-        by_case (inr (inr w)) = let over = above-from k q (file-apart t k valid there) w in let apart = valid.apart k q there file in cc
+        by_case (inr (inl w)) =
+            let over = above-from q k (file-apart t q valid file) w in let apart = valid.apart q k file there in cc
+        by_case (inr (inr w)) =
+            let over = above-from k q (file-apart t k valid there) w in let apart = valid.apart k q there file in cc
 
 -- with none above, what is in the way is the first below
 pub conflict-below : (t : Files) (p : List ℕ) → NoneAbove t p → conflict t p ≡ find (stands_above p) (finite.keys t)
-conflict-below t p none = find-same (conflicts p) (stands_above p) (finite.keys t) (λ q has. by_test (stands_above p q) (stands_above q p) (none q (key-has t q has)))
+conflict-below t p none = find-same (conflicts p) (stands_above p) (finite.keys t)
+    (λ q has. by_test (stands_above p q) (stands_above q p) (none q (key-has t q has)))
   where
     by_test : (a b : Bool) → b ≡ false → (a || b) ≡ a
     by_test true b e = refl
     by_test false b e = e
 
 -- No file stands above a path with a file below: it would stand above that file.
-above-files : (t : Files) (p q : List ℕ) → IsValidTree t → is_root_text p ≡ false → HasBelow t p → is_file t q ≡ true → stands_above q p ≡ false
+above-files : (t : Files) (p q : List ℕ) → IsValidTree t → is_root_text p ≡ false → HasBelow t p → is_file t q ≡ true
+    → stands_above q p ≡ false
 above-files t p q valid under below there = by_test (stands_above q p) refl
   where
     by_test : (b : Bool) → stands_above q p ≡ b → b ≡ false
@@ -138,7 +218,9 @@ above-files t p q valid under below there = by_test (stands_above q p) refl
         cc
       where
         lower : (w : List ℕ) → Has (finite.keys t) w → (b : Bool) → stands_above p w ≡ b → b ≡ false
-        lower w has true e = let own = file-apart t q valid there in let through = above-from q w own (above-trans q p w (continues-from q p own above) (continues-from p w under e)) in let apart = valid.apart q w there (key-has t w has) in cc
+        lower w has true e = let own = file-apart t q valid there in let through =
+            above-from q w own (above-trans q p w (continues-from q p own above) (continues-from p w under e)) in
+            let apart = valid.apart q w there (key-has t w has) in cc
         lower w has false e = refl
     by_test false above = refl
 
@@ -147,7 +229,9 @@ pub none-above_folder : (t : Files) (p : List ℕ) → IsValidTree t → is_root
 none-above_folder t p valid under below = λ q there. above-files t p q valid under below there
 
 -- what is found above, or below, is in the way
-pub conflict-is : (t : Files) (p : List ℕ) (o : Option (Bor (List ℕ))) → IsValidTree t → is_root_text p ≡ false → find (stands_above p) (finite.keys t) ≡ None → IfSome o (λ k. is_file t k.now ≡ true) → IfSome o (λ k. stands_above k.now p ≡ true) → IfNone o (NoneAbove t p) → option_map (λ k. k.now) o ≡ conflict t p
+pub conflict-is : (t : Files) (p : List ℕ) (o : Option (Bor (List ℕ))) → IsValidTree t → is_root_text p ≡ false
+    → find (stands_above p) (finite.keys t) ≡ None → IfSome o (λ k. is_file t k.now ≡ true)
+    → IfSome o (λ k. stands_above k.now p ≡ true) → IfNone o (NoneAbove t p) → option_map (λ k. k.now) o ≡ conflict t p
 conflict-is t p (Some k) valid under below there above none = sym (conflict-above t p k.now valid under there above)
 conflict-is t p None valid under below there above none = sym (conflict-below t p none ∙ below)
 
@@ -162,16 +246,22 @@ is-conflict t p q there in_way = by_result (conflict t p) refl
     by_result (Some k) e = refl
     by_result None e = let free = no-conflict t p q e there in cc
 
-pub is-no_conflict : (t : Files) (p : List ℕ) → ((q : List ℕ) → is_file t q ≡ true → stands_above p q ≡ false) → NoneAbove t p → is_some (conflict t p) ≡ false
+pub is-no_conflict : (t : Files) (p : List ℕ) → ((q : List ℕ) → is_file t q ≡ true → stands_above p q ≡ false)
+    → NoneAbove t p → is_some (conflict t p) ≡ false
 is-no_conflict t p below above =
-    sym (any-found (conflicts p) (finite.keys t)) ∙ none-passes (conflicts p) (finite.keys t) (λ q has. neither (below q (key-has t q has)) (above q (key-has t q has)))
+    sym (any-found (conflicts p) (finite.keys t))
+    ∙ none-passes (conflicts p) (finite.keys t) (λ q has. neither (below q (key-has t q has))
+    (above q (key-has t q has)))
   where
     neither : {a b : Bool} → a ≡ false → b ≡ false → (a || b) ≡ false
     neither e f = rw (e, f) refl
 
 -- what has as many bytes as the longest path of a file stands above none
-none-below_longest : (t : Files) (p : List ℕ) (longest : ℕ) → IsStore t longest → is_root_text p ≡ false → longest ≤ length p → list_any (stands_above p) (finite.keys t) ≡ false
-none-below_longest t p longest store under full = none-passes (stands_above p) (finite.keys t) (λ q has. by_test q (stands_above p q) refl (store.room q (key-has t q has)))
+none-below_longest : (t : Files) (p : List ℕ) (longest : ℕ) → IsStore t longest → is_root_text p ≡ false
+    → longest ≤ length p → list_any (stands_above p) (finite.keys t) ≡ false
+none-below_longest t p longest store under full =
+    none-passes (stands_above p) (finite.keys t) (λ q has. by_test q (stands_above p q) refl
+    (store.room q (key-has t q has)))
   where
     by_test : (q : List ℕ) (b : Bool) → stands_above p q ≡ b → length q ≤ longest → b ≡ false
     by_test q true e le = let shorter = above-shorter p q (continues-from p q under e) in absurd (omega arith)
@@ -203,12 +293,15 @@ not_above-itself p = by_root (is_root_text p) refl
     by_root false e = above-continues p p e ∙ by_test (continues p p) refl
 
 -- a file that nothing is in the way of keeps the tree valid
-pub store-put : (t : Files) (p : List ℕ) (f : TreeFile) (longest : ℕ) → IsStore t longest → length p ≤ longest → IsFilePath p → IsFilePath f.canonical → conflict t p ≡ None → IsStore (finite.insert t p f) longest
+pub store-put : (t : Files) (p : List ℕ) (f : TreeFile) (longest : ℕ) → IsStore t longest → length p ≤ longest
+    → IsFilePath p → IsFilePath f.canonical → conflict t p ≡ None → IsStore (finite.insert t p f) longest
 store-put t p f longest store fits path canonical free = record {
   valid = record {
     paths = λ q there. paths q (same_text q p) refl (rw (finite.get-insert nat_list_cmp_total t p f q) at there);
     canonicals = λ q. rw (finite.get-insert nat_list_cmp_total t p f q) (canonicals q (same_text q p));
-    apart = λ q r there here. apart q r (same_text q p) (same_text r p) refl refl (rw (finite.get-insert nat_list_cmp_total t p f q) at there) (rw (finite.get-insert nat_list_cmp_total t p f r) at here);
+    apart = λ q r there here. apart q r (same_text q p) (same_text r p) refl refl
+        (rw (finite.get-insert nat_list_cmp_total t p f q) at there)
+        (rw (finite.get-insert nat_list_cmp_total t p f r) at here);
   };
   room = λ q there. room q (same_text q p) refl (rw (finite.get-insert nat_list_cmp_total t p f q) at there);
 }
@@ -225,19 +318,27 @@ store-put t p f longest store fits path canonical free = record {
     room q true e there = let same : q ≡ p = (same_text-Decides q p).0 e in rw same fits
     room q false e there = store.room q there
 
-    apart : (q r : List ℕ) (a b : Bool) → same_text q p ≡ a → same_text r p ≡ b → IsSome (cond a (Some f) (finite.get t q)) → IsSome (cond b (Some f) (finite.get t r)) → stands_above q r ≡ false
-    apart q r true true d e there here = let one : q ≡ p = (same_text-Decides q p).0 d in let two : r ≡ p = (same_text-Decides r p).0 e in rw (one, two) (not_above-itself p)
-    apart q r true false d e there here = let one : q ≡ p = (same_text-Decides q p).0 d in rw one (or_false_left (stands_above p r) (stands_above r p) (no-conflict t p r free here))
-    apart q r false true d e there here = let two : r ≡ p = (same_text-Decides r p).0 e in rw two (or_false_right (stands_above p q) (stands_above q p) (no-conflict t p q free there))
+    apart : (q r : List ℕ) (a b : Bool) → same_text q p ≡ a → same_text r p ≡ b
+        → IsSome (cond a (Some f) (finite.get t q)) → IsSome (cond b (Some f) (finite.get t r))
+        → stands_above q r ≡ false
+    apart q r true true d e there here = let one : q ≡ p = (same_text-Decides q p).0 d in let two : r ≡ p =
+        (same_text-Decides r p).0 e in rw (one, two) (not_above-itself p)
+    apart q r true false d e there here = let one : q ≡ p = (same_text-Decides q p).0 d in
+        rw one (or_false_left (stands_above p r) (stands_above r p) (no-conflict t p r free here))
+    apart q r false true d e there here = let two : r ≡ p = (same_text-Decides r p).0 e in
+        rw two (or_false_right (stands_above p q) (stands_above q p) (no-conflict t p q free there))
     apart q r false false d e there here = store.valid.apart q r there here
 
 -- a file less keeps the tree valid
 pub store-remove : (t : Files) (p : List ℕ) (longest : ℕ) → IsStore t longest → IsStore (finite.remove t p) longest
 store-remove t p longest store = record {
   valid = record {
-    paths = λ q there. store.valid.paths q (kept q (same_text q p) (rw (finite.get-remove nat_list_cmp_total t p q) at there));
+    paths = λ q there. store.valid.paths q (kept q (same_text q p)
+        (rw (finite.get-remove nat_list_cmp_total t p q) at there));
     canonicals = λ q. rw (finite.get-remove nat_list_cmp_total t p q) (canonicals q (same_text q p));
-    apart = λ q r there here. store.valid.apart q r (kept q (same_text q p) (rw (finite.get-remove nat_list_cmp_total t p q) at there)) (kept r (same_text r p) (rw (finite.get-remove nat_list_cmp_total t p r) at here));
+    apart = λ q r there here. store.valid.apart q r (kept q (same_text q p)
+        (rw (finite.get-remove nat_list_cmp_total t p q) at there))
+        (kept r (same_text r p) (rw (finite.get-remove nat_list_cmp_total t p r) at here));
   };
   room = λ q there. store.room q (kept q (same_text q p) (rw (finite.get-remove nat_list_cmp_total t p q) at there));
 }
@@ -264,21 +365,30 @@ store-empty longest = record {
     nothing q there = let gone = finite.get-empty {X = TreeFile} (slice_cmp nat_cmp) q in cc
 
 -- after a file is put, or out of memory
-pub store-after : {A E : Type 0} (result : Result A E) (t u : Files) (p path : List ℕ) (f : TreeFile) (canonical : List ℕ) (longest more : ℕ) → IsStore t longest → longest ≤ more → length path ≤ more → p ≡ path → f.canonical ≡ canonical → IsFilePath path → IsFilePath canonical → conflict t path ≡ None → OnOk result (u ≡ with_file t p f) → OnErr result (u ≡ t) → IsStore u more
+pub store-after : {A E : Type 0} (result : Result A E) (t u : Files) (p path : List ℕ) (f : TreeFile)
+    (canonical : List ℕ) (longest more : ℕ) → IsStore t longest → longest ≤ more → length path ≤ more → p ≡ path
+    → f.canonical ≡ canonical → IsFilePath path → IsFilePath canonical → conflict t path ≡ None
+    → OnOk result (u ≡ with_file t p f) → OnErr result (u ≡ t) → IsStore u more
 store-after (Ok _) t u p path f canonical longest more store le fits same named path_ok canonical_ok free ok err =
-    rw (ok, same) (store-put t path f more (store-grows t longest more store le) fits path_ok (rw named canonical_ok) free)
-store-after (Err _) t u p path f canonical longest more store le fits same named path_ok canonical_ok free ok err = rw err (store-grows t longest more store le)
+    rw (ok, same) (store-put t path f more (store-grows t longest more store le) fits path_ok (rw named canonical_ok)
+    free)
+store-after (Err _) t u p path f canonical longest more store le fits same named path_ok canonical_ok free ok err =
+    rw err (store-grows t longest more store le)
 
 -- what isn't `/` is a folder where something is below it
-folder-is : (t : Files) (p : List ℕ) (b : Bool) → is_root_text p ≡ false → list_any (stands_above p) (finite.keys t) ≡ b → is_folder t p ≡ b
+folder-is : (t : Files) (p : List ℕ) (b : Bool) → is_root_text p ≡ false → list_any (stands_above p) (finite.keys t) ≡ b
+    → is_folder t p ≡ b
 folder-is t p b apart below = ap (λ root. root || list_any (stands_above p) (finite.keys t)) apart ∙ below
 
 -- What is found below tells folders, where no file's path is longer than the room.
-pub folder-found : (t : Files) (p : List ℕ) (longest : ℕ) (b : Bool) → IsStore t longest → is_root_text p ≡ false → (b ≡ true → HasBelow t p) → (b ≡ false → HasBelow t p → longest ≤ length p) → b ≡ is_folder t p
+pub folder-found : (t : Files) (p : List ℕ) (longest : ℕ) (b : Bool) → IsStore t longest → is_root_text p ≡ false
+    → (b ≡ true → HasBelow t p) → (b ≡ false → HasBelow t p → longest ≤ length p) → b ≡ is_folder t p
 folder-found t p longest true store apart found missed = sym (folder-is t p true apart (found refl))
-folder-found t p longest false store apart found missed = sym (folder-is t p false apart (by_test (list_any (stands_above p) (finite.keys t)) refl))
+folder-found t p longest false store apart found missed =
+    sym (folder-is t p false apart (by_test (list_any (stands_above p) (finite.keys t)) refl))
   where
-    by_test : (b : Bool) → list_any (stands_above p) (finite.keys t) ≡ b → list_any (stands_above p) (finite.keys t) ≡ false
+    by_test : (b : Bool) → list_any (stands_above p) (finite.keys t) ≡ b
+        → list_any (stands_above p) (finite.keys t) ≡ false
     by_test true e = none-below_longest t p longest store apart (missed refl e)
     by_test false e = e
 

@@ -1,5 +1,29 @@
 -- A path stands above another where its names are some first ones of the other's.
-use Rattle.std.proofs.Common.{◌≡◌, ◌≢◌, ◌↔◌, ◌==◌, ◌⊎◌, ℕ, Bool, true, false, not, List, [], ◌∷◌, ◌++◌, IsTrue, refl, sym, ap, ◌∙◌, subst, append_assoc, inl, inr}
+use Rattle.std.proofs.Common.{
+  ◌≡◌,
+  ◌≢◌,
+  ◌↔◌,
+  ◌==◌,
+  ◌⊎◌,
+  ℕ,
+  Bool,
+  true,
+  false,
+  not,
+  List,
+  [],
+  ◌∷◌,
+  ◌++◌,
+  IsTrue,
+  refl,
+  sym,
+  ap,
+  ◌∙◌,
+  subst,
+  append_assoc,
+  inl,
+  inr,
+}
 use Rattle.std.proofs.lemmas.List.{append-nil}
 use Rattle.std.proofs.lemmas.Slice.Eq.{bytes_eq-Decides}
 use Rattle.sugar_path.specs.Path.{Path, IsPath, has_no_slash, steps, text_of}
@@ -13,7 +37,8 @@ apart : (n : List ℕ) (p : Path) → IsPath (n ∷ p) → is_root_text (steps (
 apart n p named = by_test (is_root_text (steps (n ∷ p))) refl
   where
     by_test : (b : Bool) → is_root_text (steps (n ∷ p)) ≡ b → b ≡ false
-    by_test true e = let none : n ∷ p ≡ [] = text_of-injective (n ∷ p) [] named tt ((bytes_eq-Decides (steps (n ∷ p)) (47 ∷ [])).0 e) in cc
+    by_test true e = let none : n ∷ p ≡ [] = text_of-injective (n ∷ p) [] named tt
+        ((bytes_eq-Decides (steps (n ∷ p)) (47 ∷ [])).0 e) in cc
     by_test false e = refl
 
 -- more names stand behind a slash
@@ -21,7 +46,8 @@ goes_on : (p : Path) (n : List ℕ) (more : Path) → continues (steps p) (steps
 goes_on p n [] = is-above (steps p) (steps (n ∷ p)) n refl
 goes_on p n (m ∷ more) =
     let is = above-is (steps p) (steps (m ∷ more ++ p)) (goes_on p m more) in
-    is-above (steps p) (steps (n ∷ m ∷ more ++ p)) (is.0 ++ 47 ∷ n) (ap (λ t. t ++ 47 ∷ n) is.1 ∙ append_assoc (steps p) (47 ∷ is.0) (47 ∷ n))
+    is-above (steps p) (steps (n ∷ m ∷ more ++ p)) (is.0 ++ 47 ∷ n)
+    (ap (λ t. t ++ 47 ∷ n) is.1 ∙ append_assoc (steps p) (47 ∷ is.0) (47 ∷ n))
 
 -- a name has no slash
 no_slash : (z rest : List ℕ) → has_no_slash (z ++ 47 ∷ rest) ≡ true → ⊥
@@ -45,25 +71,30 @@ steps-same [] n p names named e =
 steps-same (m ∷ q) n p names named e = text_of-injective (m ∷ q) (n ∷ p) names named e
 
 -- a text that goes on behind a path's is that of more names
-names-behind : (n : List ℕ) (p q : Path) → IsPath (n ∷ p) → IsPath q → continues (steps (n ∷ p)) (steps q) ≡ true → (more : Path) × (more ≢ []) × (q ≡ more ++ n ∷ p)
-names-behind n p [] named names h = let is = above-is (steps (n ∷ p)) [] h in absurd (not_empty (steps (n ∷ p)) is.0 is.1)
+names-behind : (n : List ℕ) (p q : Path) → IsPath (n ∷ p) → IsPath q → continues (steps (n ∷ p)) (steps q) ≡ true
+    → (more : Path) × (more ≢ []) × (q ≡ more ++ n ∷ p)
+names-behind n p [] named names h =
+    let is = above-is (steps (n ∷ p)) [] h in absurd (not_empty (steps (n ∷ p)) is.0 is.1)
 names-behind n p (m ∷ q) named names h =
     let is = above-is (steps (n ∷ p)) (steps (m ∷ q)) h in
     by_case is.0 is.1 (of_two_above (steps q) (steps (n ∷ p)) m is.0 is.1) (names-behind n p q named names.1)
   where
-    by_case : (rest : List ℕ) → steps q ++ 47 ∷ m ≡ steps (n ∷ p) ++ 47 ∷ rest → (steps q ≡ steps (n ∷ p)) ⊎ ((continues (steps q) (steps (n ∷ p)) ≡ true) ⊎ (continues (steps (n ∷ p)) (steps q) ≡ true))
+    by_case : (rest : List ℕ) → steps q ++ 47 ∷ m ≡ steps (n ∷ p) ++ 47 ∷ rest → (steps q ≡ steps (n ∷ p))
+        ⊎ ((continues (steps q) (steps (n ∷ p)) ≡ true) ⊎ (continues (steps (n ∷ p)) (steps q) ≡ true))
         → (continues (steps (n ∷ p)) (steps q) ≡ true → (more : Path) × (more ≢ []) × (q ≡ more ++ n ∷ p))
         → (more : Path) × (more ≢ []) × (m ∷ q ≡ more ++ n ∷ p)
     by_case rest e (inl same) deeper = (m ∷ [], λ h. cc, ap (λ (r : Path). m ∷ r) (steps-same q n p names.1 named same))
     by_case rest e (inr (inl over)) deeper =
         let is = above-is (steps q) (steps (n ∷ p)) over in
-        let name : m ≡ is.0 ++ 47 ∷ rest = behind (steps q) m (is.0 ++ 47 ∷ rest) (e ∙ ap (λ t. t ++ 47 ∷ rest) is.1 ∙ append_assoc (steps q) (47 ∷ is.0) (47 ∷ rest)) in
+        let name : m ≡ is.0 ++ 47 ∷ rest = behind (steps q) m (is.0 ++ 47 ∷ rest)
+        (e ∙ ap (λ t. t ++ 47 ∷ rest) is.1 ∙ append_assoc (steps q) (47 ∷ is.0) (47 ∷ rest)) in
         absurd (no_slash is.0 rest (ap has_no_slash (sym name) ∙ and_right _ (has_no_slash m) names.0))
     by_case rest e (inr (inr under)) deeper =
         let found = deeper under in
         (m ∷ found.0, λ h. cc, ap (λ (r : Path). m ∷ r) found.2)
 
-pub names-above : (p q : Path) → IsPath p → IsPath q → IsTrue (stands_above (text_of p) (text_of q)) ↔ ((more : Path) × (more ≢ []) × (q ≡ more ++ p))
+pub names-above : (p q : Path) → IsPath p → IsPath q
+    → IsTrue (stands_above (text_of p) (text_of q)) ↔ ((more : Path) × (more ≢ []) × (q ≡ more ++ p))
 names-above [] [] named names = (λ h. cc, λ more. by_more more.0 more.1 more.2)
   where
     by_more : (more : Path) → more ≢ [] → [] ≡ more ++ [] → IsTrue (stands_above (text_of []) (text_of []))
@@ -96,6 +127,8 @@ names-above (n ∷ p) (m ∷ q) named names = (
   λ more. by_more more.0 more.1 more.2,
 )
   where
-    by_more : (more : Path) → more ≢ [] → m ∷ q ≡ more ++ n ∷ p → IsTrue (stands_above (text_of (n ∷ p)) (text_of (m ∷ q)))
+    by_more : (more : Path) → more ≢ [] → m ∷ q ≡ more ++ n ∷ p
+        → IsTrue (stands_above (text_of (n ∷ p)) (text_of (m ∷ q)))
     by_more [] some is = absurd (some refl)
-    by_more (k ∷ more) some is = above-from (steps (n ∷ p)) (steps (m ∷ q)) (apart n p named) (subst (λ (r : Path). continues (steps (n ∷ p)) (text_of r) ≡ true) (sym is) (goes_on (n ∷ p) k more))
+    by_more (k ∷ more) some is = above-from (steps (n ∷ p)) (steps (m ∷ q)) (apart n p named)
+        (subst (λ (r : Path). continues (steps (n ∷ p)) (text_of r) ≡ true) (sym is) (goes_on (n ∷ p) k more))

@@ -29,7 +29,8 @@ question_on-of (Read p) = refl
 question_on-of (Canon p) = refl
 
 -- what asks the same of the same path is the question
-pub same_question : (q : Question) (k : QuestionKind) (p : List ℕ) → k ≡ kind_of q → p ≡ path_asked q → question_on k p ≡ q
+pub same_question : (q : Question) (k : QuestionKind) (p : List ℕ) → k ≡ kind_of q → p ≡ path_asked q
+    → question_on k p ≡ q
 same_question q k p kind path = ap (λ k. question_on k p) kind ∙ ap (question_on (kind_of q)) path ∙ question_on-of q
 
 same_kind-numbers : (a b : Question) → same_kind a b ≡ (number_of (kind_of a) == number_of (kind_of b))
@@ -59,7 +60,9 @@ same_kind-numbers (Canon p) (Exists q) = refl
 same_kind-numbers (Canon p) (Read q) = refl
 same_kind-numbers (Canon p) (Canon q) = refl
 
-pub question_eq-on : (a : Question) (k : QuestionKind) (p : List ℕ) → question_eq a (question_on k p) ≡ ((number_of (kind_of a) == number_of k) && bytes_eq (path_asked a) p)
+pub question_eq-on : (a : Question) (k : QuestionKind) (p : List ℕ)
+    → question_eq a (question_on k p) ≡ ((number_of (kind_of a) == number_of k) && bytes_eq (path_asked a) p)
 question_eq-on a k p =
-    ap (λ b. b && bytes_eq (path_asked a) (path_asked (question_on k p))) (same_kind-numbers a (question_on k p) ∙ ap (λ j. number_of (kind_of a) == number_of j) (kind_of-on k p))
+    ap (λ b. b && bytes_eq (path_asked a) (path_asked (question_on k p)))
+    (same_kind-numbers a (question_on k p) ∙ ap (λ j. number_of (kind_of a) == number_of j) (kind_of-on k p))
     ∙ ap (λ u. (number_of (kind_of a) == number_of k) && bytes_eq (path_asked a) u) (path_asked-on k p)

@@ -20,14 +20,16 @@ pub then_alike : {A B : Type 0} (p : Plan A) (k l : A → Plan B) → ((a : A) �
 then_alike p k l same = ap (λ f. p >>= f) (λ i a. same a i)
 
 -- A row by a plan that may refuse: its refusal is the order's, and its answer goes on.
-pub order-refuses_by : {A R X : Type 0} (p : Plan (Result A X)) (k : A → Row R R X) → order (refuses_by p >>=? k) ≡ p >>=? λ a. order (k a)
+pub order-refuses_by : {A R X : Type 0} (p : Plan (Result A X)) (k : A → Row R R X) → order (refuses_by p >>=? k) ≡ p
+    >>=? λ a. order (k a)
 unfolding order refuses_by ◌>>=◌
 order-refuses_by {A = A} {R = R} {X = X} p k =
     then-then (p >>= λ r. Done (or_refused r)) (on_ok k) (λ going. Done (end_of going))
     ∙ then-then p (λ r. Done (or_refused r)) (λ going. on_ok k going >>= λ e. Done (end_of e))
     ∙ then_alike p _ _ by_result
   where
-    by_result : (r : Result A X) → (let going : Going A R X = or_refused r in on_ok k going >>= λ e. Done (end_of e)) ≡ on_ok (λ a. order (k a)) r
+    by_result : (r : Result A X) → (let going : Going A R X = or_refused r in on_ok k going >>= λ e. Done (end_of e)) ≡
+        on_ok (λ a. order (k a)) r
     by_result (Ok a) = refl
     by_result (Err x) = refl
 
@@ -47,7 +49,8 @@ order-goes_on a k = refl
 -- The last row.
 pub order-last : {R X : Type 0} (p : Plan (Result R X)) → order (refuses_by p) ≡ p
 unfolding order refuses_by ◌>>=◌
-order-last {R = R} {X = X} p = then-then p (λ r. Done (or_refused r)) (λ going. Done (end_of going)) ∙ then_alike p _ Done by_result ∙ then-done p
+order-last {R = R} {X = X} p =
+    then-then p (λ r. Done (or_refused r)) (λ going. Done (end_of going)) ∙ then_alike p _ Done by_result ∙ then-done p
   where
     by_result : (r : Result R X) → (let going : Going R R X = or_refused r in Done (end_of going)) ≡ Done r
     by_result (Ok a) = refl

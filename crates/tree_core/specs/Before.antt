@@ -18,4 +18,5 @@ HasNoLater t text last = (q : List ℕ) → IsSome (get t q) → slice_cmp nat_c
 
 -- what a path shares with another is no file above the path
 abbrev pub SharesNoFile : Files → List ℕ → List ℕ → Type 0
-SharesNoFile t path other = (q : List ℕ) → IsSome (get t q) → IsTrue (stands_above q path) → length q ≡ common_prefix_len nat_eq path other → ⊥
+SharesNoFile t path other =
+    (q : List ℕ) → IsSome (get t q) → IsTrue (stands_above q path) → length q ≡ common_prefix_len nat_eq path other → ⊥

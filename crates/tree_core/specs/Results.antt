@@ -1,4 +1,5 @@
--- One result after the other, and the questions that go with them, for laws in plain functions of the tree. The `>>=` of a `do` over results is that of `sugar_path`.
+-- One result after the other, and the questions that go with them, for laws in plain functions of the tree. The `>>=`
+-- of a `do` over results is that of `sugar_path`.
 use Rattle.std.specs.Prelude.{List, [], Result, Ok, Err}
 pub use Rattle.sugar_path.specs.Results.{◌>>=◌}
 use Rattle.tree_core.specs.declared.question.Question.{Question}

@@ -1,4 +1,5 @@
--- An order that is written row by row: each row gives what the next one goes on with, or ends the order by an answer or a refusal.
+-- An order that is written row by row: each row gives what the next one goes on with, or ends the order by an answer or
+-- a refusal.
 use Rattle.std.specs.Prelude.{Result, Ok, Err}
 use Rattle.tree_core.specs.Plan.{Plan, Done, ◌>>=◌}
 

@@ -1,4 +1,5 @@
--- The `>>=` of a `do` over what is told of searches that may refuse: each line goes on with the answer of the one before, and a refusal ends them all.
+-- The `>>=` of a `do` over what is told of searches that may refuse: each line goes on with the answer of the one
+-- before, and a refusal ends them all.
 use Rattle.std.specs.Prelude.{Result}
 use Rattle.tree_core.specs.Told.{Told, ◌>>=?◌}
 

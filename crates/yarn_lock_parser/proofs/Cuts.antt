@@ -1,5 +1,28 @@
 -- Lines, and the first line of only blanks.
-use Rattle.std.proofs.Common.{◌≡◌, ◌==◌, ◌+◌, ◌-◌, ℕ, suc, Bool, true, false, cond, not, List, [], ◌∷◌, length, take, drop, refl, Option, Some, None, arith}
+use Rattle.std.proofs.Common.{
+  ◌≡◌,
+  ◌==◌,
+  ◌+◌,
+  ◌-◌,
+  ℕ,
+  suc,
+  Bool,
+  true,
+  false,
+  cond,
+  not,
+  List,
+  [],
+  ◌∷◌,
+  length,
+  take,
+  drop,
+  refl,
+  Option,
+  Some,
+  None,
+  arith,
+}
 use Rattle.std.specs.Prelude.{option_map}
 use Rattle.std.specs.Option.{option_or}
 use Rattle.std.specs.List.{prefix_len}
@@ -13,11 +36,14 @@ use Rattle.yarn_lock_parser.proofs.Rests.{either_form, IsLater, later, then_late
 abbrev pub parts : List ℕ → List ℕ → List ℕ × List ℕ
 parts x y = (x, y)
 
-pub run-cons : (set : ℕ → Bool) (c : ℕ) (cs : List ℕ) → run set (c ∷ cs) ≡ cond (set c) (parts (c ∷ (run set cs).0) (run set cs).1) (parts [] (c ∷ cs))
+pub run-cons : (set : ℕ → Bool) (c : ℕ) (cs : List ℕ)
+    → run set (c ∷ cs) ≡ cond (set c) (parts (c ∷ (run set cs).0) (run set cs).1) (parts [] (c ∷ cs))
 unfolding run
 run-cons set c cs = by_test (set c)
   where
-    by_test : (b : Bool) → parts (take (cond b (1 + prefix_len set cs) 0) (c ∷ cs)) (drop (cond b (1 + prefix_len set cs) 0) (c ∷ cs)) ≡ cond b (parts (c ∷ take (prefix_len set cs) cs) (drop (prefix_len set cs) cs)) (parts [] (c ∷ cs))
+    by_test : (b : Bool) → parts (take (cond b (1 + prefix_len set cs) 0) (c ∷ cs))
+        (drop (cond b (1 + prefix_len set cs) 0) (c ∷ cs)) ≡ cond b
+        (parts (c ∷ take (prefix_len set cs) cs) (drop (prefix_len set cs) cs)) (parts [] (c ∷ cs))
     by_test true = let one : 1 + prefix_len set cs ≡ suc (prefix_len set cs) = omega arith in rw one refl
     by_test false = refl
 
@@ -37,10 +63,13 @@ pub around-here : (b c : ℕ) (cs : List ℕ) → (c == b) ≡ true → around b
 unfolding after
 around-here b c cs e = rw (run-cons (λ d. not (d == b)) c cs, e) (rw e refl)
 
-pub around-later : (b c : ℕ) (cs : List ℕ) → (c == b) ≡ false → around b (c ∷ cs) ≡ option_map (λ x. (c ∷ x.0, x.1)) (around b cs)
-around-later b c cs e = rw (run-cons (λ d. not (d == b)) c cs, e) (by_rest (after (b ∷ []) (run (λ d. not (d == b)) cs).1))
+pub around-later : (b c : ℕ) (cs : List ℕ) → (c == b) ≡ false
+    → around b (c ∷ cs) ≡ option_map (λ x. (c ∷ x.0, x.1)) (around b cs)
+around-later b c cs e =
+    rw (run-cons (λ d. not (d == b)) c cs, e) (by_rest (after (b ∷ []) (run (λ d. not (d == b)) cs).1))
   where
-    by_rest : (o : Option (List ℕ)) → (o >>= λ rest. Some (parts (c ∷ (run (λ d. not (d == b)) cs).0) rest)) ≡ option_map (λ x. parts (c ∷ x.0) x.1) (o >>= λ rest. Some (parts (run (λ d. not (d == b)) cs).0 rest))
+    by_rest : (o : Option (List ℕ)) → (o >>= λ rest. Some (parts (c ∷ (run (λ d. not (d == b)) cs).0) rest)) ≡
+        option_map (λ x. parts (c ∷ x.0) x.1) (o >>= λ rest. Some (parts (run (λ d. not (d == b)) cs).0 rest))
     by_rest None = refl
     by_rest (Some r) = refl
 
@@ -52,7 +81,8 @@ line_at-feed : (c : ℕ) (cs : List ℕ) → (c == 10) ≡ true → line_at (c �
 unfolding line_at
 line_at-feed c cs e = around-here 10 c cs e
 
-line_at-other : (c : ℕ) (cs : List ℕ) → (c == 10) ≡ false → line_at (c ∷ cs) ≡ option_map (λ x. (c ∷ x.0, x.1)) (line_at cs)
+line_at-other : (c : ℕ) (cs : List ℕ) → (c == 10) ≡ false
+    → line_at (c ∷ cs) ≡ option_map (λ x. (c ∷ x.0, x.1)) (line_at cs)
 unfolding line_at
 line_at-other c cs e = around-later 10 c cs e
 
@@ -60,7 +90,8 @@ abbrev later_line : Option (List ℕ × List ℕ) → Option (List ℕ)
 later_line None = None
 later_line (Some x) = after_first_empty_line x.1
 
-later_line-longer : (c : ℕ) (o : Option (List ℕ × List ℕ)) → later_line (option_map (λ x. (c ∷ x.0, x.1)) o) ≡ later_line o
+later_line-longer : (c : ℕ) (o : Option (List ℕ × List ℕ))
+    → later_line (option_map (λ x. (c ∷ x.0, x.1)) o) ≡ later_line o
 later_line-longer c None = refl
 later_line-longer c (Some x) = refl
 
@@ -69,7 +100,9 @@ unfolding after_later_empty_line after_first_empty_line
 after_later-line [] = rw line_at-nil refl
 after_later-line (c ∷ cs) = by_test (c == 10) refl (after_later-line cs)
   where
-    by_test : (b : Bool) → (c == 10) ≡ b → after_later_empty_line cs ≡ later_line (line_at cs) → cond b (option_or (after_empty_line cs) (after_later_empty_line cs)) (after_later_empty_line cs) ≡ later_line (line_at (c ∷ cs))
+    by_test : (b : Bool) → (c == 10) ≡ b → after_later_empty_line cs ≡ later_line (line_at cs)
+        → cond b (option_or (after_empty_line cs) (after_later_empty_line cs)) (after_later_empty_line cs) ≡ later_line
+        (line_at (c ∷ cs))
     by_test true e rest = rw (line_at-feed c cs e) refl
     by_test false e rest = rw (line_at-other c cs e, later_line-longer c (line_at cs)) rest
 
@@ -81,7 +114,8 @@ pub first_empty-none : (t : List ℕ) → after_empty_line t ≡ None → line_a
 unfolding after_first_empty_line
 first_empty-none t e none = rw (e, after_later-line t, none) refl
 
-pub first_empty-later : (t : List ℕ) (x : List ℕ × List ℕ) → after_empty_line t ≡ None → line_at t ≡ Some x → after_first_empty_line t ≡ after_first_empty_line x.1
+pub first_empty-later : (t : List ℕ) (x : List ℕ × List ℕ) → after_empty_line t ≡ None → line_at t ≡ Some x
+    → after_first_empty_line t ≡ after_first_empty_line x.1
 unfolding after_first_empty_line
 first_empty-later t x e found = rw (e, after_later-line t, found) refl
 
@@ -99,8 +133,10 @@ after_later-later (c ∷ cs) r e = by_test (c == 10) e (after_later-later cs r)
     one : IsLater (c ∷ cs) cs
     one = record { rest_is = record { prior = c ∷ []; is = refl }; shorter = omega (arith) }
 
-    by_test : (b : Bool) → cond b (option_or (after_empty_line cs) (after_later_empty_line cs)) (after_later_empty_line cs) ≡ Some r → (after_later_empty_line cs ≡ Some r → IsLater cs r) → IsLater (c ∷ cs) r
-    by_test true e rest = later one (either_form _ _ r (IsRest cs r) e (λ found. (after_empty-later cs r found).rest_is) (λ found. (rest found).rest_is))
+    by_test : (b : Bool) → cond b (option_or (after_empty_line cs) (after_later_empty_line cs))
+        (after_later_empty_line cs) ≡ Some r → (after_later_empty_line cs ≡ Some r → IsLater cs r) → IsLater (c ∷ cs) r
+    by_test true e rest = later one (either_form _ _ r (IsRest cs r) e (λ found. (after_empty-later cs r found).rest_is)
+        (λ found. (rest found).rest_is))
     by_test false e rest = later one (rest e).rest_is
 
 pub first_empty-rest : (t r : List ℕ) → after_first_empty_line t ≡ Some r → IsLater t r
@@ -111,12 +147,14 @@ front-nil : (t : List ℕ) → front t [] ≡ t
 unfolding front
 front-nil t = let same : length t - 0 ≡ length t = omega arith in rw same (take-length t)
 
-pub entry_text-whole : (t : List ℕ) → (length t == 0) ≡ false → after_first_empty_line t ≡ None → entry_text t ≡ Some (t, [])
+pub entry_text-whole : (t : List ℕ) → (length t == 0) ≡ false → after_first_empty_line t ≡ None
+    → entry_text t ≡ Some (t, [])
 unfolding entry_text
 entry_text-whole [] some e = cc
 entry_text-whole (c ∷ cs) some e = rw (e, front-nil (c ∷ cs)) refl
 
-pub entry_text-cut : (t r : List ℕ) → (length t == 0) ≡ false → after_first_empty_line t ≡ Some r → entry_text t ≡ Some (front t r, r)
+pub entry_text-cut : (t r : List ℕ) → (length t == 0) ≡ false → after_first_empty_line t ≡ Some r
+    → entry_text t ≡ Some (front t r, r)
 unfolding entry_text
 entry_text-cut [] r some e = cc
 entry_text-cut (c ∷ cs) r some e = rw e refl

@@ -1,5 +1,25 @@
 -- The texts of the entries, joined, are the whole text.
-use Rattle.std.proofs.Common.{◌≡◌, ◌<◌, ◌≤◌, ℕ, zero, suc, List, [], ◌∷◌, ◌++◌, length, refl, sym, ap, ◌∙◌, Option, Some, None, arith}
+use Rattle.std.proofs.Common.{
+  ◌≡◌,
+  ◌<◌,
+  ◌≤◌,
+  ℕ,
+  zero,
+  suc,
+  List,
+  [],
+  ◌∷◌,
+  ◌++◌,
+  length,
+  refl,
+  sym,
+  ap,
+  ◌∙◌,
+  Option,
+  Some,
+  None,
+  arith,
+}
 use Rattle.std.specs.Prelude.{unwrap_or}
 use Rattle.std.specs.List.{concat}
 use Rattle.yarn_lock_parser.specs.Front.{IsRest, front}
@@ -10,7 +30,8 @@ use Rattle.yarn_lock_parser.proofs.Fronts.{front-append}
 use Rattle.yarn_lock_parser.proofs.Locks.{entry_text-cut, entry_text-shortens}
 
 front-whole : (t r : List ℕ) → IsRest t r → front t r ++ r ≡ t
-front-whole t r h = ap (λ (s : List ℕ). front s r ++ r) h.is ∙ ap (λ (s : List ℕ). s ++ r) (front-append h.prior r) ∙ sym h.is
+front-whole t r h =
+    ap (λ (s : List ℕ). front s r ++ r) h.is ∙ ap (λ (s : List ℕ). s ++ r) (front-append h.prior r) ∙ sym h.is
 
 entry_text-front : (t : List ℕ) (x : List ℕ × List ℕ) → entry_text t ≡ Some x → front t x.1 ≡ x.0
 unfolding entry_text
@@ -22,15 +43,18 @@ entry_text-front (c ∷ cs) x e =
 
 entry_text-joined : (t : List ℕ) (x : List ℕ × List ℕ) → entry_text t ≡ Some x → x.0 ++ x.1 ≡ t
 entry_text-joined t x e =
-    ap (λ (s : List ℕ). s ++ x.1) (sym (entry_text-front t x e)) ∙ front-whole t x.1 (entry_text-cut t x e).later.rest_is
+    ap (λ (s : List ℕ). s ++ x.1) (sym (entry_text-front t x e))
+    ∙ front-whole t x.1 (entry_text-cut t x e).later.rest_is
 
 entry_text-none : (t : List ℕ) → entry_text t ≡ None → t ≡ []
 unfolding entry_text
 entry_text-none [] e = refl
 entry_text-none (c ∷ cs) e = cc
 
-by_first : (t : List ℕ) → ((u : List ℕ) → length u < length t → concat (entry_texts u) ≡ u) → (o : Option (List ℕ × List ℕ)) → entry_text t ≡ o → concat (entry_texts t) ≡ t
-by_first t shorter None e = ap (λ (read : List (List ℕ) × List ℕ). concat read.0) (every-none entry_text t e) ∙ sym (entry_text-none t e)
+by_first : (t : List ℕ) → ((u : List ℕ) → length u < length t → concat (entry_texts u) ≡ u)
+    → (o : Option (List ℕ × List ℕ)) → entry_text t ≡ o → concat (entry_texts t) ≡ t
+by_first t shorter None e =
+    ap (λ (read : List (List ℕ) × List ℕ). concat read.0) (every-none entry_text t e) ∙ sym (entry_text-none t e)
 by_first t shorter (Some x) e =
     ap (λ (read : List (List ℕ) × List ℕ). concat read.0) (every-more entry_text entry_text-shortens t x e)
     ∙ ap (λ (u : List ℕ). x.0 ++ u) (shorter x.1 (entry_text-shortens t x e))

@@ -1,7 +1,43 @@
 -- The quotes at a text's end.
-use Rattle.std.proofs.Common.{◌≡◌, ◌==◌, ◌≢◌, ◌⊎◌, ◌-◌, inl, inr, ℕ, Bool, true, false, List, [], ◌∷◌, ◌++◌, length, take, drop, refl, sym, ap, ◌∙◌, Option, Some, None, reverse, arith, lit<}
+use Rattle.std.proofs.Common.{
+  ◌≡◌,
+  ◌==◌,
+  ◌≢◌,
+  ◌⊎◌,
+  ◌-◌,
+  inl,
+  inr,
+  ℕ,
+  Bool,
+  true,
+  false,
+  List,
+  [],
+  ◌∷◌,
+  ◌++◌,
+  length,
+  take,
+  drop,
+  refl,
+  sym,
+  ap,
+  ◌∙◌,
+  Option,
+  Some,
+  None,
+  reverse,
+  arith,
+  lit<,
+}
 use Rattle.std.specs.Prelude.{IfSome}
-use Rattle.std.specs.Str.Pattern.{CutsPrefixes, CutsSuffixes, FindsCharPrefix, FindsCharSuffix, IsTrimEndMatches, IsTrimStartMatches}
+use Rattle.std.specs.Str.Pattern.{
+  CutsPrefixes,
+  CutsSuffixes,
+  FindsCharPrefix,
+  FindsCharSuffix,
+  IsTrimEndMatches,
+  IsTrimStartMatches,
+}
 use Rattle.std.proofs.Math.Seq.{drop-length}
 use Rattle.std.proofs.lemmas.List.{reverse-append, reverse-reverse, take-append-drop}
 use Rattle.std.proofs.lemmas.Bool.Decides.{eqb_tells}
@@ -27,13 +63,17 @@ pub before_quotes-none : (s : List ℕ) → before (34 ∷ []) s ≡ None → be
 unfolding before_quotes
 before_quotes-none s e = by_turned (reverse s) refl
   where
-    by_test : (c : ℕ) (cs : List ℕ) → reverse s ≡ c ∷ cs → (b : Bool) → (c == 34) ≡ b → reverse (run is_quote (reverse s)).1 ≡ s
+    by_test : (c : ℕ) (cs : List ℕ) → reverse s ≡ c ∷ cs → (b : Bool) → (c == 34) ≡ b
+        → reverse (run is_quote (reverse s)).1 ≡ s
     by_test c cs h true f =
         let quote : c ≡ 34 = passes c f (eqb_tells c 34) in
-        let ends : s ≡ reverse cs ++ (34 ∷ []) = sym (reverse-reverse s) ∙ ap reverse (h ∙ ap (λ x. x ∷ cs) quote) ∙ reverse-append (34 ∷ []) cs in
-        let found : before (34 ∷ []) s ≡ Some (reverse cs) = ap (before (34 ∷ [])) ends ∙ before-append (34 ∷ []) (reverse cs) in
+        let ends : s ≡ reverse cs ++ (34 ∷ []) =
+        sym (reverse-reverse s) ∙ ap reverse (h ∙ ap (λ x. x ∷ cs) quote) ∙ reverse-append (34 ∷ []) cs in
+        let found : before (34 ∷ []) s ≡ Some (reverse cs) =
+        ap (before (34 ∷ [])) ends ∙ before-append (34 ∷ []) (reverse cs) in
         absurd (cc)
-    by_test c cs h false f = ap reverse (ap (λ x. (run is_quote x).1) h ∙ rw (run-cons is_quote c cs, f) refl ∙ sym h) ∙ reverse-reverse s
+    by_test c cs h false f =
+        ap reverse (ap (λ x. (run is_quote x).1) h ∙ rw (run-cons is_quote c cs, f) refl ∙ sym h) ∙ reverse-reverse s
 
     by_turned : (r : List ℕ) → reverse s ≡ r → reverse (run is_quote (reverse s)).1 ≡ s
     by_turned [] h = ap reverse (ap (λ x. (run is_quote x).1) h ∙ run-nil is_quote ∙ sym h) ∙ reverse-reverse s
@@ -46,12 +86,15 @@ suffix-cut : (m r : List ℕ) (n : ℕ) → FindsCharSuffix 34 m (Some n) → r 
 unfolding lib.Utf8.encode
 suffix-cut m r n found is =
     let last : drop (length m - n) m ≡ 34 ∷ [] = found.1.split ∙ ap (λ x. 34 ∷ x) (drop-length m) in
-    sym (take-append-drop (length m - n) m) ∙ ap (λ x. take (length m - n) m ++ x) last ∙ ap (λ x. x ++ (34 ∷ [])) (sym is)
+    sym (take-append-drop (length m - n) m) ∙ ap (λ x. take (length m - n) m ++ x) last
+    ∙ ap (λ x. x ++ (34 ∷ [])) (sym is)
 
-suffixes-cut : (s r : List ℕ) (ns : List ℕ) → CutsSuffixes (FindsCharSuffix 34) s ns r → before_quotes s ≡ before_quotes r
+suffixes-cut : (s r : List ℕ) (ns : List ℕ) → CutsSuffixes (FindsCharSuffix 34) s ns r
+    → before_quotes s ≡ before_quotes r
 suffixes-cut s r [] h = ap before_quotes (sym h)
 suffixes-cut s r (n ∷ ns) (m, cut, ends, is) =
-    let found : before (34 ∷ []) m ≡ Some r = ap (before (34 ∷ [])) (suffix-cut m r n ends is) ∙ before-append (34 ∷ []) r in
+    let found : before (34 ∷ []) m ≡ Some r =
+    ap (before (34 ∷ [])) (suffix-cut m r n ends is) ∙ before-append (34 ∷ []) r in
     suffixes-cut s m ns cut ∙ before_quotes-quote m r found
 
 trimmed-end : (s r : List ℕ) → IsTrimEndMatches (FindsCharSuffix 34) s r → before_quotes s ≡ r
@@ -67,10 +110,12 @@ prefix-cut : (m r : List ℕ) (n : ℕ) → FindsCharPrefix 34 m (Some n) → r 
 unfolding lib.Utf8.encode
 prefix-cut m r n found is = found.split ∙ ap (λ x. 34 ∷ x) (sym is)
 
-prefixes-cut : (s r : List ℕ) (ns : List ℕ) → CutsPrefixes (FindsCharPrefix 34) s ns r → (run is_quote s).1 ≡ (run is_quote r).1
+prefixes-cut : (s r : List ℕ) (ns : List ℕ) → CutsPrefixes (FindsCharPrefix 34) s ns r
+    → (run is_quote s).1 ≡ (run is_quote r).1
 prefixes-cut s r [] h = ap (λ x. (run is_quote x).1) (sym h)
 prefixes-cut s r (n ∷ ns) (m, cut, begins, is) =
-    prefixes-cut s m ns cut ∙ ap (λ x. (run is_quote x).1) (prefix-cut m r n begins is) ∙ ap (λ (x : List ℕ × List ℕ). x.1) (run-cons is_quote 34 r)
+    prefixes-cut s m ns cut ∙ ap (λ x. (run is_quote x).1) (prefix-cut m r n begins is)
+    ∙ ap (λ (x : List ℕ × List ℕ). x.1) (run-cons is_quote 34 r)
 
 no_quote : (r : List ℕ) → ((rest : List ℕ) → r ≢ 34 ∷ rest) → (run is_quote r).1 ≡ r
 no_quote [] lacks = run-nil is_quote
@@ -89,5 +134,6 @@ trimmed-front s r (cuts, (o, found, nothing)) = prefixes-cut s r cuts.0 cuts.1 �
     by_last (Some n) found zero_len = absurd (omega (arith, found.ends, zero_len, len_utf8_ascii 34 (lit< tt)))
 
 -- quotes cut off in front, and then at the end
-pub trimmed-both : (s m r : List ℕ) → IsTrimStartMatches (FindsCharPrefix 34) s m → IsTrimEndMatches (FindsCharSuffix 34) m r → r ≡ trimmed s
+pub trimmed-both : (s m r : List ℕ) → IsTrimStartMatches (FindsCharPrefix 34) s m
+    → IsTrimEndMatches (FindsCharSuffix 34) m r → r ≡ trimmed s
 trimmed-both s m r front end = sym (ap before_quotes (trimmed-front s m front) ∙ trimmed-end m r end)

@@ -12,7 +12,8 @@ is_white_space b = b == 32 || b == 9 || b == 13 || b == 10
 
 -- what a version is spelled with: a SemVer version, or a link
 abbrev pub is_version_byte : ℕ → Bool
-is_version_byte b = is_ascii_uppercase b || is_ascii_lowercase b || is_ascii_digit b || char_set_contains (codes ".-+@:/#%!~*'()") b
+is_version_byte b =
+    is_ascii_uppercase b || is_ascii_lowercase b || is_ascii_digit b || char_set_contains (codes ".-+@:/#%!~*'()") b
 
 abbrev pub is_quote : ℕ → Bool
 is_quote b = b == 34

@@ -20,10 +20,14 @@ after_later_empty_line (c ∷ cs) =
 unfoldable pub after_first_empty_line : List ℕ → Option (List ℕ)
 after_first_empty_line t = option_or (after_empty_line t) (after_later_empty_line t)
 
--- The text of an entry: the lines up to and including a line of only blanks, or all of a rest without such a line. No entry begins where the text ends.
+-- The text of an entry: the lines up to and including a line of only blanks, or all of a rest without such a line. No
+-- entry begins where the text ends.
 unfoldable pub entry_text : List ℕ → Option (List ℕ × List ℕ)
 entry_text [] = None
-entry_text (c ∷ cs) = Some (front (c ∷ cs) (unwrap_or (after_first_empty_line (c ∷ cs)) []), unwrap_or (after_first_empty_line (c ∷ cs)) [])
+entry_text (c ∷ cs) = Some (
+  front (c ∷ cs) (unwrap_or (after_first_empty_line (c ∷ cs)) []),
+  unwrap_or (after_first_empty_line (c ∷ cs)) [],
+)
 
 -- the texts of the entries, in order
 abbrev pub entry_texts : List ℕ → List (List ℕ)

@@ -1,6 +1,24 @@
 -- The dependencies that an entry lists under a heading.
 -- A `do` here is over readings: it goes on with what a reading gives, and gives nothing where one of them doesn't read.
-use Rattle.std.specs.Prelude.{ℕ, Bool, ◌==◌, ◌&&◌, if◌then◌else◌, List, [], ◌∷◌, length, reverse, Option, Some, None, unwrap_or, is_some, is_none, codes}
+use Rattle.std.specs.Prelude.{
+  ℕ,
+  Bool,
+  ◌==◌,
+  ◌&&◌,
+  if◌then◌else◌,
+  List,
+  [],
+  ◌∷◌,
+  length,
+  reverse,
+  Option,
+  Some,
+  None,
+  unwrap_or,
+  is_some,
+  is_none,
+  codes,
+}
 use Rattle.std.specs.Option.{option_or}
 use Rattle.yarn_lock_parser.specs.ByteSet.{is_blank, is_quote, is_no_line_end, is_name_byte}
 use Rattle.sugar_path.specs.Front.{◌>>=◌, after}

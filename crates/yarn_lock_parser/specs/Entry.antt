@@ -1,11 +1,34 @@
 -- An entry of a lock file, and what a text is refused for as an entry.
 -- A `do` here is over results: it goes on with what a step gives, and ends by the first error.
-use Rattle.std.specs.Prelude.{ℕ, Bool, true, false, ◌==◌, ◌-◌, List, [], ◌∷◌, length, map, Result, Ok, Err, ok_or, slice_get}
+use Rattle.std.specs.Prelude.{
+  ℕ,
+  Bool,
+  true,
+  false,
+  ◌==◌,
+  ◌-◌,
+  List,
+  [],
+  ◌∷◌,
+  length,
+  map,
+  Result,
+  Ok,
+  Err,
+  ok_or,
+  slice_get,
+}
 use Rattle.std.specs.Option.{option_map_or}
 use Rattle.yarn_lock_parser.specs.ByteSet.{is_blank}
 pub use Rattle.sugar_path.specs.Results.{◌>>=◌}
 use Rattle.yarn_lock_parser.specs.declared.error.LockCause.{LockCause}
-use Rattle.yarn_lock_parser.specs.declared.error.LockCause.TheVariants.{LastLine, Descriptors, NoItem, Optional, NoVersion}
+use Rattle.yarn_lock_parser.specs.declared.error.LockCause.TheVariants.{
+  LastLine,
+  Descriptors,
+  NoItem,
+  Optional,
+  NoVersion,
+}
 use Rattle.yarn_lock_parser.specs.declared.metas.DepMeta.{DepMeta}
 use Rattle.yarn_lock_parser.specs.Descriptors.{descriptors_at}
 use Rattle.yarn_lock_parser.specs.Metas.{as_meta}
@@ -50,7 +73,8 @@ entry_with found f = record {
   descriptors = found;
 }
 
--- the entry that a text is, or the first cause against it: an unfinished last line, the descriptors, no item, a meta's flag, no version
+-- the entry that a text is, or the first cause against it: an unfinished last line, the descriptors, no item, a meta's
+-- flag, no version
 unfoldable pub entry_of : List ℕ → Result Entry LockCause
 entry_of t = do
   finished ← refuse_if (ends_in_blank t) LastLine

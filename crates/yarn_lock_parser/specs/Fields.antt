@@ -21,7 +21,17 @@ pub record Fields : Type 0 where
   pub is_spoilt : Bool
 
 abbrev pub no_fields : Fields
-no_fields = record { version = []; resolved = []; integrity = []; dependencies = []; optional_dependencies = []; peer_dependencies = []; dependencies_meta = []; peer_dependencies_meta = []; is_spoilt = false }
+no_fields = record {
+  version = [];
+  resolved = [];
+  integrity = [];
+  dependencies = [];
+  optional_dependencies = [];
+  peer_dependencies = [];
+  dependencies_meta = [];
+  peer_dependencies_meta = [];
+  is_spoilt = false;
+}
 
 abbrev pub is_unreadable : List ℕ × Flag → Bool
 is_unreadable (name, Absent) = false
@@ -36,8 +46,10 @@ with_item f (Dependencies Optional pairs) = record f { optional_dependencies = p
 with_item f (Dependencies Peer pairs) = record f { peer_dependencies = pairs }
 with_item f (Integrity text) = record f { integrity = text }
 with_item f (Resolved text) = record f { resolved = text }
-with_item f (Metas metas.Dependencies pairs) = record f { dependencies_meta = pairs; is_spoilt = f.is_spoilt || list_any is_unreadable pairs }
-with_item f (Metas metas.PeerDependencies pairs) = record f { peer_dependencies_meta = pairs; is_spoilt = f.is_spoilt || list_any is_unreadable pairs }
+with_item f (Metas metas.Dependencies pairs) =
+    record f { dependencies_meta = pairs; is_spoilt = f.is_spoilt || list_any is_unreadable pairs }
+with_item f (Metas metas.PeerDependencies pairs) =
+    record f { peer_dependencies_meta = pairs; is_spoilt = f.is_spoilt || list_any is_unreadable pairs }
 with_item f Other = f
 
 -- what the items of a text say: as many as fit, and one at least; what follows the last is dropped

@@ -1,6 +1,28 @@
--- What a text's front is, and what follows it. A reading of a front is what the front says, and the text that follows it.
+-- What a text's front is, and what follows it. A reading of a front is what the front says, and the text that follows
+-- it.
 -- A `do` here is over readings: it goes on with what a reading gives, and gives nothing where one of them doesn't read.
-use Rattle.std.specs.Prelude.{◌≡◌, ◌++◌, ℕ, Bool, zero, suc, ◌==◌, ◌-◌, if◌then◌else◌, List, [], ◌∷◌, length, take, drop, Option, Some, None, option_map, unwrap_or}
+use Rattle.std.specs.Prelude.{
+  ◌≡◌,
+  ◌++◌,
+  ℕ,
+  Bool,
+  zero,
+  suc,
+  ◌==◌,
+  ◌-◌,
+  if◌then◌else◌,
+  List,
+  [],
+  ◌∷◌,
+  length,
+  take,
+  drop,
+  Option,
+  Some,
+  None,
+  option_map,
+  unwrap_or,
+}
 use Rattle.std.specs.Option.{option_or}
 use Rattle.std.specs.List.{prefix_len}
 use Rattle.sugar_path.specs.Front.{◌>>=◌, after, before}

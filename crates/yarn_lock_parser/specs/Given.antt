@@ -9,7 +9,17 @@ use Rattle.yarn_lock_parser.specs.declared.metas.Flag.{Flag as GivenFlag}
 use Rattle.yarn_lock_parser.specs.declared.metas.Flag.TheVariants as given_flag
 use Rattle.yarn_lock_parser.specs.declared.metas.MetaKind.{MetaKind as GivenMetaKind}
 use Rattle.yarn_lock_parser.specs.declared.metas.MetaKind.TheVariants as given_meta_kind
-use Rattle.yarn_lock_parser.specs.ByteSet.{is_blank, is_white_space, is_version_byte, is_no_line_end, is_no_colon, is_no_at, is_descriptor_byte, is_name_byte, is_unquoted_byte}
+use Rattle.yarn_lock_parser.specs.ByteSet.{
+  is_blank,
+  is_white_space,
+  is_version_byte,
+  is_no_line_end,
+  is_no_colon,
+  is_no_at,
+  is_descriptor_byte,
+  is_name_byte,
+  is_unquoted_byte,
+}
 use Rattle.yarn_lock_parser.specs.Dependencies as kinds
 use Rattle.yarn_lock_parser.specs.Metas as metas
 

@@ -1,5 +1,25 @@
 -- What holds of the reading, whatever the text.
-use Rattle.std.specs.Prelude.{◌≡◌, ◌⊎◌, ◌++◌, ◌&&◌, ◌||◌, not, ℕ, Bool, true, false, List, [], ◌∷◌, Option, Some, None, bytes_eq, codes, IsTrue}
+use Rattle.std.specs.Prelude.{
+  ◌≡◌,
+  ◌⊎◌,
+  ◌++◌,
+  ◌&&◌,
+  ◌||◌,
+  not,
+  ℕ,
+  Bool,
+  true,
+  false,
+  List,
+  [],
+  ◌∷◌,
+  Option,
+  Some,
+  None,
+  bytes_eq,
+  codes,
+  IsTrue,
+}
 use Rattle.std.specs.List.{concat, filter_map, fold, list_all, list_any}
 use Rattle.yarn_lock_parser.specs.ByteSet.{is_blank}
 use Rattle.yarn_lock_parser.specs.Dependencies as kinds
@@ -45,12 +65,14 @@ is_optional property = bytes_eq property.0 (codes "optional")
 
 -- a property `optional` that is neither `true` nor `false`
 abbrev pub is_neither : List ℕ × List ℕ → Bool
-is_neither property = is_optional property && not (bytes_eq property.1 (codes "true") || bytes_eq property.1 (codes "false"))
+is_neither property =
+    is_optional property && not (bytes_eq property.1 (codes "true") || bytes_eq property.1 (codes "false"))
 
 -- what properties say is unreadable exactly where some property `optional` is neither `true` nor `false`
 abbrev pub UnreadableByOne : Type 0
 UnreadableByOne =
-    (name : List ℕ) (properties : List (List ℕ × List ℕ)) → is_unreadable (name, fold noted Absent properties) ≡ list_any is_neither properties
+    (name : List ℕ) (properties : List (List ℕ × List ℕ))
+    → is_unreadable (name, fold noted Absent properties) ≡ list_any is_neither properties
 
 -- an item with a meta that is unreadable
 abbrev pub is_spoilt : Item → Bool
@@ -98,9 +120,11 @@ abbrev pub peer_dependencies_meta_in : Item → Option (List (List ℕ × Flag))
 peer_dependencies_meta_in (Metas meta_kinds.PeerDependencies metas) = Some metas
 peer_dependencies_meta_in _ = None
 
--- a field of an entry is what the last item of its kind says, whatever other items stand around it; with no such item it is empty
+-- a field of an entry is what the last item of its kind says, whatever other items stand around it; with no such item
+-- it is empty
 pub record IsOfLastItem {A : Type 0} (field : Fields → A) (says : Item → Option A) : Type 0 where
-  pub last : (items later : List Item) (item : Item) (said : A) → says item ≡ Some said → filter_map says later ≡ [] → field (fold with_item no_fields (items ++ item ∷ later)) ≡ said
+  pub last : (items later : List Item) (item : Item) (said : A) → says item ≡ Some said → filter_map says later ≡ []
+      → field (fold with_item no_fields (items ++ item ∷ later)) ≡ said
   pub none : (items : List Item) → filter_map says items ≡ [] → field (fold with_item no_fields items) ≡ field no_fields
 
 -- each field of an entry, by the items of its kind alone

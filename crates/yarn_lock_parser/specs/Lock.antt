@@ -1,6 +1,25 @@
 -- A whole lock file, and where and why a text is none.
 -- A `do` here is over results: it goes on with what a step gives, and ends by the first error.
-use Rattle.std.specs.Prelude.{ℕ, Bool, true, false, ◌+◌, ◌-◌, List, [], ◌∷◌, ◌≡◌, length, Option, Some, None, Result, Ok, Err, ok_or}
+use Rattle.std.specs.Prelude.{
+  ℕ,
+  Bool,
+  true,
+  false,
+  ◌+◌,
+  ◌-◌,
+  List,
+  [],
+  ◌∷◌,
+  ◌≡◌,
+  length,
+  Option,
+  Some,
+  None,
+  Result,
+  Ok,
+  Err,
+  ok_or,
+}
 use Rattle.yarn_lock_parser.specs.declared.error.LockCause.{LockCause}
 use Rattle.yarn_lock_parser.specs.declared.error.LockCause.TheVariants as causes
 use Rattle.yarn_lock_parser.specs.declared.error.YarnLockError.{YarnLockError}
@@ -52,7 +71,13 @@ lock_of t = do
   head ← at_place 0 (ok_or (header_at t) causes.Header)
   facts ← at_place (place_in t head.1) (ok_or (metadata_after head.0.is_first_version head.1) causes.Metadata)
   entries ← entries_from (place_in t facts.1) (entry_texts facts.1)
-  Ok (record { generator = head.0.generator; version = facts.0.version; cache_key = facts.0.cache_key; entries = entries })
+  Ok (record {
+    generator = head.0.generator;
+    version = facts.0.version;
+    cache_key = facts.0.cache_key;
+    entries =
+        entries;
+  })
 
 -- what an error of the reader means of a reading: want of memory means nothing
 abbrev pub Explains : {A : Type 0} → Result A Refusal → YarnLockError → Type 0

@@ -11,4 +11,6 @@ listed (Several pairs) = pairs.items
 
 -- no list has an element
 abbrev pub is_empty : Lists → Bool
-is_empty l = (length l.dependencies.items == 0) && (length l.optional_dependencies.items == 0) && (length l.peer_dependencies.items == 0) && (length l.dependencies_meta.items == 0) && (length l.peer_dependencies_meta.items == 0)
+is_empty l = (length l.dependencies.items == 0) && (length l.optional_dependencies.items == 0)
+    && (length l.peer_dependencies.items == 0) && (length l.dependencies_meta.items == 0)
+    && (length l.peer_dependencies_meta.items == 0)

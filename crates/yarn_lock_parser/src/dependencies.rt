@@ -2,7 +2,16 @@
 ghost use Rattle.std.specs.Prelude.{◌≡◌, IfOk, option_map};
 ghost use Rattle.yarn_lock_parser.specs.Front.{every, some};
 ghost use Rattle.yarn_lock_parser.specs.Given.{kind_said};
-ghost use Rattle.yarn_lock_parser.specs.Dependencies.{deeper, dependencies_at, dependency_at, dependency_kind, dependency_version, is_lone_return, line_rest, trimmed};
+ghost use Rattle.yarn_lock_parser.specs.Dependencies.{
+  deeper,
+  dependencies_at,
+  dependency_at,
+  dependency_kind,
+  dependency_version,
+  is_lone_return,
+  line_rest,
+  trimmed,
+};
 
 use crate::byte_set::ByteSet;
 use crate::front::{after_line_end, before, quoted_at, run, some_run};

@@ -2,7 +2,16 @@
 ghost use Rattle.std.specs.Prelude.{◌≡◌, ◌∷◌, [], IfOk, option_map, List, ℕ};
 ghost use Rattle.yarn_lock_parser.specs.Front.{every};
 ghost use Rattle.yarn_lock_parser.specs.Packed.{listed};
-ghost use Rattle.yarn_lock_parser.specs.Descriptors.{before_colon, descriptor_at, descriptors_at, descriptors_on, each_parted, next_descriptor, parted, put_before};
+ghost use Rattle.yarn_lock_parser.specs.Descriptors.{
+  before_colon,
+  descriptor_at,
+  descriptors_at,
+  descriptors_on,
+  each_parted,
+  next_descriptor,
+  parted,
+  put_before,
+};
 
 use crate::byte_set::ByteSet;
 use crate::front::{after_optional, before, front, line_at, run, some_run};

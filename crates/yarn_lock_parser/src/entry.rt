@@ -67,7 +67,8 @@ impl<'a> Entry<'a> {
         self.version
     }
 
-    /// Where the package comes from: a link in version 1, a locator from version 2 on; empty where the entry doesn't say.
+    /// Where the package comes from: a link in version 1, a locator from version 2 on; empty where the entry doesn't
+    /// say.
     pub fn resolved(&self) -> &'a str
         ensures { result.now ≡ self.now.resolved }
     {

@@ -1,7 +1,17 @@
 // Entries are equal where all that their accessors answer is.
 ghost use Rattle.std.specs.Prelude.{◌≡◌};
 ghost use Rattle.std.specs.Cmp.{partial_equiv_from_equiv};
-ghost use Rattle.yarn_lock_parser.specs.EntryEq.{entry_eq, entry_eq_equiv, flagged_eq, flagged_eq_equiv, metas_eq, pair_eq, pair_eq_equiv, pairs_eq, texts_eq};
+ghost use Rattle.yarn_lock_parser.specs.EntryEq.{
+  entry_eq,
+  entry_eq_equiv,
+  flagged_eq,
+  flagged_eq_equiv,
+  metas_eq,
+  pair_eq,
+  pair_eq_equiv,
+  pairs_eq,
+  texts_eq,
+};
 
 use crate::entry::Entry;
 use crate::metas::Meta;

@@ -4,7 +4,8 @@ ghost use Rattle.std.specs.Prelude.{◌≡◌};
 use std::alloc::{AllocError, AllocFailed};
 use thiserror::Error;
 
-/// What is wrong with a text. Parts are read in order, and the first that is wrong is told; an entry's causes are tried in the order below.
+/// What is wrong with a text. Parts are read in order, and the first that is wrong is told; an entry's causes are tried
+/// in the order below.
 #[derive(Clone, Copy, Debug, PartialEq, Eq)]
 pub enum LockCause {
     /// The text doesn't begin with two whole lines, whatever they say.
@@ -26,7 +27,8 @@ pub enum LockCause {
 /// Why a text couldn't be read.
 #[derive(Debug, PartialEq, Eq, Drop, Error)]
 pub enum YarnLockError {
-    /// The text is no lock file. The place counts bytes: it is 0 for the header, else where the metadata or the entry begins.
+    /// The text is no lock file. The place counts bytes: it is 0 for the header, else where the metadata or the entry
+    /// begins.
     #[error("no lock file: {cause:?} at {place}")]
     Parser { place: usize, cause: LockCause },
     #[error("out of memory")]

@@ -3,7 +3,18 @@ ghost use Rattle.std.specs.Prelude.{◌≡◌, option_map};
 ghost use Rattle.std.specs.List.{prefix_len};
 ghost use Rattle.yarn_lock_parser.specs.Given.{has};
 ghost use Rattle.sugar_path.specs.Front.{after, before};
-ghost use Rattle.yarn_lock_parser.specs.Front.{after_optional, after_blanks, after_line_end, before_optional, front, IsRest, line_at, quoted_at, run, some_run};
+ghost use Rattle.yarn_lock_parser.specs.Front.{
+  after_optional,
+  after_blanks,
+  after_line_end,
+  before_optional,
+  front,
+  IsRest,
+  line_at,
+  quoted_at,
+  run,
+  some_run,
+};
 
 use crate::byte_set::ByteSet;
 use sugar_path::after;

@@ -1,5 +1,12 @@
 // Laws of the reading, each proved for all texts. `parse_str` has them by its contract.
-ghost use Rattle.yarn_lock_parser.specs.Laws.{EntriesAreTheText, EntriesEndWithEmptyLines, UnreadableByOne, SpoiltByOne, LastFlagCounts, LastItemCounts};
+ghost use Rattle.yarn_lock_parser.specs.Laws.{
+  EntriesAreTheText,
+  EntriesEndWithEmptyLines,
+  UnreadableByOne,
+  SpoiltByOne,
+  LastFlagCounts,
+  LastItemCounts,
+};
 
 /// The texts that entries are read from, joined, are the text that they are cut from.
 pub fn entries_are_the_text()
@@ -27,7 +34,8 @@ pub fn last_flag_counts()
     ensures { LastFlagCounts }
 {}
 
-/// Each field of an entry is what the last item of its kind says, whatever stands around it; where there is no such item it is empty.
+/// Each field of an entry is what the last item of its kind says, whatever stands around it; where there is no such
+/// item it is empty.
 pub fn last_item_counts()
     ensures { LastItemCounts }
 {}

@@ -1,7 +1,14 @@
 // The metadata that lock files have from version 2 on.
 ghost use Rattle.std.specs.Prelude.{◌≡◌, ◌<◌, length, option_map, true};
 ghost use Rattle.std.specs.Str.{all_ascii_digits};
-ghost use Rattle.yarn_lock_parser.specs.Metadata.{after_compression, cache_key, metadata_at, number_at, version_line, version_number};
+ghost use Rattle.yarn_lock_parser.specs.Metadata.{
+  after_compression,
+  cache_key,
+  metadata_at,
+  number_at,
+  version_line,
+  version_number,
+};
 
 use crate::byte_set::ByteSet;
 use crate::cut::after_first_empty_line;

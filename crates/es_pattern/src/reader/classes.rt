@@ -12,7 +12,25 @@ use std::mem;
 impl Reader {
     ghost use Rattle.std.specs.Prelude.{◌≡◌, false, OnOk, IfOk, Some, None, if◌then◌else◌};
     ghost use Rattle.es_pattern.specs.Escapes.{hex_value, set_of};
-    ghost use Rattle.es_pattern.specs.Reading.{after_char, after_dash, at, can_end, class_char, class_end, class_hex_by, class_set, class_zero, item, next_dash, next_item, overcounts_at, range_end, ranged, step, with_ranges};
+    ghost use Rattle.es_pattern.specs.Reading.{
+      after_char,
+      after_dash,
+      at,
+      can_end,
+      class_char,
+      class_end,
+      class_hex_by,
+      class_set,
+      class_zero,
+      item,
+      next_dash,
+      next_item,
+      overcounts_at,
+      range_end,
+      ranged,
+      step,
+      with_ranges,
+    };
     ghost use Rattle.es_pattern.specs.ReaderView.{IsClass, Steps, reading};
 
     // Takes the next character of a class.

@@ -14,7 +14,16 @@ const PRODUCT_LIMIT: u32 = 100_000;
 
 impl Reader {
     ghost use Rattle.std.specs.Prelude.{◌≡◌, ◌+◌, ◌==◌, ◌&&◌, OnOk, IfOk, Some, option_map};
-    ghost use Rattle.es_pattern.specs.Reading.{bounds_of, flushed, flushed_chars, in_braces, in_braces_end, marked, overcounts, quantified};
+    ghost use Rattle.es_pattern.specs.Reading.{
+      bounds_of,
+      flushed,
+      flushed_chars,
+      in_braces,
+      in_braces_end,
+      marked,
+      overcounts,
+      quantified,
+    };
     ghost use Rattle.es_pattern.specs.ReaderView.{Steps, Takes, reading};
     ghost use Rattle.es_pattern.specs.Bounds.{Bounded};
 

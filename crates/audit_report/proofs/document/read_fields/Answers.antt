@@ -5,13 +5,15 @@ use Rattle.audit_report.proofs.document.read_fields.Goals as goal
 
 pub returns-in_err-project-clause-fields : goal.returns-in_err-project-clause-fields
 unfolding fields_of
-returns-in_err-project-clause-fields c = meets_raised _ _ _ c.from_residual.ensures.1 (meets_stops _ _ _ c.in_err-project.ensures)
+returns-in_err-project-clause-fields c =
+    meets_raised _ _ _ c.from_residual.ensures.1 (meets_stops _ _ _ c.in_err-project.ensures)
 
 pub returns-in_err-manifest-clause-fields : goal.returns-in_err-manifest-clause-fields
 unfolding fields_of
 returns-in_err-manifest-clause-fields c =
     meets_then _ _ _ _ c.in_ok-project.ensures
-    (meets_raised _ _ _ c.from_residual-in_err-manifest.ensures.1 (meets_stops _ _ _ c.in_err-manifest.ensures.manifest))
+    (meets_raised _ _ _ c.from_residual-in_err-manifest.ensures.1
+    (meets_stops _ _ _ c.in_err-manifest.ensures.manifest))
 
 pub returns-clause-fields : goal.returns-clause-fields
 unfolding fields_of

@@ -7,5 +7,6 @@ pub returns : goal.returns
 unfolding line_of
 returns c =
     c.in_ok-push_str-2.ensures.bytes
-    ∙ ap (λ b. b ++ 10 ∷ []) (c.in_ok-push_str.ensures.bytes ∙ ap (λ b. string_bytes c.args.lines.now ++ b) (c.as_str.ensures.value ∙ c.in_ok-text.ensures.text c.requires))
+    ∙ ap (λ b. b ++ 10 ∷ []) (c.in_ok-push_str.ensures.bytes
+    ∙ ap (λ b. string_bytes c.args.lines.now ++ b) (c.as_str.ensures.value ∙ c.in_ok-text.ensures.text c.requires))
     ∙ append_assoc (string_bytes c.args.lines.now) _ (10 ∷ [])

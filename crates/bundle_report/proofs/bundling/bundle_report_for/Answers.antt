@@ -23,4 +23,5 @@ pub returns : goal.returns
 returns c =
     let filed = rw c.as_slice.ensures at c.in_ok-tree.ensures in
     let text = rw c.as_slice-2.ensures at c.in_ok-text.ensures in
-    report_by _ c.in_ok-settings.field-0 _ (Ok _) c.in_ok-settings.ensures filed text ∙ ap Ok (sym c.in_ok-into_string.ensures)
+    report_by _ c.in_ok-settings.field-0 _ (Ok _) c.in_ok-settings.ensures filed text
+    ∙ ap Ok (sym c.in_ok-into_string.ensures)

@@ -7,4 +7,5 @@ returns-in_err-project c = meets_raised _ _ _ c.from_residual.ensures.1 (text_re
 
 pub returns : goal.returns
 returns c =
-    text_told _ _ _ _ _ _ c.in_ok-project.ensures (rw c.of-tree.ensures at c.in_ok-bundle.ensures) c.in_ok-encode.ensures
+    text_told _ _ _ _ _ _ c.in_ok-project.ensures (rw c.of-tree.ensures at c.in_ok-bundle.ensures)
+    c.in_ok-encode.ensures

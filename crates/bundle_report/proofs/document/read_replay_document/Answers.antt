@@ -9,7 +9,8 @@ pub returns-in_err-value : goal.returns-in_err-value
 unfolding fields_in
 returns-in_err-value c =
     meets_raised _ _ _ c.from_residual.ensures.1
-    (meets_stops fields_of (of_document (json_value c.args.bytes.now)) _ (meets_error _ (json_value c.args.bytes.now) c.in_err-value.ensures))
+    (meets_stops fields_of (of_document (json_value c.args.bytes.now)) _
+    (meets_error _ (json_value c.args.bytes.now) c.in_err-value.ensures))
 
 pub returns : goal.returns
 unfolding fields_in

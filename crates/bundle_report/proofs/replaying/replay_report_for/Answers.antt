@@ -7,7 +7,8 @@ returns-in_err-settings c = fields_refused _ _ _ _ c.from_residual.ensures.1 c.i
 
 pub returns-in_err-bundle : goal.returns-in_err-bundle
 returns-in_err-bundle c =
-    text_refused _ _ _ c.args.bytes.now c.in_ok-settings.field-0 c.from_residual-in_err-bundle.ensures.1 c.in_ok-settings.ensures c.in_err-bundle.ensures.wrong
+    text_refused _ _ _ c.args.bytes.now c.in_ok-settings.field-0 c.from_residual-in_err-bundle.ensures.1
+    c.in_ok-settings.ensures c.in_err-bundle.ensures.wrong
 
 pub returns : goal.returns
 returns c =

@@ -8,12 +8,18 @@ returns-then-not-begins_above_zero c =
 
 pub returns-in_default : goal.returns-in_default
 returns-in_default c =
-    sym (size_unparsed c.args.word.now c.in_default.field-0 c.parse.result c.in_default.is (begins_so c.as_bytes.ensures.value c.begins_above_zero.ensures c.if-not-begins_above_zero.false) c.parse.ensures.value.0)
+    sym (size_unparsed c.args.word.now c.in_default.field-0 c.parse.result c.in_default.is
+    (begins_so c.as_bytes.ensures.value c.begins_above_zero.ensures c.if-not-begins_above_zero.false)
+    c.parse.ensures.value.0)
 
 pub returns-then-size-le-LARGEST : goal.returns-then-size-le-LARGEST
 returns-then-size-le-LARGEST c =
-    sym (size_parsed c.args.word.now c.in-Ok.size c.parse.result c.in-Ok.is (begins_so c.as_bytes.ensures.value c.begins_above_zero.ensures c.if-not-begins_above_zero.false) c.if-size-le-LARGEST.true c.parse.ensures.value.0)
+    sym (size_parsed c.args.word.now c.in-Ok.size c.parse.result c.in-Ok.is
+    (begins_so c.as_bytes.ensures.value c.begins_above_zero.ensures c.if-not-begins_above_zero.false)
+    c.if-size-le-LARGEST.true c.parse.ensures.value.0)
 
 pub returns-else-size-le-LARGEST : goal.returns-else-size-le-LARGEST
 returns-else-size-le-LARGEST c =
-    sym (size_too_large c.args.word.now c.in-Ok.size c.parse.result c.in-Ok.is (begins_so c.as_bytes.ensures.value c.begins_above_zero.ensures c.if-not-begins_above_zero.false) c.if-size-le-LARGEST.false c.parse.ensures.value.0)
+    sym (size_too_large c.args.word.now c.in-Ok.size c.parse.result c.in-Ok.is
+    (begins_so c.as_bytes.ensures.value c.begins_above_zero.ensures c.if-not-begins_above_zero.false)
+    c.if-size-le-LARGEST.false c.parse.ensures.value.0)

@@ -9,7 +9,8 @@ invariant-loop-buffer g l = record {
   size : length l.buffer ≡ CHUNK;
   bounded : length l.all.items ≤ LONGEST + CHUNK;
   count : (g.S.Source.state l.source).faults ≡ (g.S.Source.state l.fn.source).faults;
-  front : (bytes : List ℕ) → (g.S.Source.state l.fn.source).left ≡ Some bytes → Front bytes l.all.items (g.S.Source.state l.source).left;
+  front : (bytes : List ℕ) → (g.S.Source.state l.fn.source).left ≡ Some bytes
+      → Front bytes l.all.items (g.S.Source.state l.source).left;
 }
 
 -- each turn but the last takes a byte

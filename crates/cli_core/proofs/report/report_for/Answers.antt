@@ -3,7 +3,8 @@ use Rattle.cli_core.proofs.Reports.{report_by, report_stopped, report_untreed}
 use Rattle.cli_core.proofs.report.report_for.Goals as goal
 
 pub returns-in_err-settings : goal.returns-in_err-settings
-returns-in_err-settings c = raised_text _ _ _ _ c.from_residual.ensures.1 (report_stopped c.args.form _ _ c.in_err-settings.ensures)
+returns-in_err-settings c =
+    raised_text _ _ _ _ c.from_residual.ensures.1 (report_stopped c.args.form _ _ c.in_err-settings.ensures)
 
 pub returns-in_err-tree : goal.returns-in_err-tree
 returns-in_err-tree c =

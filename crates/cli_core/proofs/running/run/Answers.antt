@@ -6,7 +6,8 @@ use Rattle.cli_core.proofs.running.run.Goals as goal
 -- a command that reads a document
 
 pub returns-in-Report-clause-usage : goal.returns-in-Report-clause-usage
-returns-in-Report-clause-usage g c = (λ usage. absurd (c.resolve.ensures.reports.ends.0 usage), λ none. cc c.in-Some.ensures)
+returns-in-Report-clause-usage g c =
+    (λ usage. absurd (c.resolve.ensures.reports.ends.0 usage), λ none. cc c.in-Some.ensures)
 
 pub returns-in-Report-clause-reports : goal.returns-in-Report-clause-reports
 returns-in-Report-clause-reports g c = λ kind named.
@@ -23,7 +24,8 @@ returns-in-Report-clause-faults g c = record {
 -- the command that replays a bundle
 
 pub returns-in-Replay-clause-usage : goal.returns-in-Replay-clause-usage
-returns-in-Replay-clause-usage g c = (λ usage. absurd (c.replay.ensures.replays.ends.0 usage), λ none. cc c.in-Some.ensures)
+returns-in-Replay-clause-usage g c =
+    (λ usage. absurd (c.replay.ensures.replays.ends.0 usage), λ none. cc c.in-Some.ensures)
 
 pub returns-in-Replay-clause-replays : goal.returns-in-Replay-clause-replays
 returns-in-Replay-clause-replays g c = λ named. (refl, c.replay.ensures.replays)
@@ -38,7 +40,8 @@ returns-in-Replay-clause-faults g c = record {
 -- a generated project
 
 pub returns-in-Generate-clause-usage : goal.returns-in-Generate-clause-usage
-returns-in-Generate-clause-usage g c = (λ usage. absurd ((generates_ends c.generate.ensures.generates.ends).0.usage usage), λ none. cc c.in-Some.ensures)
+returns-in-Generate-clause-usage g c =
+    (λ usage. absurd ((generates_ends c.generate.ensures.generates.ends).0.usage usage), λ none. cc c.in-Some.ensures)
 
 pub returns-in-Generate-clause-generates : goal.returns-in-Generate-clause-generates
 returns-in-Generate-clause-generates g c = λ size named.
@@ -57,7 +60,8 @@ returns-in-Generate-clause-faults g c =
 -- a request over the disk
 
 pub returns-in-Disk-clause-usage : goal.returns-in-Disk-clause-usage
-returns-in-Disk-clause-usage g c = (λ usage. absurd ((asks_ends c.ask_disk.ensures.asks).usage usage), λ none. cc c.in-Some.ensures)
+returns-in-Disk-clause-usage g c =
+    (λ usage. absurd ((asks_ends c.ask_disk.ensures.asks).usage usage), λ none. cc c.in-Some.ensures)
 
 pub returns-in-Disk-clause-asks : goal.returns-in-Disk-clause-asks
 returns-in-Disk-clause-asks g c = λ request named.

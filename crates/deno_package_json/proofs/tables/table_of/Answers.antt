@@ -17,4 +17,5 @@ pub returns-clause-ordered : goal.returns-clause-ordered
 returns-clause-ordered c =
     let InOrder : Table → Type 0 = IsOrdered in
     let rising = IsRising-table_of c.args.members.now.entries c.len.ensures.ordered in
-    subst InOrder (sym (returns-clause-table c)) (IsOrdered-rising (table_of (members_view c.args.members.now.entries)) rising)
+    subst InOrder (sym (returns-clause-table c)) (IsOrdered-rising (table_of (members_view c.args.members.now.entries))
+    rising)

@@ -9,4 +9,5 @@ abbrev pub invariant-loop-name : goal.invariant-loop-name
 invariant-loop-name l =
     (goal.iterator-loop-name).can_next l.name-iterator ×
     (goal.iterator-loop-name).is_finite l.name-iterator ×
-    (insert_all bytes_eq l.table.entries (table_of (members_view l.name-iterator)) ≡ insert_all bytes_eq [] (table_of (members_view l.members.entries)))
+    (insert_all bytes_eq l.table.entries (table_of (members_view l.name-iterator)) ≡ insert_all bytes_eq []
+    (table_of (members_view l.members.entries)))

@@ -9,4 +9,5 @@ abbrev pub invariant-loop-name : goal.invariant-loop-name
 invariant-loop-name l =
     (goal.iterator-loop-name).can_next l.name-iterator ×
     (goal.iterator-loop-name).is_finite l.name-iterator ×
-    (fold (λ found entry. put entry.0 (string entry.1) found) (members_view l.members.entries) l.name-iterator ≡ fold (λ found entry. put entry.0 (string entry.1) found) no_members l.table.entries)
+    (fold (λ found entry. put entry.0 (string entry.1) found) (members_view l.members.entries) l.name-iterator ≡ fold
+    (λ found entry. put entry.0 (string entry.1) found) no_members l.table.entries)

@@ -19,7 +19,8 @@ unfolding settings_of
 returns-in_err-preserve_symlinks g c =
     meets_then _ _ _ _ c.in_ok-cwd.ensures
     (meets_then _ _ _ _ c.in_ok-target.ensures
-    (meets_raised _ _ _ c.from_residual-in_err-preserve_symlinks.ensures.1 (meets_stops _ _ _ c.in_err-preserve_symlinks.ensures)))
+    (meets_raised _ _ _ c.from_residual-in_err-preserve_symlinks.ensures.1
+    (meets_stops _ _ _ c.in_err-preserve_symlinks.ensures)))
 
 pub returns-in_err-node_modules : goal.returns-in_err-node_modules
 unfolding settings_of
@@ -27,7 +28,8 @@ returns-in_err-node_modules g c =
     meets_then _ _ _ _ c.in_ok-cwd.ensures
     (meets_then _ _ _ _ c.in_ok-target.ensures
     (meets_then _ _ _ _ c.in_ok-preserve_symlinks.ensures
-    (meets_raised _ _ _ c.from_residual-in_err-node_modules.ensures.1 (meets_stops _ _ _ c.in_err-node_modules.ensures))))
+    (meets_raised _ _ _ c.from_residual-in_err-node_modules.ensures.1
+    (meets_stops _ _ _ c.in_err-node_modules.ensures))))
 
 pub returns-in_err-alias : goal.returns-in_err-alias
 unfolding settings_of
@@ -73,7 +75,8 @@ returns-in_err-conditions g c =
     (meets_then _ _ _ _ alias
     (meets_then _ _ _ _ c.in_ok-ts.ensures
     (meets_then _ _ _ _ c.in_ok-lock.ensures
-    (meets_raised _ _ _ c.from_residual-in_err-conditions.ensures.1 (meets_stops _ _ _ c.in_err-conditions.ensures))))))))
+    (meets_raised _ _ _ c.from_residual-in_err-conditions.ensures.1
+    (meets_stops _ _ _ c.in_err-conditions.ensures))))))))
 
 pub returns : goal.returns
 unfolding settings_of

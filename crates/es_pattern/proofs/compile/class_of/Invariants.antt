@@ -4,4 +4,5 @@ use Rattle.es_pattern.specs.Spans.{fits}
 use Rattle.es_pattern.proofs.compile.class_of.Given as goal
 
 abbrev pub invariant-loop-code : goal.invariant-loop-code
-invariant-loop-code l = (length l.class.items ≡ l.code) × ((c : ℕ) → c < l.code → slice_get l.class.items c ≡ Some (fits l.negated l.ranges c))
+invariant-loop-code l = (length l.class.items ≡ l.code)
+    × ((c : ℕ) → c < l.code → slice_get l.class.items c ≡ Some (fits l.negated l.ranges c))

@@ -5,4 +5,5 @@ use Rattle.es_pattern.proofs.Compiling.{Parting}
 use Rattle.es_pattern.proofs.compile.lookaheads_of.Given as goal
 
 abbrev pub invariant-loop-number : goal.invariant-loop-number
-invariant-loop-number l = (stack_of l.programs.items ≡ codes Backward (take l.number l.pieces)) × Parting l.pieces l.number l.lookaheads.items
+invariant-loop-number l =
+    (stack_of l.programs.items ≡ codes Backward (take l.number l.pieces)) × Parting l.pieces l.number l.lookaheads.items

@@ -8,4 +8,5 @@ use Rattle.es_pattern.proofs.search.is_found.Goals as goal
 pub returns : goal.returns
 returns c =
     let all_chars : c.in_ok-characters.characters.items ≡ chars c.args.text.now = search (rules, chars_from_encodes) in
-    found_if c.search_counted.result (tree_of c.args.pieces.now) c.deref.result.now (chars c.args.text.now) (c.deref.ensures.value ∙ all_chars) c.search_counted.ensures
+    found_if c.search_counted.result (tree_of c.args.pieces.now) c.deref.result.now (chars c.args.text.now)
+    (c.deref.ensures.value ∙ all_chars) c.search_counted.ensures

@@ -7,4 +7,14 @@ pub returns-in-Ok : goal.returns-in-Ok
 returns-in-Ok c =
     let cwd = c.in_ok-of.ensures in
     let none = c.new.ensures.empty in
-    project_made _ _ (λ i. record { cwd = cwd i; target = Node; preserve_symlinks = false; node_modules = true; alias = none i; ts = None; lock = None; conditions = None }) c.in-Ok.ensures.ok
+    project_made _ _ (λ i. record {
+      cwd = cwd i;
+      target = Node;
+      preserve_symlinks = false;
+      node_modules = true;
+      alias =
+          none i;
+      ts = None;
+      lock = None;
+      conditions = None;
+    }) c.in-Ok.ensures.ok

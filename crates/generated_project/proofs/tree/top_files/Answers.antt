@@ -12,4 +12,5 @@ returns c =
     ∙ ap (λ (t : Files). with_text t (codes "/g/a.js") [])
     (c.in_ok-put.ensures
     ∙ ap (λ (m : Memory). with_text m.files (codes "/g/.pnp.cjs") c.as_str.result.now) c.new-tree.ensures
-    ∙ ap (λ (text : List ℕ). with_text finite.empty (codes "/g/.pnp.cjs") text) (c.as_str.ensures.value ∙ c.in_ok-manifest.ensures))
+    ∙ ap (λ (text : List ℕ). with_text finite.empty (codes "/g/.pnp.cjs") text)
+    (c.as_str.ensures.value ∙ c.in_ok-manifest.ensures))

@@ -5,7 +5,8 @@ use Rattle.graph_report.proofs.document.read_fields.Goals as goal
 
 pub returns-in_err-project-clause-fields : goal.returns-in_err-project-clause-fields
 unfolding fields_of
-returns-in_err-project-clause-fields c = meets_raised _ _ _ c.from_residual.ensures.1 (meets_stops _ _ _ c.in_err-project.ensures)
+returns-in_err-project-clause-fields c =
+    meets_raised _ _ _ c.from_residual.ensures.1 (meets_stops _ _ _ c.in_err-project.ensures)
 
 pub returns-in_err-entries-clause-fields : goal.returns-in_err-entries-clause-fields
 unfolding fields_of
@@ -18,7 +19,8 @@ unfolding fields_of
 returns-in_err-capacity-clause-fields c =
     meets_then _ _ _ _ c.in_ok-project.ensures
     (meets_then _ _ _ _ c.in_ok-entries.ensures.entries
-    (meets_raised _ _ _ c.from_residual-in_err-capacity.ensures.1 (meets_stops _ _ _ c.in_err-capacity.ensures.capacity)))
+    (meets_raised _ _ _ c.from_residual-in_err-capacity.ensures.1
+    (meets_stops _ _ _ c.in_err-capacity.ensures.capacity)))
 
 pub returns-in_err-steps-clause-fields : goal.returns-in_err-steps-clause-fields
 unfolding fields_of

@@ -10,7 +10,9 @@ pub returns-clause-line : goal.returns-clause-line
 returns-clause-line c =
     let s = (graph_state c.args.session.now).session in
     let path = c.as_str-path.result.now in
-    let told = put-line s path (refusal s.tree.files path c.as_str.result.now) c.put-put.result c.line_of_put.result c.put-put.ensures.count c.put-put.ensures.fits c.put-put.ensures.refused c.line_of_put.ensures.line c.line_of_put.ensures.starved in
+    let told = put-line s path (refusal s.tree.files path c.as_str.result.now) c.put-put.result c.line_of_put.result
+    c.put-put.ensures.count c.put-put.ensures.fits c.put-put.ensures.refused c.line_of_put.ensures.line
+    c.line_of_put.ensures.starved in
     rw (c.as_str-path.ensures, c.as_str.ensures) at told
 
 pub returns-clause-taken : goal.returns-clause-taken
@@ -22,6 +24,9 @@ returns-clause-taken c =
     let against = refusal s.session.tree.files path file.canonical in
     let put = c.put-put.result in
     let after = after_put s.session path file in
-    let left = put-leaves s u (put_unless s.session path file against) c.line_of_put.result (entries-kept s u after put c.put-put.ensures.ok c.put-put.ensures.err)
-    (put-left s.session path against u.session file put c.line_of_put.result (session-ok s u after put c.put-put.ensures.ok) c.put-put.ensures.fits c.put-put.ensures.refused (session-err s u put c.put-put.ensures.err) c.line_of_put.ensures.starved) in
+    let left = put-leaves s u (put_unless s.session path file against) c.line_of_put.result
+    (entries-kept s u after put c.put-put.ensures.ok c.put-put.ensures.err)
+    (put-left s.session path against u.session file put c.line_of_put.result
+    (session-ok s u after put c.put-put.ensures.ok) c.put-put.ensures.fits c.put-put.ensures.refused
+    (session-err s u put c.put-put.ensures.err) c.line_of_put.ensures.starved) in
     rw (c.as_str-path.ensures, c.as_str.ensures, c.as_slice.ensures) at left

@@ -19,6 +19,7 @@ pub returns : goal.returns
 returns c =
     let before = take c.in_ok-closing.closing c.args.line.now in
     let opening = c.in_ok-opening.opening in
-    ap (λ t. Some t) (take_all (length before - (opening + 1)) (drop (opening + 1) before) (omega (arith, length-drop (opening + 1) before)))
+    ap (λ t. Some t) (take_all (length before - (opening + 1)) (drop (opening + 1) before)
+    (omega (arith, length-drop (opening + 1) before)))
     ∙ sym (between-two c.args.mark c.args.line.now c.in_ok-closing.closing opening
     c.in_ok-closing.ensures c.in_ok-opening.ensures)

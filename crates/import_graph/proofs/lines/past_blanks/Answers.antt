@@ -17,5 +17,6 @@ returns c =
     (YieldsList-at c.take_while.ensures.source (YieldsList-from_slice line c.iter.ensures.rest))
     c.take_while.ensures.closure c.take_while.ensures.done (λ x b q k. search rules))
     ∙ length-prefix_len is_blank line in
-    take_all (length line - c.count-blanks.result) (drop c.count-blanks.result line) (omega (arith, length-drop c.count-blanks.result line))
+    take_all (length line - c.count-blanks.result) (drop c.count-blanks.result line)
+    (omega (arith, length-drop c.count-blanks.result line))
     ∙ ap (λ n. drop n line) blanks

@@ -17,7 +17,9 @@ loop-line-preserved-in_ok-push c =
       c.in_ok-push.ensures.items
           ∙ ap (λ texts. texts ++ c.in_ok-of.field-0 ∷ []) c.loop-line.invariant.2
           ∙ ap (λ t. filter_map import_of (map now c.loop-line.yielded) ++ t ∷ []) c.in_ok-of.ensures
-          ∙ sym (ap (filter_map import_of) (map-append now c.loop-line.yielded (c.in-Some.line ∷ [])) ∙ with-line (map now c.loop-line.yielded) c.in-Some.line.now (Some c.in-Some-import_of.text.now) (sym text)),
+          ∙ sym (ap (filter_map import_of) (map-append now c.loop-line.yielded (c.in-Some.line ∷ []))
+          ∙ with-line (map now c.loop-line.yielded) c.in-Some.line.now (Some c.in-Some-import_of.text.now)
+          (sym text)),
     )
 
 pub loop-line-preserved : goal.loop-line-preserved
@@ -28,13 +30,15 @@ loop-line-preserved c =
       tt,
       c.loop-line.invariant.2
           ∙ sym (append-nil (filter_map import_of (map now c.loop-line.yielded)))
-          ∙ sym (ap (filter_map import_of) (map-append now c.loop-line.yielded (c.in-Some.line ∷ [])) ∙ with-line (map now c.loop-line.yielded) c.in-Some.line.now None (sym none)),
+          ∙ sym (ap (filter_map import_of) (map-append now c.loop-line.yielded (c.in-Some.line ∷ []))
+          ∙ with-line (map now c.loop-line.yielded) c.in-Some.line.now None (sym none)),
     )
 
 pub returns : goal.returns
 unfolding imports_of
 returns c =
     let all = YieldsList-end (YieldsList-at c.into_iter-line-iterator.ensures.into_iter_gives
-    (YieldsList-from_slice_split _ (λ b. b == 10) c.args.bytes.now c.split-line-items.ensures.rest c.split-line-items.ensures.done c.split-line-items.ensures.closure (λ x b q k. search rules)))
+    (YieldsList-from_slice_split _ (λ b. b == 10) c.args.bytes.now c.split-line-items.ensures.rest
+    c.split-line-items.ensures.done c.split-line-items.ensures.closure (λ x b q k. search rules)))
     c.loop-line.yielded _ c.loop-line.yielded_by _ _ c.in-None.is c.next.ensures.steps in
     c.from.ensures ∙ c.loop-line.invariant.2 ∙ ap (filter_map import_of) all.0

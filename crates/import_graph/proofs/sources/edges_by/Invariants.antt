@@ -7,5 +7,7 @@ use Rattle.import_graph.proofs.sources.edges_by.Given as goal
 abbrev pub invariant-loop-text : goal.invariant-loop-text
 invariant-loop-text l =
     IsSameBut (state_of l.fn.session) (state_of l.session)
-    × (after_asks (state_of l.fn.session) (map (λ text. (l.importer, text)) l.texts) ≡ after_asks (state_of l.session) (map (λ text. (l.importer, text)) (drop l.text-index l.texts)))
-    × (map (edge_by (state_of l.fn.session) l.importer) l.texts ≡ l.edges.items ++ map (edge_by (state_of l.fn.session) l.importer) (drop l.text-index l.texts))
+    × (after_asks (state_of l.fn.session) (map (λ text. (l.importer, text)) l.texts) ≡ after_asks (state_of l.session)
+    (map (λ text. (l.importer, text)) (drop l.text-index l.texts)))
+    × (map (edge_by (state_of l.fn.session) l.importer) l.texts ≡ l.edges.items
+    ++ map (edge_by (state_of l.fn.session) l.importer) (drop l.text-index l.texts))

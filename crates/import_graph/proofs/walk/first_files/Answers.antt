@@ -10,5 +10,7 @@ pub returns : goal.returns
 returns g c =
     let files = filter (is_file (state_of c.args.sources.now).tree.files) c.args.entries.now in
     let keys = c.loop-entry.seen.keys in
-    let none : drop c.loop-entry.entry-index c.args.entries.now ≡ [] = drop_of_length-le c.args.entries.now (omega arith) in
-    sym (c.loop-entry.invariant ∙ ap (λ entries. insert_all bytes_eq keys (filter (is_file (state_of c.args.sources.now).tree.files) entries)) none) ∙ once-is files
+    let none : drop c.loop-entry.entry-index c.args.entries.now ≡ [] =
+    drop_of_length-le c.args.entries.now (omega arith) in
+    sym (c.loop-entry.invariant ∙ ap (λ entries. insert_all bytes_eq keys
+    (filter (is_file (state_of c.args.sources.now).tree.files) entries)) none) ∙ once-is files

@@ -6,5 +6,6 @@ use Rattle.json_reading.proofs.borrowed.list_of.Goals as goal
 pub returns-clause-rise : goal.returns-clause-rise
 returns-clause-rise c =
     let all : c.loop-entry.list.items ≡ c.args.map.entries =
-    sym (append-nil c.loop-entry.list.items) ∙ ap (λ left. c.loop-entry.list.items ++ left) (sym c.in-None.ensures.steps.0) ∙ c.loop-entry.invariant.2 in
+    sym (append-nil c.loop-entry.list.items) ∙ ap (λ left. c.loop-entry.list.items ++ left)
+    (sym c.in-None.ensures.steps.0) ∙ c.loop-entry.invariant.2 in
     subst NamesRise (sym all) (rise-sorted c.args.map.entries c.len.ensures.ordered)

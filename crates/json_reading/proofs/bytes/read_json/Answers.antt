@@ -4,4 +4,5 @@ use Rattle.json_reading.proofs.JsonBytes.{json_of-text}
 use Rattle.json_reading.proofs.bytes.read_json.Goals as goal
 
 pub returns-in-Ok : goal.returns-in-Ok
-returns-in-Ok c = subst (ReadsAs _) (sym (json_of-text _ _ c.in-Ok.ensures.cases.0 c.in-Ok.ensures.cases.1)) c.read_owned.ensures
+returns-in-Ok c =
+    subst (ReadsAs _) (sym (json_of-text _ _ c.in-Ok.ensures.cases.0 c.in-Ok.ensures.cases.1)) c.read_owned.ensures

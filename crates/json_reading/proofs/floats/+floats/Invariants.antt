@@ -5,7 +5,8 @@ use Rattle.json_reading.proofs.floats.+floats.Given as goal
 
 -- what is left decides
 abbrev pub invariant-items_hold-loop-item : goal.invariant-items_hold-loop-item
-invariant-items_hold-loop-item l = items_have_float (items_view l.items) ≡ items_have_float (items_view (drop l.item-index l.items))
+invariant-items_hold-loop-item l =
+    items_have_float (items_view l.items) ≡ items_have_float (items_view (drop l.item-index l.items))
 
 abbrev pub invariant-members_hold-loop-key : goal.invariant-members_hold-loop-key
 invariant-members_hold-loop-key l =

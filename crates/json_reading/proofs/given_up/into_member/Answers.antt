@@ -9,4 +9,5 @@ use Rattle.json_reading.proofs.given_up.into_member.Goals as goal
 pub returns-in-Object : goal.returns-in-Object
 returns-in-Object c =
     let is : value_view c.args.value ≡ object (members_view c.in-Object.members.items) = search (rules, the_lemmas) in
-    member-given c.args.name.now c.args.value c.last_of.result (c.last_of.ensures ∙ sym (ap (found.get c.args.name.now) is))
+    member-given c.args.name.now c.args.value c.last_of.result
+    (c.last_of.ensures ∙ sym (ap (found.get c.args.name.now) is))

@@ -7,4 +7,5 @@ use Rattle.json_reading.proofs.given_up.last_of.Given as goal
 -- the last of the members so far
 abbrev pub invariant-loop-key : goal.invariant-loop-key
 invariant-loop-key l =
-    (goal.iterator-loop-key).can_next l.key-iterator × (goal.iterator-loop-key).is_finite l.key-iterator × (option_map value_view l.found ≡ get_member l.name (members_view l.yielded))
+    (goal.iterator-loop-key).can_next l.key-iterator × (goal.iterator-loop-key).is_finite l.key-iterator
+    × (option_map value_view l.found ≡ get_member l.name (members_view l.yielded))

@@ -9,4 +9,5 @@ use Rattle.json_reading.proofs.objects.each_member.Given as goal
 abbrev pub invariant-loop-name : goal.invariant-loop-name
 invariant-loop-name g l =
     (goal.iterator-loop-name g).can_next l.name-iterator × (goal.iterator-loop-name g).is_finite l.name-iterator
-    × (read_into g.T.FromJson.reads g.J.JsonValue.stands_for l.read.entries (into_iter_items l.name-iterator) ≡ members_by g.T.FromJson.reads (listed g.J.JsonValue.stands_for l.fn.members.items))
+    × (read_into g.T.FromJson.reads g.J.JsonValue.stands_for l.read.entries (into_iter_items l.name-iterator) ≡
+    members_by g.T.FromJson.reads (listed g.J.JsonValue.stands_for l.fn.members.items))

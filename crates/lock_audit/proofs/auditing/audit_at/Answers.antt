@@ -10,13 +10,15 @@ returns-in_err-path g c = asks_starved_in resolving _ c.from_residual.ensures.1
 
 pub returns-in_err-manifest : goal.returns-in_err-manifest
 unfolding audit_by
-returns-in_err-manifest g c = asks_stops resolving _ _ _ c.from_residual-in_err-manifest.ensures.1 (rw c.in_ok-path.ensures at c.in_err-manifest.ensures.asks)
+returns-in_err-manifest g c = asks_stops resolving _ _ _ c.from_residual-in_err-manifest.ensures.1
+    (rw c.in_ok-path.ensures at c.in_err-manifest.ensures.asks)
 
 pub returns-in_err-audit_of : goal.returns-in_err-audit_of
 unfolding audit_by
 returns-in_err-audit_of g c =
     asks_then _ (rw c.in_ok-path.ensures at c.in_ok-manifest.ensures.asks)
-    (asks_fails_in resolving (λ audit. Done (Ok audit)) _ c.from_residual-in_err-audit_of.ensures.1 c.in_err-audit_of.ensures)
+    (asks_fails_in resolving (λ audit. Done (Ok audit)) _ c.from_residual-in_err-audit_of.ensures.1
+    c.in_err-audit_of.ensures)
 
 pub returns : goal.returns
 unfolding audit_by

@@ -10,7 +10,8 @@ returns-in_err-edges g c = asks_starved _ c.from_residual.ensures.1
 
 pub returns-in_err-findings : goal.returns-in_err-findings
 unfolding audit_of
-returns-in_err-findings g c = asks_fails _ _ c.from_residual-in_err-findings.ensures.1 (rw (c.as_slice.ensures.value, c.in_ok-edges.ensures) at c.in_err-findings.ensures)
+returns-in_err-findings g c = asks_fails _ _ c.from_residual-in_err-findings.ensures.1
+    (rw (c.as_slice.ensures.value, c.in_ok-edges.ensures) at c.in_err-findings.ensures)
 
 pub returns-in_err-unused : goal.returns-in_err-unused
 unfolding audit_of
@@ -22,6 +23,8 @@ pub returns : goal.returns
 unfolding audit_of
 returns g c =
     let unused = rw c.file.ensures at c.in_ok-unused.ensures in
-    let count : c.len.result ≡ count_of (edges c.args.manifest.now) = count_is c.len.result (edges c.args.manifest.now) (c.len.ensures ∙ sym c.as_slice.ensures.len ∙ ap length (c.as_slice.ensures.value ∙ c.in_ok-edges.ensures)) (search rules) in
+    let count : c.len.result ≡ count_of (edges c.args.manifest.now) =
+    count_is c.len.result (edges c.args.manifest.now) (c.len.ensures ∙ sym c.as_slice.ensures.len
+    ∙ ap length (c.as_slice.ensures.value ∙ c.in_ok-edges.ensures)) (search rules) in
     asks_then _ (rw (c.as_slice.ensures.value, c.in_ok-edges.ensures) at c.in_ok-findings.ensures)
     (asks_done (λ i. record { findings = c.in_ok-findings.findings; unused = unused i; edges = count i }))

@@ -6,4 +6,5 @@ use Rattle.lock_audit.proofs.entries.unused_entries.Given as goal
 -- what is told so far
 abbrev pub invariant-loop-entry : goal.invariant-loop-entry
 invariant-loop-entry l =
-    l.unused.items ≡ map unused_of (filter (λ entry. not (has_name l.lock.version (locators_of l.manifest.package_registry_data) entry)) (take l.entry-index l.entries))
+    l.unused.items ≡ map unused_of (filter (λ entry. not (has_name l.lock.version
+    (locators_of l.manifest.package_registry_data) entry)) (take l.entry-index l.entries))

@@ -6,14 +6,18 @@ use Rattle.lock_audit.proofs.names.put_names.Goals as goal
 
 pub loop-reference-init : goal.loop-reference-init
 loop-reference-init c =
-    let same : c.into_iter-reference-iterator.result ≡ c.args.references.now.entries = c.into_iter-reference-iterator.ensures.into_iter_gives ∙ c.iter-reference-items.ensures.rest in
+    let same : c.into_iter-reference-iterator.result ≡ c.args.references.now.entries =
+    c.into_iter-reference-iterator.ensures.into_iter_gives ∙ c.iter-reference-items.ensures.rest in
     (tt, tt, λ whole h. rw same at h)
 
 pub loop-reference-preserved : goal.loop-reference-preserved
 loop-reference-preserved c = (
   tt,
   tt,
-  λ whole h. (rw c.in-Some.ensures.steps at (c.loop-reference.invariant.2 whole)) (adds_then _ _ whole (locator c.args.name.now c.in-Some.reference.now ∷ []) (map (λ row. row.0) (rows_under (c.args.name.now, c.next.new.self))) (rw (c.as_str.ensures, c.as_str-in-loop-reference.ensures) at c.in_ok-put_name.ensures) h),
+  λ whole h. (rw c.in-Some.ensures.steps at (c.loop-reference.invariant.2 whole))
+      (adds_then _ _ whole (locator c.args.name.now c.in-Some.reference.now ∷ [])
+      (map (λ row. row.0) (rows_under (c.args.name.now, c.next.new.self)))
+      (rw (c.as_str.ensures, c.as_str-in-loop-reference.ensures) at c.in_ok-put_name.ensures) h),
 )
 
 pub returns : goal.returns

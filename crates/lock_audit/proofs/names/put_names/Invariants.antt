@@ -7,6 +7,7 @@ use Rattle.lock_audit.proofs.names.put_names.Given as goal
 -- with the names of the rows that are left, they have those of all
 abbrev pub invariant-loop-reference : goal.invariant-loop-reference
 invariant-loop-reference l =
-    (goal.iterator-loop-reference).can_next l.reference-iterator × (goal.iterator-loop-reference).is_finite l.reference-iterator
+    (goal.iterator-loop-reference).can_next l.reference-iterator
+    × (goal.iterator-loop-reference).is_finite l.reference-iterator
     × ((whole : Names) → Adds l.names whole (map (λ row. row.0) (rows_under (l.name, l.reference-iterator)))
     → Adds l.fn.names whole (map (λ row. row.0) (rows_under (l.name, l.references.entries))))

@@ -10,7 +10,8 @@ pub returns : goal.returns
 returns c = λ text.
     let key = string_bytes c.in_ok-resolution.resolution in
     let old = c.args.resolutions.now in
-    let is : key ≡ c.args.name.now ++ codes "@" ++ c.args.reference.now = c.in_ok-resolution.ensures.ok ∙ sym (append_assoc c.args.name.now (codes "@") c.args.reference.now) in
+    let is : key ≡ c.args.name.now ++ codes "@" ++ c.args.reference.now =
+    c.in_ok-resolution.ensures.ok ∙ sym (append_assoc c.args.name.now (codes "@") c.args.reference.now) in
     hash_set_updates_text key old c.insert.new.self true c.in_ok-insert.ensures.updates text
     ∙ cond_or (bytes_eq key text) (contains_text old text)
     ∙ ap (λ b. b || contains_text old text) (swapped bytes_eq texts_keyed key text ∙ ap (bytes_eq text) is)

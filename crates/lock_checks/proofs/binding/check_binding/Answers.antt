@@ -11,8 +11,10 @@ returns-in-Ok g c = asks_then _ c.in-Ok.ensures.asks (asks_done refl)
 
 pub returns-in_ok-refusal-in-Err : goal.returns-in_ok-refusal-in-Err
 unfolding binding_fault
-returns-in_ok-refusal-in-Err g c = asks_then _ (asks_refused (kind c.in-Err.error) _ c.in_ok-refusal-in-Err.ensures c.in-Err.ensures.asks) (asks_done refl)
+returns-in_ok-refusal-in-Err g c = asks_then _ (asks_refused (kind c.in-Err.error) _ c.in_ok-refusal-in-Err.ensures
+    c.in-Err.ensures.asks) (asks_done refl)
 
 pub returns-in_err-refusal-in-Err : goal.returns-in_err-refusal-in-Err
 unfolding binding_fault
-returns-in_err-refusal-in-Err g c = asks_fails _ _ c.from_residual.ensures.1 (asks_refused_not (kind c.in-Err.error) _ c.in_err-refusal-in-Err.ensures c.in-Err.ensures.asks)
+returns-in_err-refusal-in-Err g c = asks_fails _ _ c.from_residual.ensures.1
+    (asks_refused_not (kind c.in-Err.error) _ c.in_err-refusal-in-Err.ensures c.in-Err.ensures.asks)

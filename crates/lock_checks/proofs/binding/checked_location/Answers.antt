@@ -11,13 +11,15 @@ use Rattle.lock_checks.proofs.binding.checked_location.Goals as goal
 
 pub returns-in_default-clause-asks : goal.returns-in_default-clause-asks
 unfolding checked_location
-returns-in_default-clause-asks g c = stops_decided _ _ (Refused NotInRegistry) (Err (Refused NotInRegistry)) refl (ap (λ o. ok_or o NotInRegistry) (sym c.in_default.ensures))
+returns-in_default-clause-asks g c = stops_decided _ _ (Refused NotInRegistry) (Err (Refused NotInRegistry)) refl
+    (ap (λ o. ok_or o NotInRegistry) (sym c.in_default.ensures))
 
 pub returns-in_err-check_by-clause-asks : goal.returns-in_err-check_by-clause-asks
 unfolding checked_location
 returns-in_err-check_by-clause-asks g c =
     after_decided _ (ap (λ o. ok_or o NotInRegistry) (sym c.in-Some.ensures))
-    (asks_stops resolving _ _ (borrowed c.from_residual.result) (borrowed_err _ _ c.from_residual.ensures.1) c.in_err-check_by.ensures)
+    (asks_stops resolving _ _ (borrowed c.from_residual.result) (borrowed_err _ _ c.from_residual.ensures.1)
+    c.in_err-check_by.ensures)
 
 pub returns-clause-asks : goal.returns-clause-asks
 unfolding checked_location

@@ -17,18 +17,23 @@ returns-in_err-entry g c =
 pub returns-in_default : goal.returns-in_default
 returns-in_default g c =
     let other = sym (rw c.as_str-reference.ensures at c.is_workspace.ensures) ∙ c.if-is_workspace.false in
-    asks_locked c.args.lock.now c.args.edge.now.manifest.now c.args.edge.now.owner.now c.args.edge.now.name.now c.args.edge.now.bound.now _ other (rw c.in_default.is at c.in_ok-entry.ensures) (asks_done refl)
+    asks_locked c.args.lock.now c.args.edge.now.manifest.now c.args.edge.now.owner.now c.args.edge.now.name.now
+    c.args.edge.now.bound.now _ other (rw c.in_default.is at c.in_ok-entry.ensures) (asks_done refl)
 
 pub returns-then-not-is_npm : goal.returns-then-not-is_npm
 returns-then-not-is_npm g c =
     let other = sym (rw c.as_str-reference.ensures at c.is_workspace.ensures) ∙ c.if-is_workspace.false in
     let foreign = sym (rw c.as_str-reference.ensures at c.is_npm.ensures) ∙ c.if-not-is_npm.true in
-    asks_locked c.args.lock.now c.args.edge.now.manifest.now c.args.edge.now.owner.now c.args.edge.now.name.now c.args.edge.now.bound.now _ other (rw c.in-Some.is at c.in_ok-entry.ensures)
-    (asks_foreign c.args.edge.now.manifest.now c.args.edge.now.owner.now c.args.edge.now.name.now c.args.edge.now.bound.now c.in-Some.entry.now foreign (asks_done refl))
+    asks_locked c.args.lock.now c.args.edge.now.manifest.now c.args.edge.now.owner.now c.args.edge.now.name.now
+    c.args.edge.now.bound.now _ other (rw c.in-Some.is at c.in_ok-entry.ensures)
+    (asks_foreign c.args.edge.now.manifest.now c.args.edge.now.owner.now c.args.edge.now.name.now
+    c.args.edge.now.bound.now c.in-Some.entry.now foreign (asks_done refl))
 
 pub returns : goal.returns
 returns g c =
     let other = sym (rw c.as_str-reference.ensures at c.is_workspace.ensures) ∙ c.if-is_workspace.false in
     let npm = sym (rw c.as_str-reference.ensures at c.is_npm.ensures) ∙ c.if-not-is_npm.false in
-    asks_locked c.args.lock.now c.args.edge.now.manifest.now c.args.edge.now.owner.now c.args.edge.now.name.now c.args.edge.now.bound.now _ other (rw c.in-Some.is at c.in_ok-entry.ensures)
-    (asks_npm c.args.edge.now.manifest.now c.args.edge.now.owner.now c.args.edge.now.name.now c.args.edge.now.bound.now c.in-Some.entry.now npm c.range_check.ensures)
+    asks_locked c.args.lock.now c.args.edge.now.manifest.now c.args.edge.now.owner.now c.args.edge.now.name.now
+    c.args.edge.now.bound.now _ other (rw c.in-Some.is at c.in_ok-entry.ensures)
+    (asks_npm c.args.edge.now.manifest.now c.args.edge.now.owner.now c.args.edge.now.name.now c.args.edge.now.bound.now
+    c.in-Some.entry.now npm c.range_check.ensures)

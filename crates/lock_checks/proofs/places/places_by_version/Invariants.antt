@@ -5,4 +5,6 @@ use Rattle.lock_checks.proofs.places.places_by_version.Given as goal
 
 -- the places among the entries so far
 abbrev pub invariant-loop-place : goal.invariant-loop-place
-invariant-loop-place l = (name version : List ℕ) → get_by (λ k. bytes_eq name k.0.now && bytes_eq version k.1.now) l.places ≡ first_place (λ e. bytes_eq name e.name && bytes_eq version e.version) (take l.place l.entries)
+invariant-loop-place l = (name version : List ℕ)
+    → get_by (λ k. bytes_eq name k.0.now && bytes_eq version k.1.now) l.places ≡ first_place
+    (λ e. bytes_eq name e.name && bytes_eq version e.version) (take l.place l.entries)

@@ -7,4 +7,5 @@ use Rattle.lock_checks.proofs.range.range_in_content.Goals as goal
 pub returns-in_ok-to_text-in-None-clause-decided : goal.returns-in_ok-to_text-in-None-clause-decided
 returns-in_ok-to_text-in-None-clause-decided c =
     let refused : IsRefused c.in-Some.bytes = rw c.in-None.is at c.in_ok-read.ensures in
-    rw (c.in-Some.is, c.in_ok-to_text-in-None.ensures.text) (ap (range_or_malformed c.args.file.now c.args.name.now) (refused (text_of c.args.file.now)).1)
+    rw (c.in-Some.is, c.in_ok-to_text-in-None.ensures.text) (ap (range_or_malformed c.args.file.now c.args.name.now)
+    (refused (text_of c.args.file.now)).1)

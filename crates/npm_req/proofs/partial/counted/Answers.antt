@@ -8,6 +8,7 @@ returns-then-value-gt-LARGEST_NUMBER-clause-read c =
     let ds = c.args.digits.now in
     let i = c.loop-digit.digit-index in
     let digit : is_ascii_digit (get_or ds i 0) ≡ true = search rules in
-    sym (sym c.loop-digit.invariant.same ∙ ap (counted_behind c.loop-digit.value) (drop-cons ds i 0 c.loop-digit-test.true)
+    sym (sym c.loop-digit.invariant.same ∙ ap (counted_behind c.loop-digit.value)
+    (drop-cons ds i 0 c.loop-digit-test.true)
     ∙ counted_behind-digit c.loop-digit.value (get_or ds i 0) (drop (suc i) ds) digit
     ∙ counted_behind-large _ (drop (suc i) ds) (omega arith))

@@ -8,11 +8,19 @@ pub returns-then-not-ends_alternative-clause-inside :
     goal.returns-then-not-ends_alternative-clause-inside
 returns-then-not-ends_alternative-clause-inside c =
     let t = c.args.text.now in
-    let ends = end_of_end (after_all is_space (after_word t)) (after_word t) t (end_of_all is_space (after_word t)) (end_of_word t) in
-    (c.after_spaces-rest.result.now, (refl, c.after_spaces-rest.utf8, rw (c.after_spaces-rest.ensures.value, c.word.ensures.rest) ends))
+    let ends = end_of_end (after_all is_space (after_word t)) (after_word t) t (end_of_all is_space (after_word t))
+    (end_of_word t) in (
+      c.after_spaces-rest.result.now,
+      (
+        refl,
+        c.after_spaces-rest.utf8,
+        rw (c.after_spaces-rest.ensures.value, c.word.ensures.rest) ends,
+      ),
+    )
 
 pub returns-clause-end : goal.returns-clause-end
 returns-clause-end c =
     let t = c.args.text.now in
     rw (c.after_spaces-rest.ensures.value, c.word.ensures.rest)
-    (end_of_end (after_all is_space (after_word t)) (after_word t) t (end_of_all is_space (after_word t)) (end_of_word t))
+    (end_of_end (after_all is_space (after_word t)) (after_word t) t (end_of_all is_space (after_word t))
+    (end_of_word t))

@@ -15,17 +15,26 @@ first_target-target-found-requires t c =
 
 pub under-target-requires : goal.under-target-requires
 under-target-requires t c =
-    let found = sym (view_of_ref c.get.result ∙ ap (option_map view) c.get.ensures.value ∙ view-lookup c.args.condition.now c.args.members.now.entries) ∙ ap (option_map (λ x. view x.now)) c.in-Some.is in
-    let below = member-depth c.args.condition.now (members_view c.args.members.now.entries) (view c.in-Some.value.now) found in
+    let found = sym (view_of_ref c.get.result ∙ ap (option_map view) c.get.ensures.value
+    ∙ view-lookup c.args.condition.now c.args.members.now.entries)
+    ∙ ap (option_map (λ x. view x.now)) c.in-Some.is in
+    let below =
+    member-depth c.args.condition.now (members_view c.args.members.now.entries) (view c.in-Some.value.now) found in
     (omega (arith, below, c.requires), tt)
 
 pub under-returns-in-Some : goal.under-returns-in-Some
 under-returns-in-Some t c =
-    let found = sym (view_of_ref c.get.result ∙ ap (option_map view) c.get.ensures.value ∙ view-lookup c.args.condition.now c.args.members.now.entries) ∙ ap (option_map (λ x. view x.now)) c.in-Some.is in
+    let found = sym (view_of_ref c.get.result ∙ ap (option_map view) c.get.ensures.value
+    ∙ view-lookup c.args.condition.now c.args.members.now.entries)
+    ∙ ap (option_map (λ x. view x.now)) c.in-Some.is in
     c.target.ensures
-    ∙ sym (under-member c.args.conditions.now c.args.condition.now (members_view c.args.members.now.entries) ∙ ap (option_and_then (target c.args.conditions.now)) found)
+    ∙ sym (under-member c.args.conditions.now c.args.condition.now (members_view c.args.members.now.entries)
+    ∙ ap (option_and_then (target c.args.conditions.now)) found)
 
 pub under-returns-in-None : goal.under-returns-in-None
 under-returns-in-None t c =
-    let found = sym (view_of_ref c.get.result ∙ ap (option_map view) c.get.ensures.value ∙ view-lookup c.args.condition.now c.args.members.now.entries) ∙ ap (option_map (λ x. view x.now)) c.in-None.is in
-    sym (under-member c.args.conditions.now c.args.condition.now (members_view c.args.members.now.entries) ∙ ap (option_and_then (target c.args.conditions.now)) found)
+    let found = sym (view_of_ref c.get.result ∙ ap (option_map view) c.get.ensures.value
+    ∙ view-lookup c.args.condition.now c.args.members.now.entries)
+    ∙ ap (option_map (λ x. view x.now)) c.in-None.is in
+    sym (under-member c.args.conditions.now c.args.condition.now (members_view c.args.members.now.entries)
+    ∙ ap (option_and_then (target c.args.conditions.now)) found)

@@ -19,7 +19,8 @@ decreases-under l = 3 * members_depth (members_view l.members.now.entries) + 1
 
 -- what is left decides
 abbrev pub invariant-first_target-loop-item : goal.invariant-first_target-loop-item
-invariant-first_target-loop-item l = first_target l.conditions (items_view l.items) ≡ first_target l.conditions (items_view (drop l.item-index l.items))
+invariant-first_target-loop-item l =
+    first_target l.conditions (items_view l.items) ≡ first_target l.conditions (items_view (drop l.item-index l.items))
 
 abbrev pub invariant-by_conditions-loop-condition : goal.invariant-by_conditions-loop-condition
 invariant-by_conditions-loop-condition l =

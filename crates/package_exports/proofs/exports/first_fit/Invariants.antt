@@ -9,4 +9,5 @@ abbrev pub invariant-loop-key : goal.invariant-loop-key
 invariant-loop-key l =
     (goal.iterator-loop-key).can_next l.key-iterator ×
     (goal.iterator-loop-key).is_finite l.key-iterator ×
-    (first_of (option_map fit_view l.first) (first_fit l.subpath (members_view l.key-iterator)) ≡ first_fit l.subpath (members_view l.exports.entries))
+    (first_of (option_map fit_view l.first) (first_fit l.subpath (members_view l.key-iterator)) ≡ first_fit l.subpath
+    (members_view l.exports.entries))

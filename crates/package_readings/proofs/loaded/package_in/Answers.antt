@@ -4,7 +4,8 @@ use Rattle.package_readings.proofs.loaded.package_in.Goals as goal
 pub returns-in_ok-with_requirements-in-Some : goal.returns-in_ok-with_requirements-in-Some
 returns-in_ok-with_requirements-in-Some c =
     let taken = rw c.in-Some.is at c.in_ok-package_json.ensures in
-    taken_loaded _ c.args.content.now c.loaded.result c.in-Some.package_json _ c.loaded.ensures taken c.in_ok-with_requirements-in-Some.ensures.same c.in_ok-with_requirements-in-Some.ensures.required
+    taken_loaded _ c.args.content.now c.loaded.result c.in-Some.package_json _ c.loaded.ensures taken
+    c.in_ok-with_requirements-in-Some.ensures.same c.in_ok-with_requirements-in-Some.ensures.required
 
 pub returns-in-None : goal.returns-in-None
 returns-in-None c =

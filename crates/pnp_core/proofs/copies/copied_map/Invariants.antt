@@ -6,4 +6,5 @@ use Rattle.pnp_core.proofs.copies.copied_map.Given as goal
 abbrev pub invariant-loop-name : goal.invariant-loop-name
 invariant-loop-name g l =
     (goal.iterator-loop-name g).can_next l.name-iterator × (goal.iterator-loop-name g).is_finite l.name-iterator
-    × (told_by g.V.Bound.told l.copy.entries ++ told_by g.V.Bound.told l.name-iterator ≡ told_by g.V.Bound.told l.values.entries)
+    × (told_by g.V.Bound.told l.copy.entries ++ told_by g.V.Bound.told l.name-iterator ≡ told_by g.V.Bound.told
+    l.values.entries)

@@ -9,12 +9,21 @@ insert_at-requires c = rw c.in_ok-location.ensures (IsPath-location_path _)
 
 pub returns-then-row : goal.returns-then-row
 returns-then-row c = λ l path.
-    let discarded : c.args.row.now.discard_from_lookup ≡ true = sym (ap (λ (p : Package). p.discard_from_lookup) c.row.view_is) ∙ c.if-row.true in
+    let discarded : c.args.row.now.discard_from_lookup ≡ true =
+    sym (ap (λ (p : Package). p.discard_from_lookup) c.row.view_is) ∙ c.if-row.true in
     overlaid-past c.args.name.now c.args.reference.now c.args.row.now c.args.trie.now l discarded
 
 pub returns : goal.returns
 returns c = λ l path.
-    let kept : c.args.row.now.discard_from_lookup ≡ false = sym (ap (λ (p : Package). p.discard_from_lookup) c.row.view_is) ∙ c.if-row.false in
+    let kept : c.args.row.now.discard_from_lookup ≡ false =
+    sym (ap (λ (p : Package). p.discard_from_lookup) c.row.view_is) ∙ c.if-row.false in
     let location = ap (λ (p : Package). p.package_location) c.row.view_is in
-    let puts = rw (c.in_ok-location.ensures, c.as_str.ensures, location, c.in_ok-try_clone.ensures, c.in_ok-try_clone-2.ensures) at c.in_default.ensures.ok in
-    overlaid-own c.args.name.now c.args.reference.now c.args.row.now c.args.trie.now c.insert_at.new.self l path kept puts
+    let puts = rw (
+      c.in_ok-location.ensures,
+      c.as_str.ensures,
+      location,
+      c.in_ok-try_clone.ensures,
+      c.in_ok-try_clone-2.ensures,
+    ) at c.in_default.ensures.ok in
+    overlaid-own c.args.name.now c.args.reference.now c.args.row.now c.args.trie.now c.insert_at.new.self l path kept
+    puts

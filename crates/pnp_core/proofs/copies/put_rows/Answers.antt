@@ -9,6 +9,8 @@ loop-reference-preserved c = (
   tt,
   λ p path.
       let left = rw c.in-Some.ensures.steps at (c.loop-reference.invariant.2 p path) in
-      overlaid-append ((locator c.args.name.now c.in-Some.reference.now, c.in-Some.package.now) ∷ []) (rows_under (c.args.name.now, c.next.new.self)) c.loop-reference.trie c.put_row.new.trie p (c.in_ok-put_row.ensures p path)
+      overlaid-append ((locator c.args.name.now c.in-Some.reference.now, c.in-Some.package.now) ∷ [])
+      (rows_under (c.args.name.now, c.next.new.self)) c.loop-reference.trie c.put_row.new.trie p
+      (c.in_ok-put_row.ensures p path)
       ∙ left,
 )

@@ -7,5 +7,7 @@ use Rattle.pnp_core.proofs.copies.put_rows.Given as goal
 -- the rows that are left over the trie are all of the name's
 abbrev pub invariant-loop-reference : goal.invariant-loop-reference
 invariant-loop-reference l =
-    (goal.iterator-loop-reference).can_next l.reference-iterator × (goal.iterator-loop-reference).is_finite l.reference-iterator
-    × ((p : Path) → IsPath p → overlaid (rows_under (l.name, l.reference-iterator)) l.trie p ≡ overlaid (rows_under (l.name, l.references.entries)) l.fn.trie p)
+    (goal.iterator-loop-reference).can_next l.reference-iterator
+    × (goal.iterator-loop-reference).is_finite l.reference-iterator
+    × ((p : Path) → IsPath p → overlaid (rows_under (l.name, l.reference-iterator)) l.trie p ≡ overlaid
+    (rows_under (l.name, l.references.entries)) l.fn.trie p)

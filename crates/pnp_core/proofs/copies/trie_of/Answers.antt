@@ -9,6 +9,8 @@ loop-name-preserved c = (
   tt,
   λ p path.
       let left = rw c.in-Some.ensures.steps at (c.loop-name.invariant.2 p path) in
-      overlaid-append (rows_under (c.in-Some.name.now, c.in-Some.references.now.entries)) (rows (map (λ named. (named.0, named.1.entries)) c.next.new.self)) c.loop-name.trie c.put_rows.new.trie p (c.in_ok-put_rows.ensures p path)
+      overlaid-append (rows_under (c.in-Some.name.now, c.in-Some.references.now.entries))
+      (rows (map (λ named. (named.0, named.1.entries)) c.next.new.self)) c.loop-name.trie c.put_rows.new.trie p
+      (c.in_ok-put_rows.ensures p path)
       ∙ left,
 )

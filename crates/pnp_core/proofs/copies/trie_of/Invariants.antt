@@ -8,4 +8,5 @@ use Rattle.pnp_core.proofs.copies.trie_of.Given as goal
 abbrev pub invariant-loop-name : goal.invariant-loop-name
 invariant-loop-name l =
     (goal.iterator-loop-name).can_next l.name-iterator × (goal.iterator-loop-name).is_finite l.name-iterator
-    × ((p : Path) → IsPath p → overlaid (rows (map (λ named. (named.0, named.1.entries)) l.name-iterator)) l.trie p ≡ overlaid (rows (map (λ named. (named.0, named.1.entries)) l.registry.entries)) [] p)
+    × ((p : Path) → IsPath p → overlaid (rows (map (λ named. (named.0, named.1.entries)) l.name-iterator)) l.trie p ≡
+    overlaid (rows (map (λ named. (named.0, named.1.entries)) l.registry.entries)) [] p)

@@ -11,4 +11,5 @@ use Rattle.pnp_core.proofs.entries.entries_of_items.Given as goal
 abbrev pub invariant-loop-item : goal.invariant-loop-item
 invariant-loop-item g l =
     read_pairs (pair_by as_str g.V.FromJson.reads) g.J.JsonValue.stands_for l.map.entries (drop l.item-index l.items)
-    ≡ option_map entries_of (items_by (pair_by as_str g.V.FromJson.reads) (items_of (map g.J.JsonValue.stands_for l.items)))
+    ≡ option_map entries_of (items_by (pair_by as_str g.V.FromJson.reads)
+    (items_of (map g.J.JsonValue.stands_for l.items)))

@@ -10,5 +10,7 @@ use Rattle.pnp_core.proofs.entries.named_entries_of_items.Given as goal
 -- what is left to read, put into what is read, is the whole
 abbrev pub invariant-loop-item : goal.invariant-loop-item
 invariant-loop-item g l =
-    read_named (pair_by (nullable_by as_str) g.V.FromJson.reads) g.J.JsonValue.stands_for l.map.entries (drop l.item-index l.items)
-    ≡ option_map (λ pairs. entries_of (map named pairs)) (items_by (pair_by (nullable_by as_str) g.V.FromJson.reads) (items_of (map g.J.JsonValue.stands_for l.items)))
+    read_named (pair_by (nullable_by as_str) g.V.FromJson.reads) g.J.JsonValue.stands_for l.map.entries
+    (drop l.item-index l.items)
+    ≡ option_map (λ pairs. entries_of (map named pairs)) (items_by (pair_by (nullable_by as_str) g.V.FromJson.reads)
+    (items_of (map g.J.JsonValue.stands_for l.items)))

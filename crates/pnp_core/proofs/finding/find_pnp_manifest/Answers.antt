@@ -21,12 +21,14 @@ pub returns-in_err-manifest-clause-asks : goal.returns-in_err-manifest-clause-as
 unfolding finding
 returns-in_err-manifest-clause-asks g c =
     let asked = rw c.in_ok-path.ensures at c.in_ok-file.ensures in
-    let loaded = rw (c.as_str.ensures.text, path_in-text_of _ c.as_str.ensures.names) at c.in_err-manifest.ensures.asks in
+    let loaded =
+    rw (c.as_str.ensures.text, path_in-text_of _ c.as_str.ensures.names) at c.in_err-manifest.ensures.asks in
     asks_as in_file asked c.in-Some.is (asks_stops pnp _ _ _ c.from_residual-in_err-manifest.ensures.1 loaded)
 
 pub returns-clause-asks : goal.returns-clause-asks
 unfolding finding
 returns-clause-asks g c =
     let asked = rw c.in_ok-path.ensures at c.in_ok-file.ensures in
-    let loaded = rw (c.as_str.ensures.text, path_in-text_of _ c.as_str.ensures.names) at c.in_ok-manifest.ensures.asks in
+    let loaded =
+    rw (c.as_str.ensures.text, path_in-text_of _ c.as_str.ensures.names) at c.in_ok-manifest.ensures.asks in
     asks_as in_file asked c.in-Some.is (asks_then _ loaded (asks_done refl))

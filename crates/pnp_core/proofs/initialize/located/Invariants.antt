@@ -9,5 +9,9 @@ use Rattle.pnp_core.proofs.initialize.located.Given as goal
 abbrev pub invariant-loop-name : goal.invariant-loop-name
 invariant-loop-name l =
     (goal.iterator-loop-name).can_next l.name-iterator × (goal.iterator-loop-name).is_finite l.name-iterator
-    × (map (λ locations. locations.items) l.found.items ++ all_locations l.folder (map (λ named. (named.0, named.1.entries)) l.name-iterator) ≡ all_locations l.folder (map (λ named. (named.0, named.1.entries)) l.registry.entries))
-    × ((p : Path) → IsPath p → overlaid (rows (located_registry l.folder (map (λ named. (named.0, named.1.entries)) l.name-iterator))) l.trie p ≡ overlaid (rows (located_registry l.folder (map (λ named. (named.0, named.1.entries)) l.registry.entries))) [] p)
+    × (map (λ locations. locations.items) l.found.items
+    ++ all_locations l.folder (map (λ named. (named.0, named.1.entries)) l.name-iterator) ≡ all_locations l.folder
+    (map (λ named. (named.0, named.1.entries)) l.registry.entries))
+    × ((p : Path) → IsPath p → overlaid (rows (located_registry l.folder
+    (map (λ named. (named.0, named.1.entries)) l.name-iterator))) l.trie p ≡ overlaid
+    (rows (located_registry l.folder (map (λ named. (named.0, named.1.entries)) l.registry.entries))) [] p)

@@ -9,7 +9,8 @@ returns-in-Some c =
     let ends = rw c.in-Some.is at c.in_ok-path.ensures.ends in
     record {
       path = path;
-      text = c.in_ok-normal.ensures ∙ normal-joined c.args.folder.now c.args.text.now c.args.text.now c.in-Some.path c.requires path (ends refl);
+      text = c.in_ok-normal.ensures ∙ normal-joined c.args.folder.now c.args.text.now c.args.text.now c.in-Some.path
+          c.requires path (ends refl);
     }
 
 pub returns : goal.returns
@@ -19,5 +20,6 @@ returns c =
       path = path;
       text =
           rw (c.as_str-2.ensures.value, c.in_ok-joined.ensures) at c.in_ok-normal-2.ensures
-          ∙ normal-joined c.args.folder.now c.args.text.now (join c.args.folder.now c.args.text.now) c.in_ok-path-2.path c.requires path refl;
+          ∙ normal-joined c.args.folder.now c.args.text.now (join c.args.folder.now c.args.text.now) c.in_ok-path-2.path
+          c.requires path refl;
     }

@@ -7,4 +7,5 @@ use Rattle.pnp_core.proofs.initialize.missing_from.Given as goal
 abbrev pub invariant-loop-name : goal.invariant-loop-name
 invariant-loop-name l =
     (goal.iterator-loop-name).can_next l.name-iterator × (goal.iterator-loop-name).is_finite l.name-iterator
-    × (l.missing.items ++ filter (λ bound. is_none (at bound.0 l.pool.entries)) l.name-iterator ≡ filter (λ bound. is_none (at bound.0 l.pool.entries)) l.own.entries)
+    × (l.missing.items ++ filter (λ bound. is_none (at bound.0 l.pool.entries)) l.name-iterator ≡ filter
+    (λ bound. is_none (at bound.0 l.pool.entries)) l.own.entries)

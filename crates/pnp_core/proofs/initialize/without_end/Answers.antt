@@ -6,4 +6,5 @@ pub returns-in-None : goal.returns-in-None
 returns-in-None c = inl refl
 
 pub returns-in-Some : goal.returns-in-Some
-returns-in-Some c = inr (rw c.in-Some.is at (strip_suffix_char 47 c.args.text.now c.strip_suffix.result c.strip_suffix.ensures.cases (lit< tt)))
+returns-in-Some c = inr (rw c.in-Some.is at (strip_suffix_char 47 c.args.text.now c.strip_suffix.result
+    c.strip_suffix.ensures.cases (lit< tt)))

@@ -11,14 +11,17 @@ returns-in-Ok-clause-asks g c = asks_then _ (rw c.in_ok-path.ensures at c.in-Ok.
 pub returns-in_err-cause-in-Err-clause-asks : goal.returns-in_err-cause-in-Err-clause-asks
 unfolding told_loading
 returns-in_err-cause-in-Err-clause-asks g c =
-    asks_fails_in pnp _ _ c.from_residual-in_err-cause-in-Err.ensures.1 (rw (c.in_ok-path.ensures, ← c.in_err-cause-in-Err.ensures) at c.in-Err.ensures.asks)
+    asks_fails_in pnp _ _ c.from_residual-in_err-cause-in-Err.ensures.1
+    (rw (c.in_ok-path.ensures, ← c.in_err-cause-in-Err.ensures) at c.in-Err.ensures.asks)
 
 pub returns-in_err-failed-in-Err-clause-asks : goal.returns-in_err-failed-in-Err-clause-asks
 unfolding told_loading
 returns-in_err-failed-in-Err-clause-asks g c =
-    asks_then _ (rw (c.in_ok-path.ensures, ← c.in_ok-cause-in-Err.ensures) at c.in-Err.ensures.asks) (asks_starved_in pnp _ c.from_residual-in_err-failed-in-Err.ensures.1)
+    asks_then _ (rw (c.in_ok-path.ensures, ← c.in_ok-cause-in-Err.ensures) at c.in-Err.ensures.asks)
+    (asks_starved_in pnp _ c.from_residual-in_err-failed-in-Err.ensures.1)
 
 pub returns-clause-asks : goal.returns-clause-asks
 unfolding told_loading
 returns-clause-asks g c =
-    asks_then _ (rw (c.in_ok-path.ensures, ← c.in_ok-cause-in-Err.ensures) at c.in-Err.ensures.asks) (asks_done (ap (λ f. Err (NoManifest f)) (rw c.in_ok-path.ensures at c.in_ok-failed-in-Err.ensures)))
+    asks_then _ (rw (c.in_ok-path.ensures, ← c.in_ok-cause-in-Err.ensures) at c.in-Err.ensures.asks)
+    (asks_done (ap (λ f. Err (NoManifest f)) (rw c.in_ok-path.ensures at c.in_ok-failed-in-Err.ensures)))

@@ -15,4 +15,5 @@ pub returns : goal.returns
 returns c =
     let relative : is_absolute c.args.text.now ≡ false = search rules in
     let text = rw (c.as_str.ensures.value, c.in_ok-slashed.ensures) at c.in_ok-names.ensures in
-    text ∙ ap (λ ps. route_text (route_by_parts (Relative 0 []) ps)) (parts-slashed c.args.text.now) ∙ sym (names-relative c.args.text.now relative)
+    text ∙ ap (λ ps. route_text (route_by_parts (Relative 0 []) ps)) (parts-slashed c.args.text.now)
+    ∙ sym (names-relative c.args.text.now relative)

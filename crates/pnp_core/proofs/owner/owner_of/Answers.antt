@@ -14,6 +14,9 @@ returns-then-branch c = rw (sym c.in_ok-is_ignored.ensures ∙ c.if-branch.true)
 pub returns : goal.returns
 returns c =
     let HasFolder : Contents → Type 0 = λ m. IsTrue (is_absolute m.manifest_dir) in
-    let folder = subst HasFolder (sym c.manifest.view_is) (clean-is_absolute c.args.manifest.now.manifest_dir c.requires.folder) in
+    let folder = subst HasFolder (sym c.manifest.view_is) (clean-is_absolute c.args.manifest.now.manifest_dir
+    c.requires.folder) in
     rw (sym c.in_ok-is_ignored.ensures ∙ c.if-branch.false, ← c.manifest.view_is)
-    (c.in_ok-owner.ensures ∙ nearest_value-owner c.manifest.inside.location_trie (rows (contents_of c.manifest.inside).package_registry_data) (c.manifest.invariant folder) (location_path (text_of c.args.path.now)) (IsPath-location_path (text_of c.args.path.now)))
+    (c.in_ok-owner.ensures ∙ nearest_value-owner c.manifest.inside.location_trie
+    (rows (contents_of c.manifest.inside).package_registry_data) (c.manifest.invariant folder)
+    (location_path (text_of c.args.path.now)) (IsPath-location_path (text_of c.args.path.now)))

@@ -13,5 +13,6 @@ loop-quoted-preserved c =
     let char = rw c.chars-chars.ensures.rest at c.in-Some-next.ensures.steps.0 in (
       search rules,
       rw c.as_str-rest.ensures
-          (sym (leftmost-char c.in-Some-next.field-0 c.next.new.self.rest.now (rw char at (sym none))) ∙ (rw char at c.loop-quoted.invariant.1)),
+          (sym (leftmost-char c.in-Some-next.field-0 c.next.new.self.rest.now (rw char at (sym none)))
+          ∙ (rw char at c.loop-quoted.invariant.1)),
     )

@@ -12,5 +12,7 @@ returns-in-Some c =
     let cut = quoted-cut c.args.text.now c.in-Some.end first in
     let quote = rw c.as_bytes-bytes.ensures.value at c.if-bytes-end-eq39.true in
     let none = quoted-end c.args.text.now c.in-Some.end first.0.high quote in
-    let run : c.range.result.now ≡ take c.in-Some.end c.args.text.now = c.range.ensures.value ∙ ap (λ n. take n c.args.text.now) (from_start c.in-Some.end) in
-    run ∙ sym (cut ∙ ap (λ s. take c.in-Some.end c.args.text.now ++ s) none ∙ append-nil (take c.in-Some.end c.args.text.now))
+    let run : c.range.result.now ≡ take c.in-Some.end c.args.text.now =
+    c.range.ensures.value ∙ ap (λ n. take n c.args.text.now) (from_start c.in-Some.end) in
+    run ∙ sym (cut ∙ ap (λ s. take c.in-Some.end c.args.text.now ++ s) none
+    ∙ append-nil (take c.in-Some.end c.args.text.now))

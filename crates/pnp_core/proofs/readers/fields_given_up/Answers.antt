@@ -12,8 +12,11 @@ returns-in_err-manifest c = reads_stops _ _ _ _ c.from_residual.ensures.1 c.in_e
 
 pub returns-in_err-registry : goal.returns-in_err-registry
 unfolding fields_in
-returns-in_err-registry c = reads_then _ _ _ c.in_ok-manifest.ensures.read (reads_stops _ _ _ _ c.from_residual-in_err-registry.ensures.1 (rw c.into_member.ensures at c.in_err-registry.ensures))
+returns-in_err-registry c = reads_then _ _ _ c.in_ok-manifest.ensures.read
+    (reads_stops _ _ _ _ c.from_residual-in_err-registry.ensures.1
+    (rw c.into_member.ensures at c.in_err-registry.ensures))
 
 pub returns : goal.returns
 unfolding fields_in
-returns c = some_then _ _ c.in_ok-manifest.ensures.read (some_then _ _ (rw c.into_member.ensures at c.in_ok-registry.ensures) (rw (c.with_registry.ensures) refl))
+returns c = some_then _ _ c.in_ok-manifest.ensures.read (some_then _ _
+    (rw c.into_member.ensures at c.in_ok-registry.ensures) (rw (c.with_registry.ensures) refl))

@@ -14,5 +14,7 @@ use Rattle.pnp_core.proofs.readers.registry_of_rows.Given as goal
 abbrev pub invariant-loop-row : goal.invariant-loop-row
 invariant-loop-row l =
     (goal.iterator-loop-row).can_next l.row-iterator × (goal.iterator-loop-row).is_finite l.row-iterator
-    × (read_named (pair_by (nullable_by as_str) references_in) (λ v. data_of (value_view v)) (map (λ named. (named.0, named.1.entries)) l.map.entries) (into_iter_items l.row-iterator)
-    ≡ option_map (λ pairs. entries_of (map named pairs)) (items_by (pair_by (nullable_by as_str) references_in) (items_of (map (λ v. data_of (value_view v)) l.fn.rows.items))))
+    × (read_named (pair_by (nullable_by as_str) references_in) (λ v. data_of (value_view v))
+    (map (λ named. (named.0, named.1.entries)) l.map.entries) (into_iter_items l.row-iterator)
+    ≡ option_map (λ pairs. entries_of (map named pairs)) (items_by (pair_by (nullable_by as_str) references_in)
+    (items_of (map (λ v. data_of (value_view v)) l.fn.rows.items))))

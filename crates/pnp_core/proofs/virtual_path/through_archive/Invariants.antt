@@ -5,4 +5,5 @@ use Rattle.pnp_core.proofs.virtual_path.through_archive.Given as goal
 
 -- the segments so far are counted
 abbrev pub invariant-loop-index : goal.invariant-loop-index
-invariant-loop-index l = through_archive (texts l.segments) ≡ l.index + through_archive (drop l.index (texts l.segments))
+invariant-loop-index l =
+    through_archive (texts l.segments) ≡ l.index + through_archive (drop l.index (texts l.segments))

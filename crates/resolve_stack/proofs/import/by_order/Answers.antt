@@ -5,7 +5,8 @@ use Rattle.resolve_stack.proofs.import.by_order.Goals as goal
 
 pub returns-in-Some : goal.returns-in-Some
 returns-in-Some g c =
-    asks_mapped _ _ _ _ _ (sym c.in-Some.ensures) (rw (c.of-inner.ensures.project, c.of-inner.ensures.known) at c.resolve.ensures.resolves)
+    asks_mapped _ _ _ _ _ (sym c.in-Some.ensures) (rw (c.of-inner.ensures.project, c.of-inner.ensures.known) at
+    c.resolve.ensures.resolves)
 
 pub returns-in-None : goal.returns-in-None
 returns-in-None g c =

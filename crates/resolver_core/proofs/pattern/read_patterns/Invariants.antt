@@ -9,4 +9,5 @@ abbrev pub invariant-loop-text : goal.invariant-loop-text
 invariant-loop-text l =
     (goal.iterator-loop-text).can_next l.text-iterator ×
     (goal.iterator-loop-text).is_finite l.text-iterator ×
-    (patterns_from 0 l.fn.paths ≡ (patterns_from (vec_len l.patterns) (into_iter_items l.text-iterator) >>= λ rest. Ok (l.patterns.items ++ rest)))
+    (patterns_from 0 l.fn.paths ≡ (patterns_from (vec_len l.patterns) (into_iter_items l.text-iterator)
+    >>= λ rest. Ok (l.patterns.items ++ rest)))

@@ -7,7 +7,8 @@ use Rattle.resolver_core.proofs.requests.by_only_target.Goals as goal
 pub returns-in_err-tried-clause-asks : goal.returns-in_err-tried-clause-asks
 unfolding by_mapped
 returns-in_err-tried-clause-asks g c =
-    asks_fails _ _ c.from_residual-in_err-tried.ensures.1 (rw (c.as_str.ensures, c.in_ok-path.ensures) at c.in_err-tried.ensures.asks)
+    asks_fails _ _ c.from_residual-in_err-tried.ensures.1 (rw (c.as_str.ensures, c.in_ok-path.ensures) at
+    c.in_err-tried.ensures.asks)
 
 pub returns-in-Ok-clause-asks : goal.returns-in-Ok-clause-asks
 unfolding by_mapped
@@ -17,7 +18,8 @@ returns-in-Ok-clause-asks g c =
 pub returns-in_err-slug-in-Err-clause-asks : goal.returns-in_err-slug-in-Err-clause-asks
 unfolding by_mapped
 returns-in_err-slug-in-Err-clause-asks g c =
-    asks_as _ (rw (c.as_str.ensures, c.in_ok-path.ensures) at c.in_ok-tried.ensures.asks) c.in-Err.is (asks_starved _ c.from_residual-in_err-slug-in-Err.ensures.1)
+    asks_as _ (rw (c.as_str.ensures, c.in_ok-path.ensures) at c.in_ok-tried.ensures.asks) c.in-Err.is
+    (asks_starved _ c.from_residual-in_err-slug-in-Err.ensures.1)
 
 pub returns-in_ok-slug-in-Err-clause-asks : goal.returns-in_ok-slug-in-Err-clause-asks
 unfolding by_mapped

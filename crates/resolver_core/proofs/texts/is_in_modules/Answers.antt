@@ -7,4 +7,6 @@ use Rattle.resolver_core.proofs.texts.is_in_modules.Goals as goal
 pub returns-in-Real : goal.returns-in-Real
 returns-in-Real c =
     rw (c.in-Real.is, ← c.as_str.ensures)
-    (any_from_yields_List is_modules _ _ _ c.any.ensures.ran (YieldsList-from_str_split 47 c.as_str.result.now (lit< tt) c.split.ensures.text c.split.ensures.has_more c.split.ensures.pattern) (λ x b q k. search rules))
+    (any_from_yields_List is_modules _ _ _ c.any.ensures.ran
+    (YieldsList-from_str_split 47 c.as_str.result.now (lit< tt) c.split.ensures.text c.split.ensures.has_more
+    c.split.ensures.pattern) (λ x b q k. search rules))

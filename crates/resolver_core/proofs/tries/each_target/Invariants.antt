@@ -9,6 +9,10 @@ use Rattle.resolver_core.proofs.tries.each_target.Given as goal
 abbrev pub invariant-loop-target : goal.invariant-loop-target
 invariant-loop-target g l =
     Leads (asking_of l.fn.tree) (asking_of l.tree)
-    (each_target (g.R.Resolve.order (g.R.Resolve.view l.fn.inner)) (map (tries_of l.request.folder.now l.request.base.now l.request.specifier.now) (map (with_rest l.rest) l.targets)))
-    (left_targets (g.R.Resolve.order (g.R.Resolve.view l.fn.inner)) (map (tries_of l.request.folder.now l.request.base.now l.request.specifier.now) (map (with_rest l.rest) (drop l.target-index l.targets))) l.refusals)
+    (each_target (g.R.Resolve.order (g.R.Resolve.view l.fn.inner))
+    (map (tries_of l.request.folder.now l.request.base.now l.request.specifier.now)
+    (map (with_rest l.rest) l.targets)))
+    (left_targets (g.R.Resolve.order (g.R.Resolve.view l.fn.inner))
+    (map (tries_of l.request.folder.now l.request.base.now l.request.specifier.now)
+    (map (with_rest l.rest) (drop l.target-index l.targets))) l.refusals)
     × (g.R.Resolve.view l.inner ≡ g.R.Resolve.view l.fn.inner)

@@ -11,12 +11,14 @@ returns-in_err-found-clause-asks g c =
 pub returns-in_err-masked-in-Ok-clause-asks : goal.returns-in_err-masked-in-Ok-clause-asks
 unfolding tried
 returns-in_err-masked-in-Ok-clause-asks g c =
-    asks_as _ (rw (← c.in_ok-found.ensures) at c.resolve-outcome.ensures.resolves) c.in-Ok.is (asks_starved _ c.from_residual-in_err-masked-in-Ok.ensures.1)
+    asks_as _ (rw (← c.in_ok-found.ensures) at c.resolve-outcome.ensures.resolves) c.in-Ok.is
+    (asks_starved _ c.from_residual-in_err-masked-in-Ok.ensures.1)
 
 pub returns-in_ok-masked-in-Ok-clause-asks : goal.returns-in_ok-masked-in-Ok-clause-asks
 unfolding tried
 returns-in_ok-masked-in-Ok-clause-asks g c =
-    asks_as _ (rw (← c.in_ok-found.ensures) at c.resolve-outcome.ensures.resolves) c.in-Ok.is (asks_done (ap (λ r. Ok r) c.in_ok-masked-in-Ok.ensures))
+    asks_as _ (rw (← c.in_ok-found.ensures) at c.resolve-outcome.ensures.resolves) c.in-Ok.is
+    (asks_done (ap (λ r. Ok r) c.in_ok-masked-in-Ok.ensures))
 
 pub returns-in-Err-clause-asks : goal.returns-in-Err-clause-asks
 unfolding tried

@@ -5,13 +5,15 @@ use Rattle.session_report.proofs.document.read_fields.Goals as goal
 
 pub returns-in_err-project-clause-fields : goal.returns-in_err-project-clause-fields
 unfolding fields_of
-returns-in_err-project-clause-fields c = meets_raised _ _ _ c.from_residual.ensures.1 (meets_stops _ _ _ c.in_err-project.ensures)
+returns-in_err-project-clause-fields c =
+    meets_raised _ _ _ c.from_residual.ensures.1 (meets_stops _ _ _ c.in_err-project.ensures)
 
 pub returns-in_err-capacity-clause-fields : goal.returns-in_err-capacity-clause-fields
 unfolding fields_of
 returns-in_err-capacity-clause-fields c =
     meets_then _ _ _ _ c.in_ok-project.ensures
-    (meets_raised _ _ _ c.from_residual-in_err-capacity.ensures.1 (meets_stops _ _ _ c.in_err-capacity.ensures.capacity))
+    (meets_raised _ _ _ c.from_residual-in_err-capacity.ensures.1
+    (meets_stops _ _ _ c.in_err-capacity.ensures.capacity))
 
 pub returns-in_err-steps-clause-fields : goal.returns-in_err-steps-clause-fields
 unfolding fields_of

@@ -3,7 +3,8 @@ use Rattle.session_report.proofs.Reports.{report_by, report_stopped, report_untr
 use Rattle.session_report.proofs.report.session_report_for.Goals as goal
 
 pub returns-in_err-document : goal.returns-in_err-document
-returns-in_err-document c = raised_text _ _ _ _ c.from_residual.ensures.1 (report_stopped _ _ c.in_err-document.ensures.fields)
+returns-in_err-document c =
+    raised_text _ _ _ _ c.from_residual.ensures.1 (report_stopped _ _ c.in_err-document.ensures.fields)
 
 pub returns-in_err-tree : goal.returns-in_err-tree
 returns-in_err-tree c =

@@ -8,12 +8,16 @@ use Rattle.sugar_path.proofs.clean.is_clean.Goals as goal
 
 pub returns-in-None : goal.returns-in-None
 returns-in-None c =
-    let cut = rw c.in-None.is at (strip_prefix_char 47 c.args.text.now c.strip_prefix.result c.strip_prefix.ensures.cases (lit< tt)) in
+    let cut = rw c.in-None.is at (strip_prefix_char 47 c.args.text.now c.strip_prefix.result
+    c.strip_prefix.ensures.cases (lit< tt)) in
     not_clean-other c.args.text.now cut
 
 pub returns-else-is_empty : goal.returns-else-is_empty
 returns-else-is_empty c =
-    let cut = rw c.in-Some.is at (strip_prefix_char 47 c.args.text.now c.strip_prefix.result c.strip_prefix.ensures.cases (lit< tt)) in
+    let cut = rw c.in-Some.is at (strip_prefix_char 47 c.args.text.now c.strip_prefix.result
+    c.strip_prefix.ensures.cases (lit< tt)) in
     clean-parts c.args.text.now c.in-Some.rest.now c.are_steps.result cut
-    (λ none. not_from_Decides _ (Decides-eqb (length c.in-Some.rest.now) 0) (sym c.is_empty.ensures ∙ c.if-is_empty.false) (ap length none))
-    (c.are_steps.ensures ∙ sym (steps-names (parts c.as_bytes.result.now)) ∙ ap (λ s. list_all is_plain (parts s)) c.as_bytes.ensures.value)
+    (λ none. not_from_Decides _ (Decides-eqb (length c.in-Some.rest.now) 0)
+    (sym c.is_empty.ensures ∙ c.if-is_empty.false) (ap length none))
+    (c.are_steps.ensures ∙ sym (steps-names (parts c.as_bytes.result.now))
+    ∙ ap (λ s. list_all is_plain (parts s)) c.as_bytes.ensures.value)

@@ -13,15 +13,33 @@ use Rattle.sugar_path.proofs.normal.climb_of.Goals as goal
 -- a path has no more parts than bytes, and one
 pub overflow_add-climb : goal.overflow_add-climb
 overflow_add-climb c =
-    let turn = YieldsList-turn (YieldsList-at c.into_iter-part-iterator.ensures.into_iter_gives (YieldsList-from_first (λ part. part.now) (λ left. left) (parts c.args.path.now) c.of-part-items.ensures))
+    let turn = YieldsList-turn (YieldsList-at c.into_iter-part-iterator.ensures.into_iter_gives
+    (YieldsList-from_first (λ part. part.now) (λ left. left) (parts c.args.path.now) c.of-part-items.ensures))
     c.loop-part.yielded _ c.loop-part.yielded_by _ _ c.in-Some.part c.in-Some.is c.next.ensures.steps in
-    record { fits = omega (arith, turn.0, c.loop-part.invariant.3, length-slice_split (λ b. b == 47) c.args.path.now, count_by-le-length (λ b. b == 47) c.args.path.now) }
+    record {
+      fits = omega (
+        arith,
+        turn.0,
+        c.loop-part.invariant.3,
+        length-slice_split (λ b. b == 47) c.args.path.now,
+        count_by-le-length (λ b. b == 47) c.args.path.now,
+      );
+    }
 
 pub overflow_add-climb-in-Up-2 : goal.overflow_add-climb-in-Up-2
 overflow_add-climb-in-Up-2 c =
-    let turn = YieldsList-turn (YieldsList-at c.into_iter-part-iterator.ensures.into_iter_gives (YieldsList-from_first (λ part. part.now) (λ left. left) (parts c.args.path.now) c.of-part-items.ensures))
+    let turn = YieldsList-turn (YieldsList-at c.into_iter-part-iterator.ensures.into_iter_gives
+    (YieldsList-from_first (λ part. part.now) (λ left. left) (parts c.args.path.now) c.of-part-items.ensures))
     c.loop-part.yielded _ c.loop-part.yielded_by _ _ c.in-Some.part c.in-Some.is c.next.ensures.steps in
-    record { fits = omega (arith, turn.0, c.loop-part.invariant.3, length-slice_split (λ b. b == 47) c.args.path.now, count_by-le-length (λ b. b == 47) c.args.path.now) }
+    record {
+      fits = omega (
+        arith,
+        turn.0,
+        c.loop-part.invariant.3,
+        length-slice_split (λ b. b == 47) c.args.path.now,
+        count_by-le-length (λ b. b == 47) c.args.path.now,
+      );
+    }
 
 pub loop-part-preserved-in-Nowhere : goal.loop-part-preserved-in-Nowhere
 loop-part-preserved-in-Nowhere c = (
@@ -35,7 +53,8 @@ pub loop-part-preserved-in-Down : goal.loop-part-preserved-in-Down
 loop-part-preserved-in-Down c = (
   search rules,
   search rules,
-  seen-plain c.loop-part.yielded c.in-Some.part c.loop-part.climb _ c.loop-part.invariant.2 (down-plain c.in-Some.part.now c.in-Down.ensures) refl refl,
+  seen-plain c.loop-part.yielded c.in-Some.part c.loop-part.climb _ c.loop-part.invariant.2
+      (down-plain c.in-Some.part.now c.in-Down.ensures) refl refl,
   omega (arith, length_push c.loop-part.yielded c.in-Some.part),
 )
 
@@ -43,7 +62,8 @@ pub loop-part-preserved-then-climb-gt0 : goal.loop-part-preserved-then-climb-gt0
 loop-part-preserved-then-climb-gt0 c = (
   search rules,
   search rules,
-  seen-back c.loop-part.yielded c.in-Some.part c.loop-part.climb _ c.loop-part.invariant.2 (up-dots c.in-Some.part.now c.in-Up.ensures) (λ e. omega arith) refl refl,
+  seen-back c.loop-part.yielded c.in-Some.part c.loop-part.climb _ c.loop-part.invariant.2
+      (up-dots c.in-Some.part.now c.in-Up.ensures) (λ e. omega arith) refl refl,
   omega (arith, length_push c.loop-part.yielded c.in-Some.part),
 )
 
@@ -51,13 +71,15 @@ pub loop-part-preserved : goal.loop-part-preserved
 loop-part-preserved c = (
   search rules,
   search rules,
-  seen-up c.loop-part.yielded c.in-Some.part c.loop-part.climb _ c.loop-part.invariant.2 (up-dots c.in-Some.part.now c.in-Up.ensures) (omega arith) refl refl,
+  seen-up c.loop-part.yielded c.in-Some.part c.loop-part.climb _ c.loop-part.invariant.2
+      (up-dots c.in-Some.part.now c.in-Up.ensures) (omega arith) refl refl,
   omega (arith, length_push c.loop-part.yielded c.in-Some.part),
 )
 
 pub returns : goal.returns
 returns c =
-    let all = YieldsList-end (YieldsList-at c.into_iter-part-iterator.ensures.into_iter_gives (YieldsList-from_first (λ part. part.now) (λ left. left) (parts c.args.path.now) c.of-part-items.ensures))
+    let all = YieldsList-end (YieldsList-at c.into_iter-part-iterator.ensures.into_iter_gives
+    (YieldsList-from_first (λ part. part.now) (λ left. left) (parts c.args.path.now) c.of-part-items.ensures))
     c.loop-part.yielded _ c.loop-part.yielded_by _ _ c.in-None.is c.next.ensures.steps in
     let P : List (List ℕ) → Type 0 = λ xs. HasClimb (route_by_parts (Relative 0 []) xs) c.loop-part.climb in
     subst P all.0 c.loop-part.invariant.2

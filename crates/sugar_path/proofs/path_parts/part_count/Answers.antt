@@ -6,7 +6,11 @@ use Rattle.sugar_path.specs.Path.{parts}
 use Rattle.sugar_path.proofs.path_parts.part_count.Goals as goal
 
 pub count-requires-clause-fits : goal.count-requires-clause-fits
-count-requires-clause-fits c = inl (rw c.of.ensures (omega (arith, length-slice_split (λ b. b == 47) c.args.path.now, count_by-le-length (λ b. b == 47) c.args.path.now)))
+count-requires-clause-fits c = inl (rw c.of.ensures (omega (
+  arith,
+  length-slice_split (λ b. b == 47) c.args.path.now,
+  count_by-le-length (λ b. b == 47) c.args.path.now,
+)))
 
 pub returns : goal.returns
 returns c =

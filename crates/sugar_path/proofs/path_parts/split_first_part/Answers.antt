@@ -13,5 +13,7 @@ returns-in-Some c =
     let t = c.args.path.now in
     let at = c.in-Some.at in
     let first = c.in-Some.ensures in
-    let rest : take (length t - (at + 1)) (drop (at + 1) t) ≡ drop (at + 1) t = take_all (length t - (at + 1)) (drop (at + 1) t) (omega (arith, length-drop (at + 1) t)) in
-    parts-cut t at first.0.high (λ k lt is. first.0.before k (omega arith) lt is) ((Decides-eqb _ 47).0 first.1) ∙ ap (λ s. take at t ∷ parts s) (sym rest)
+    let rest : take (length t - (at + 1)) (drop (at + 1) t) ≡ drop (at + 1) t =
+    take_all (length t - (at + 1)) (drop (at + 1) t) (omega (arith, length-drop (at + 1) t)) in
+    parts-cut t at first.0.high (λ k lt is. first.0.before k (omega arith) lt is) ((Decides-eqb _ 47).0 first.1)
+    ∙ ap (λ s. take at t ∷ parts s) (sym rest)

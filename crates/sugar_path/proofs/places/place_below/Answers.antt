@@ -8,5 +8,7 @@ pub returns : goal.returns
 returns c =
     let folder = c.or_here-folder.result.now in
     c.place_in.ensures
-    ∙ ap place (c.in_ok-push_part.ensures ∙ ap (λ t. with_slash t ++ c.args.path.now) (c.in_ok-extend_from_slice.ensures.items ∙ ap (λ t. t ++ folder) c.in_ok-text.ensures.items ∙ c.or_here-folder.ensures))
+    ∙ ap place (c.in_ok-push_part.ensures ∙ ap (λ t. with_slash t ++ c.args.path.now)
+    (c.in_ok-extend_from_slice.ensures.items ∙ ap (λ t. t ++ folder) c.in_ok-text.ensures.items
+    ∙ c.or_here-folder.ensures))
     ∙ place-below c.args.folder.now c.args.path.now c.requires

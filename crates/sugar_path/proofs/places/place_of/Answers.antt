@@ -4,4 +4,5 @@ use Rattle.sugar_path.proofs.Rooms.{place-or_dot}
 use Rattle.sugar_path.proofs.places.place_of.Goals as goal
 
 pub returns : goal.returns
-returns c = c.place_in.ensures ∙ ap place (c.in_ok-text.ensures.items ∙ c.or_here.ensures) ∙ place-or_dot c.args.path.now
+returns c =
+    c.place_in.ensures ∙ ap place (c.in_ok-text.ensures.items ∙ c.or_here.ensures) ∙ place-or_dot c.args.path.now

@@ -16,4 +16,5 @@ returns c =
     (YieldsList-from_slice c.args.left.now (ap iter_rest c.zip.ensures.first ∙ c.iter.ensures.rest))
     (YieldsList-from_slice c.args.right.now c.zip.ensures.second.0)))
     c.take_while.ensures.closure c.take_while.ensures.done (λ x b q k. search rules))
-    ∙ length-prefix_len (λ (p : ℕ × ℕ). p.0 == p.1) (zip c.args.left.now c.args.right.now) ∙ prefix_len-zip nat_eq c.args.left.now c.args.right.now
+    ∙ length-prefix_len (λ (p : ℕ × ℕ). p.0 == p.1) (zip c.args.left.now c.args.right.now)
+    ∙ prefix_len-zip nat_eq c.args.left.now c.args.right.now

@@ -8,14 +8,17 @@ pub returns-in-None : goal.returns-in-None
 returns-in-None c =
     let t = c.args.path.now in
     let at = c.args.at in
-    let rest : take (length t - at) (drop at t) ≡ drop at t = take_all (length t - at) (drop at t) (omega (arith, length-drop at t)) in
-    part-uncut t at c.requires (λ k lt is. c.in-None.ensures k (omega arith) (omega (arith, ap length rest)) (ap (λ u. get_or u k 0 == 47) rest ∙ is))
+    let rest : take (length t - at) (drop at t) ≡ drop at t =
+    take_all (length t - at) (drop at t) (omega (arith, length-drop at t)) in
+    part-uncut t at c.requires (λ k lt is. c.in-None.ensures k (omega arith) (omega (arith, ap length rest))
+    (ap (λ u. get_or u k 0 == 47) rest ∙ is))
 
 pub returns-in-Some : goal.returns-in-Some
 returns-in-Some c =
     let t = c.args.path.now in
     let at = c.args.at in
-    let rest : take (length t - at) (drop at t) ≡ drop at t = take_all (length t - at) (drop at t) (omega (arith, length-drop at t)) in
+    let rest : take (length t - at) (drop at t) ≡ drop at t =
+    take_all (length t - at) (drop at t) (omega (arith, length-drop at t)) in
     let first = c.in-Some.ensures in
     part-cut t at c.in-Some.slash c.requires (omega (arith, first.0.high, ap length rest))
     (λ k lt is. first.0.before k (omega arith) lt (ap (λ u. get_or u k 0 == 47) rest ∙ is))

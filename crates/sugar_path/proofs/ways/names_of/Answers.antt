@@ -15,19 +15,22 @@ pub loop-part-preserved-in-Up : goal.loop-part-preserved-in-Up
 loop-part-preserved-in-Up c = (
   search rules,
   search rules,
-  names-up c.loop-part.names.items c.pop-last.new.self.items c.loop-part.yielded c.in-Some.part c.loop-part.invariant.2 c.in-Up.ensures c.pop-last.ensures.rest,
+  names-up c.loop-part.names.items c.pop-last.new.self.items c.loop-part.yielded c.in-Some.part c.loop-part.invariant.2
+      c.in-Up.ensures c.pop-last.ensures.rest,
 )
 
 pub loop-part-preserved : goal.loop-part-preserved
 loop-part-preserved c = (
   search rules,
   search rules,
-  names-down c.loop-part.names.items c.push.new.self.items c.loop-part.yielded c.in-Some.part c.loop-part.invariant.2 c.in-Down.ensures c.in_ok-push-in-Down.ensures.ok,
+  names-down c.loop-part.names.items c.push.new.self.items c.loop-part.yielded c.in-Some.part c.loop-part.invariant.2
+      c.in-Down.ensures c.in_ok-push-in-Down.ensures.ok,
 )
 
 pub returns : goal.returns
 unfolding path_in
 returns c =
-    let all = YieldsList-end (YieldsList-at c.into_iter-part-iterator.ensures.into_iter_gives (YieldsList-from_first (λ part. part.now) (λ left. left) (parts c.args.path.now) c.of-part-items.ensures))
+    let all = YieldsList-end (YieldsList-at c.into_iter-part-iterator.ensures.into_iter_gives
+    (YieldsList-from_first (λ part. part.now) (λ left. left) (parts c.args.path.now) c.of-part-items.ensures))
     c.loop-part.yielded _ c.loop-part.yielded_by _ _ c.in-None.is c.next.ensures.steps in
     c.loop-part.invariant.2 ∙ ap (λ ps. reverse (by_parts [] ps)) all.0

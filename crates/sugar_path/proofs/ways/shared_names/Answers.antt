@@ -17,6 +17,7 @@ returns-clause-shared c =
     (YieldsList-from_slice c.args.target.now (ap iter_rest c.zip.ensures.first ∙ c.iter.ensures.rest))
     (YieldsList-from_slice c.args.base.now c.zip.ensures.second.0)))
     c.take_while.ensures.closure c.take_while.ensures.done (λ x b q k. search rules))
-    ∙ length-prefix_len (λ (p : Bor (List ℕ) × Bor (List ℕ)). bytes_eq p.0.now p.1.now) (zip c.args.target.now c.args.base.now)
+    ∙ length-prefix_len (λ (p : Bor (List ℕ) × Bor (List ℕ)). bytes_eq p.0.now p.1.now)
+    (zip c.args.target.now c.args.base.now)
     ∙ prefix_len-zip (λ (a b : Bor (List ℕ)). bytes_eq a.now b.now) c.args.target.now c.args.base.now
     ∙ shared-texts c.args.target.now c.args.base.now

@@ -12,6 +12,7 @@ returns c = λ r h.
     count_from_yields_List _ c.count.result c.count.ensures.ran
     (YieldsList-from_take_while _ is_dots
     (YieldsList-at c.take_while.ensures.source
-    (YieldsList-from_slice_split _ (λ b. b == 47) c.args.place.now c.split.ensures.rest c.split.ensures.done c.split.ensures.closure (λ x b q k. search rules)))
+    (YieldsList-from_slice_split _ (λ b. b == 47) c.args.place.now c.split.ensures.rest c.split.ensures.done
+    c.split.ensures.closure (λ x b q k. search rules)))
     c.take_while.ensures.closure c.take_while.ensures.done (λ x b q k. search rules))
     ∙ length-prefix_len is_dots (parts c.args.place.now) ∙ ups-told r c.args.place.now h

@@ -13,12 +13,14 @@ returns-then-is_place-2 c =
     let target = c.args.target.now in
     let from = place-of base base (sym ((bytes_eq-Decides (place base) base).0 (sym c.if-is_place-2.ensures))) in
     let to = place-of target target (sym ((bytes_eq-Decides (place target) target).0 (sym c.if-is_place.ensures))) in
-    let is = between-routes (route_of base) (route_of target) (same-rooted base target c.requires.base c.requires.target) in
+    let is =
+    between-routes (route_of base) (route_of target) (same-rooted base target c.requires.base c.requires.target) in
     let P : List ℕ → Type 0 = λ t. IfOk c.way_between.result (λ v. v.items ≡ t) in
     subst P is (c.way_between.ensures (route_of base) (route_of target) from to)
 
 pub returns : goal.returns
 returns c =
-    let is = way-rooted c.args.base.now c.args.target.now _ _ c.requires.base c.requires.target (ap texts c.as_slice.ensures ∙ c.in_ok-from.ensures) (ap texts c.as_slice-2.ensures ∙ c.in_ok-to.ensures) in
+    let is = way-rooted c.args.base.now c.args.target.now _ _ c.requires.base c.requires.target
+    (ap texts c.as_slice.ensures ∙ c.in_ok-from.ensures) (ap texts c.as_slice-2.ensures ∙ c.in_ok-to.ensures) in
     let P : List ℕ → Type 0 = λ t. IfOk c.way_by_names.result (λ v. v.items ≡ t) in
     subst P is c.way_by_names.ensures

@@ -13,9 +13,11 @@ returns-in_err-rules-in-Browser g c =
 pub returns-in_err-ruled-in-Browser : goal.returns-in_err-ruled-in-Browser
 returns-in_err-ruled-in-Browser g c =
     rw (sym c.target.ensures ∙ c.in-Browser.is)
-    (asks_then _ (rw c.conventions.ensures at c.in_ok-rules-in-Browser.ensures) (asks_starved _ c.from_residual-in_err-ruled-in-Browser.ensures.1))
+    (asks_then _ (rw c.conventions.ensures at c.in_ok-rules-in-Browser.ensures)
+    (asks_starved _ c.from_residual-in_err-ruled-in-Browser.ensures.1))
 
 pub returns-in_ok-ruled-in-Browser : goal.returns-in_ok-ruled-in-Browser
 returns-in_ok-ruled-in-Browser g c =
     rw (sym c.target.ensures ∙ c.in-Browser.is)
-    (asks_then _ (rw c.conventions.ensures at c.in_ok-rules-in-Browser.ensures) (asks_done (rw c.as_slice.ensures at c.in_ok-ruled-in-Browser.ensures)))
+    (asks_then _ (rw c.conventions.ensures at c.in_ok-rules-in-Browser.ensures)
+    (asks_done (rw c.as_slice.ensures at c.in_ok-ruled-in-Browser.ensures)))

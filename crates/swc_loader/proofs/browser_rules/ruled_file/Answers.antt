@@ -6,12 +6,14 @@ use Rattle.swc_loader.proofs.browser_rules.ruled_file.Goals as goal
 
 pub returns-in_err-rule_for : goal.returns-in_err-rule_for
 unfolding ruled_file
-returns-in_err-rule_for g c = asks_fails _ _ c.from_residual-in_err-rule_for.ensures.1 (rw c.in_ok-copy.ensures at c.in_err-rule_for.ensures)
+returns-in_err-rule_for g c =
+    asks_fails _ _ c.from_residual-in_err-rule_for.ensures.1 (rw c.in_ok-copy.ensures at c.in_err-rule_for.ensures)
 
 pub returns-in_err-into_text-in-Ignored : goal.returns-in_err-into_text-in-Ignored
 unfolding ruled_file
 returns-in_err-into_text-in-Ignored g c =
-    asks_as _ (rw c.in_ok-copy.ensures at c.in_ok-rule_for.ensures) c.in-Ignored.is (asks_starved _ c.from_residual-in_err-into_text-in-Ignored.ensures.1)
+    asks_as _ (rw c.in_ok-copy.ensures at c.in_ok-rule_for.ensures) c.in-Ignored.is
+    (asks_starved _ c.from_residual-in_err-into_text-in-Ignored.ensures.1)
 
 pub returns-in-NoRule : goal.returns-in-NoRule
 unfolding ruled_file
@@ -20,7 +22,8 @@ returns-in-NoRule g c = asks_as _ (rw c.in_ok-copy.ensures at c.in_ok-rule_for.e
 pub returns-in_ok-into_text-in-Ignored : goal.returns-in_ok-into_text-in-Ignored
 unfolding ruled_file
 returns-in_ok-into_text-in-Ignored g c =
-    asks_as _ (rw c.in_ok-copy.ensures at c.in_ok-rule_for.ensures) c.in-Ignored.is (asks_done (ap Ignored c.in_ok-into_text-in-Ignored.ensures.text))
+    asks_as _ (rw c.in_ok-copy.ensures at c.in_ok-rule_for.ensures) c.in-Ignored.is
+    (asks_done (ap Ignored c.in_ok-into_text-in-Ignored.ensures.text))
 
 pub returns-in-File : goal.returns-in-File
 unfolding ruled_file

@@ -9,7 +9,8 @@ returns-then-not-begins_here g c =
 
 pub returns-in_err-file : goal.returns-in_err-file
 returns-in_err-file g c =
-    rw (sym c.begins_here.ensures ∙ c.if-not-begins_here.false) (asks_fails _ _ c.from_residual-in_err-file.ensures.1 c.in_err-file.ensures)
+    rw (sym c.begins_here.ensures ∙ c.if-not-begins_here.false)
+    (asks_fails _ _ c.from_residual-in_err-file.ensures.1 c.in_err-file.ensures)
 
 pub returns-in_err-of-in-None : goal.returns-in_err-of-in-None
 returns-in_err-of-in-None g c =
@@ -18,7 +19,8 @@ returns-in_err-of-in-None g c =
 
 pub returns-in-Some : goal.returns-in-Some
 returns-in-Some g c =
-    rw (sym c.begins_here.ensures ∙ c.if-not-begins_here.false) (asks_as _ c.in_ok-file.ensures c.in-Some.is (asks_done refl))
+    rw (sym c.begins_here.ensures ∙ c.if-not-begins_here.false)
+    (asks_as _ c.in_ok-file.ensures c.in-Some.is (asks_done refl))
 
 pub returns-in_ok-of-in-None : goal.returns-in_ok-of-in-None
 returns-in_ok-of-in-None g c =

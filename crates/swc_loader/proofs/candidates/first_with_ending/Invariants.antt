@@ -8,5 +8,6 @@ abbrev pub invariant-loop-ending : goal.invariant-loop-ending
 invariant-loop-ending g l = record {
   folder : l.candidate ≡ l.folder;
   base : string_bytes l.name ≡ l.base;
-  left : Leads (g.R.Asker.asking l.fn.tree) (g.R.Asker.asking l.tree) (with_each l.folder l.base l.endings) (with_each l.folder l.base (drop l.ending-index l.endings));
+  left : Leads (g.R.Asker.asking l.fn.tree) (g.R.Asker.asking l.tree) (with_each l.folder l.base l.endings)
+      (with_each l.folder l.base (drop l.ending-index l.endings));
 }

@@ -10,4 +10,5 @@ pub returns-in-Some : goal.returns-in-Some
 returns-in-Some g c = rw first_file-two (asks_as _ c.in_ok-file.ensures c.in-Some.is (asks_done refl))
 
 pub returns : goal.returns
-returns g c = rw first_file-two (asks_as _ c.in_ok-file.ensures c.in_default.is (rw c.endings.ensures.list at c.first_with_ending.ensures))
+returns g c = rw first_file-two (asks_as _ c.in_ok-file.ensures c.in_default.is
+    (rw c.endings.ensures.list at c.first_with_ending.ensures))

@@ -9,6 +9,7 @@ use Rattle.swc_loader.proofs.entry.are_texts_or_nothing.Goals as goal
 
 pub returns : goal.returns
 returns c =
-    rw list_all-map (all_from_yields_List (λ (field : Bor (List ℕ)). is_text_or_nothing (get field.now (view c.args.package_json.now))) _ _ c.all.result c.all.ensures.ran
+    rw list_all-map (all_from_yields_List (λ (field : Bor (List ℕ)). is_text_or_nothing
+    (get field.now (view c.args.package_json.now))) _ _ c.all.result c.all.ensures.ran
     (YieldsList-from_slice c.args.fields.now c.iter.ensures.rest)
     (λ x b q k. search rules))

@@ -8,14 +8,17 @@ use Rattle.swc_loader.proofs.located.placed_file.Goals as goal
 
 pub returns-in_err-ruled_file-in-File : goal.returns-in_err-ruled_file-in-File
 unfolding never_refuses
-returns-in_err-ruled_file-in-File g c = rw c.in-File.is (asks_fails_in resolving _ _ c.from_residual.ensures.1 c.in_err-ruled_file-in-File.ensures)
+returns-in_err-ruled_file-in-File g c =
+    rw c.in-File.is (asks_fails_in resolving _ _ c.from_residual.ensures.1 c.in_err-ruled_file-in-File.ensures)
 
 pub returns-in_ok-ruled_file-in-File : goal.returns-in_ok-ruled_file-in-File
 unfolding never_refuses
 returns-in_ok-ruled_file-in-File g c = rw c.in-File.is (asks_then _ c.in_ok-ruled_file-in-File.ensures (asks_done refl))
 
 pub returns-in_ok-text-in-Nothing : goal.returns-in_ok-text-in-Nothing
-returns-in_ok-text-in-Nothing g c = rw c.in-Nothing.is (asks_done (ap (λ text. Err (NotFound text)) c.in_ok-text-in-Nothing.ensures))
+returns-in_ok-text-in-Nothing g c =
+    rw c.in-Nothing.is (asks_done (ap (λ text. Err (NotFound text)) c.in_ok-text-in-Nothing.ensures))
 
 pub returns-in_ok-path-in-Malformed : goal.returns-in_ok-path-in-Malformed
-returns-in_ok-path-in-Malformed g c = rw c.in-Malformed.is (asks_done (ap (λ path. Err (MalformedPackage path)) c.in_ok-path-in-Malformed.ensures.text))
+returns-in_ok-path-in-Malformed g c =
+    rw c.in-Malformed.is (asks_done (ap (λ path. Err (MalformedPackage path)) c.in_ok-path-in-Malformed.ensures.text))

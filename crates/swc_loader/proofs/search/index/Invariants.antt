@@ -7,4 +7,6 @@ use Rattle.swc_loader.proofs.search.index.Given as goal
 
 -- what is asked of the names that are left is what is asked of all
 abbrev pub invariant-loop-name : goal.invariant-loop-name
-invariant-loop-name g l = Leads (g.R.Asker.asking l.fn.tree) (g.R.Asker.asking l.tree) (first_file (index_files l.conventions l.folder)) (with_names l.folder (l.conventions).endings (drop l.name-index l.name-items))
+invariant-loop-name g l = Leads (g.R.Asker.asking l.fn.tree) (g.R.Asker.asking l.tree)
+    (first_file (index_files l.conventions l.folder)) (with_names l.folder (l.conventions).endings
+    (drop l.name-index l.name-items))

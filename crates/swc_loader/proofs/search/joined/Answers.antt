@@ -10,12 +10,17 @@ behind base front t relative is = rw (relative, is) refl
 
 pub returns : goal.returns
 returns c =
-    let relative : is_absolute c.args.text.now ≡ false = sym (c.starts_with.ensures.byte (lit< tt) (lit< tt) (λ _ _ h. h)) ∙ c.if-starts_with.false in
-    let text : string_bytes c.in_ok-joined.joined ≡ text_of c.args.folder.now = c.in_ok-joined.ensures.ok ∙ c.as_str.ensures.text in
+    let relative : is_absolute c.args.text.now ≡ false =
+    sym (c.starts_with.ensures.byte (lit< tt) (lit< tt) (λ _ _ h. h)) ∙ c.if-starts_with.false in
+    let text : string_bytes c.in_ok-joined.joined ≡ text_of c.args.folder.now =
+    c.in_ok-joined.ensures.ok ∙ c.as_str.ensures.text in
     let closed = λ (b : Bool). cond b (text_of c.args.folder.now) (text_of c.args.folder.now ++ 47 ∷ []) in
     let slash = with_slash-text c.args.folder.now c.as_str.ensures.names ∙ ap closed (sym c.is_root.ensures) in
-    let front = elim c.if-not-is_root.branch as (λ _. string_bytes c.if-not-is_root.joined ≡ with_slash (text_of c.args.folder.now)) [
-      | then-not-is_root+in_ok-push_str w ↦ ap string_bytes w.joined-is ∙ w.in_ok-push_str.ensures.bytes ∙ ap (λ s. s ++ 47 ∷ []) text ∙ sym (slash ∙ ap closed w.if-not-is_root.true)
+    let front = elim c.if-not-is_root.branch as (λ _. string_bytes c.if-not-is_root.joined ≡ with_slash
+    (text_of c.args.folder.now)) [
+      | then-not-is_root+in_ok-push_str w ↦ ap string_bytes w.joined-is ∙ w.in_ok-push_str.ensures.bytes
+          ∙ ap (λ s. s ++ 47 ∷ []) text ∙ sym (slash ∙ ap closed w.if-not-is_root.true)
       | else-not-is_root w ↦ ap string_bytes w.joined-is ∙ text ∙ sym (slash ∙ ap closed w.if-not-is_root.false)
     ] in
-    c.in_ok-push_str-2.ensures.bytes ∙ behind (text_of c.args.folder.now) (string_bytes c.if-not-is_root.joined) c.args.text.now relative front
+    c.in_ok-push_str-2.ensures.bytes ∙ behind (text_of c.args.folder.now) (string_bytes c.if-not-is_root.joined)
+    c.args.text.now relative front

@@ -11,8 +11,10 @@ use Rattle.swc_loader.specs.Search.{by_entry, packaged}
 use Rattle.swc_loader.proofs.search.packaged_folder.Goals as goal
 
 -- the search by an entry, where it is known which one
-by_this : {old new : Asking} {r : Result Searched ReadError} (v : Conventions) (d : Path) {e known : PackageEntry} → e ≡ known → Asks old new r (by_entry v d known) → Asks old new r (by_entry v d e)
-by_this {old = old} {new = new} {r = r} v d is h = let P : PackageEntry → Type 0 = λ e. Asks old new r (by_entry v d e) in subst P (sym is) h
+by_this : {old new : Asking} {r : Result Searched ReadError} (v : Conventions) (d : Path) {e known : PackageEntry}
+    → e ≡ known → Asks old new r (by_entry v d known) → Asks old new r (by_entry v d e)
+by_this {old = old} {new = new} {r = r} v d is h =
+    let P : PackageEntry → Type 0 = λ e. Asks old new r (by_entry v d e) in subst P (sym is) h
 
 pub returns-in_err-content : goal.returns-in_err-content
 unfolding packaged
@@ -20,22 +22,26 @@ returns-in_err-content g c = asks_fails _ _ c.from_residual.ensures.1 (rw c.requ
 
 pub returns-in_err-entry_of : goal.returns-in_err-entry_of
 unfolding packaged
-returns-in_err-entry_of g c = asks_then _ (rw c.requires at c.in_ok-content.ensures) (asks_starved _ c.from_residual-in_err-entry_of.ensures.1)
+returns-in_err-entry_of g c =
+    asks_then _ (rw c.requires at c.in_ok-content.ensures) (asks_starved _ c.from_residual-in_err-entry_of.ensures.1)
 
 pub returns-in-Malformed : goal.returns-in-Malformed
 unfolding packaged
 returns-in-Malformed g c =
     asks_then _ (rw c.requires at c.in_ok-content.ensures)
-    (by_this c.args.context.now.conventions.now c.args.folder.now (sym c.in_ok-entry_of.ensures ∙ c.in-Malformed.is) (asks_done (ap Malformed c.requires)))
+    (by_this c.args.context.now.conventions.now c.args.folder.now (sym c.in_ok-entry_of.ensures ∙ c.in-Malformed.is)
+    (asks_done (ap Malformed c.requires)))
 
 pub returns-in-Missing : goal.returns-in-Missing
 unfolding packaged
 returns-in-Missing g c =
     asks_then _ (rw c.requires at c.in_ok-content.ensures)
-    (by_this c.args.context.now.conventions.now c.args.folder.now (sym c.in_ok-entry_of.ensures ∙ c.in-Missing.is) c.first_index.ensures)
+    (by_this c.args.context.now.conventions.now c.args.folder.now (sym c.in_ok-entry_of.ensures ∙ c.in-Missing.is)
+    c.first_index.ensures)
 
 pub returns-in-At : goal.returns-in-At
 unfolding packaged
 returns-in-At g c =
     asks_then _ (rw c.requires at c.in_ok-content.ensures)
-    (by_this c.args.context.now.conventions.now c.args.folder.now (sym c.in_ok-entry_of.ensures ∙ c.in-At.is) (rw c.as_str.ensures at c.at_entry.ensures))
+    (by_this c.args.context.now.conventions.now c.args.folder.now (sym c.in_ok-entry_of.ensures ∙ c.in-At.is)
+    (rw c.as_str.ensures at c.at_entry.ensures))

@@ -28,14 +28,18 @@ loop-part-preserved c =
 
 pub returns-clause-named : goal.returns-clause-named
 returns-clause-named c =
-    let all = YieldsList-end (YieldsList-at c.into_iter-part-iterator.ensures.into_iter_gives (YieldsList-from_str_split 47 c.args.text.now (lit< tt) c.split-part-items.ensures.text c.split-part-items.ensures.has_more c.split-part-items.ensures.pattern))
+    let all = YieldsList-end (YieldsList-at c.into_iter-part-iterator.ensures.into_iter_gives
+    (YieldsList-from_str_split 47 c.args.text.now (lit< tt) c.split-part-items.ensures.text
+    c.split-part-items.ensures.has_more c.split-part-items.ensures.pattern))
     c.loop-part.yielded _ c.loop-part.yielded_by _ _ c.in-None.is c.next.ensures.steps in
     let P : List (List ℕ) → Type 0 = ShapeOf c.loop-part.named c.loop-part.closed in
     (subst P all.0 c.loop-part.invariant.2).named
 
 pub returns-clause-closed : goal.returns-clause-closed
 returns-clause-closed c =
-    let all = YieldsList-end (YieldsList-at c.into_iter-part-iterator.ensures.into_iter_gives (YieldsList-from_str_split 47 c.args.text.now (lit< tt) c.split-part-items.ensures.text c.split-part-items.ensures.has_more c.split-part-items.ensures.pattern))
+    let all = YieldsList-end (YieldsList-at c.into_iter-part-iterator.ensures.into_iter_gives
+    (YieldsList-from_str_split 47 c.args.text.now (lit< tt) c.split-part-items.ensures.text
+    c.split-part-items.ensures.has_more c.split-part-items.ensures.pattern))
     c.loop-part.yielded _ c.loop-part.yielded_by _ _ c.in-None.is c.next.ensures.steps in
     let P : List (List ℕ) → Type 0 = ShapeOf c.loop-part.named c.loop-part.closed in
     (subst P all.0 c.loop-part.invariant.2).closed

@@ -14,7 +14,8 @@ returns-in-Some g c = asks_as _ c.in_ok-name.ensures c.in-Some.is (asks_done ref
 
 pub returns-in_err-to_text-in-None : goal.returns-in_err-to_text-in-None
 unfolding canonical_name
-returns-in_err-to_text-in-None g c = asks_as _ c.in_ok-name.ensures c.in-None.is (asks_starved _ c.from_residual-in_err-to_text-in-None.ensures.1)
+returns-in_err-to_text-in-None g c =
+    asks_as _ c.in_ok-name.ensures c.in-None.is (asks_starved _ c.from_residual-in_err-to_text-in-None.ensures.1)
 
 pub returns-in_ok-to_text-in-None : goal.returns-in_ok-to_text-in-None
 unfolding canonical_name

@@ -9,6 +9,9 @@ pub returns : goal.returns
 returns g c =
     let kept = sym c.preserves_symlinks.ensures ∙ c.if-not-preserves_symlinks.false in
     elim c.if-relative.branch [
-      | then-relative+in_ok-path w ↦ rw (kept, w.if-relative.true) (asks_done (ap Real (w.path-is ∙ w.in_ok-path.ensures ∙ ap (λ cwd. from_working_folder cwd c.args.file.now) w.cwd.ensures)))
-      | else-relative+in_ok-path-2 w ↦ rw (kept, w.if-relative.false) (asks_done (ap Real (w.path-is ∙ w.in_ok-path-2.ensures.text)))
+      | then-relative+in_ok-path w ↦ rw (kept, w.if-relative.true)
+          (asks_done (ap Real (w.path-is ∙ w.in_ok-path.ensures
+          ∙ ap (λ cwd. from_working_folder cwd c.args.file.now) w.cwd.ensures)))
+      | else-relative+in_ok-path-2 w ↦ rw (kept, w.if-relative.false)
+          (asks_done (ap Real (w.path-is ∙ w.in_ok-path-2.ensures.text)))
     ]

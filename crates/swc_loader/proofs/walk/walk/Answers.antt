@@ -25,7 +25,8 @@ pub up-smaller : goal.up-smaller
 up-smaller g c = rw c.go_up.ensures.up (up-shorter _ _ c.go_up.ensures.went c.if-not-go_up.false)
 
 pub returns-in_err-found : goal.returns-in_err-found
-returns-in_err-found g c = c.up.invariant.to (asks_fails _ _ c.from_residual-in_err-found.ensures.1 c.in_err-found.ensures)
+returns-in_err-found g c =
+    c.up.invariant.to (asks_fails _ _ c.from_residual-in_err-found.ensures.1 c.in_err-found.ensures)
 
 pub returns-in-File : goal.returns-in-File
 returns-in-File g c = c.up.invariant.to (asks_as _ c.in_ok-found.ensures c.in-File.is (asks_done refl))
@@ -33,4 +34,5 @@ returns-in-File g c = c.up.invariant.to (asks_as _ c.in_ok-found.ensures c.in-Fi
 pub returns-then-not-go_up : goal.returns-then-not-go_up
 returns-then-not-go_up g c =
     let top = up-root _ _ c.go_up.ensures.went c.if-not-go_up.true in
-    c.up.invariant.to (asks_as _ c.in_ok-found.ensures refl (rw (higher-other _ _ c.in_default.not-File, top) (asks_done refl)))
+    c.up.invariant.to (asks_as _ c.in_ok-found.ensures refl (rw (higher-other _ _ c.in_default.not-File, top)
+    (asks_done refl)))

@@ -11,11 +11,13 @@ returns-then-not-is_count-clause-none c = λ m is.
 
 pub returns-in-Ok-clause-some : goal.returns-in-Ok-clause-some
 returns-in-Ok-clause-some c =
-    let tests : is_count c.args.text.now ≡ true = ap is_count (sym c.as_bytes.ensures.value) ∙ sym c.is_count.ensures ∙ c.if-not-is_count.false in
+    let tests : is_count c.args.text.now ≡ true =
+    ap is_count (sym c.as_bytes.ensures.value) ∙ sym c.is_count.ensures ∙ c.if-not-is_count.false in
     let told = rw c.in-Ok.is at c.parse.ensures.value.0 in
     parsed c.args.text.now c.in-Ok.count tests told.1 told.0.1
 
 pub returns-in-Err-clause-some : goal.returns-in-Err-clause-some
 returns-in-Err-clause-some c =
-    let tests : is_count c.args.text.now ≡ true = ap is_count (sym c.as_bytes.ensures.value) ∙ sym c.is_count.ensures ∙ c.if-not-is_count.false in
+    let tests : is_count c.args.text.now ≡ true =
+    ap is_count (sym c.as_bytes.ensures.value) ∙ sym c.is_count.ensures ∙ c.if-not-is_count.false in
     unparsed c.args.text.now tests (rw c.in-Err.is at c.parse.ensures.value.0)

@@ -8,5 +8,6 @@ returns-in_default-clause-lacks c =
 pub returns-in-None-clause-lacks : goal.returns-in-None-clause-lacks
 returns-in-None-clause-lacks c = (
   c.number-number.ensures,
-  no_counts-other c.in-Some.line.now c.args.lines.now.rest.now _ c.in-Some.ensures.rest c.in-Some.ensures.line c.in-None.ensures.none,
+  no_counts-other c.in-Some.line.now c.args.lines.now.rest.now _ c.in-Some.ensures.rest c.in-Some.ensures.line
+      c.in-None.ensures.none,
 )

@@ -8,8 +8,10 @@ use Rattle.trail_bundle.proofs.decode.read_replies.Goals as goal
 pub returns-in_err-read_reply-clause-lacks : goal.returns-in_err-read_reply-clause-lacks
 returns-in_err-read_reply-clause-lacks c =
     raised (LacksReply c.args.count c.args.lines.now.number c.args.lines.now.rest.now) _ _ c.from_residual.ensures.1
-    (lacks_reply c.args.count c.args.lines.now.number c.loop.counter _ c.args.lines.now.rest.now c.loop.lines.rest.now (steps_of c.loop.replies.entries) _
-    c.loop.invariant.0 c.loop.invariant.1 c.loop.invariant.2 c.loop-test.true c.loop.invariant.3 c.in_err-read_reply.ensures.lacks)
+    (lacks_reply c.args.count c.args.lines.now.number c.loop.counter _ c.args.lines.now.rest.now c.loop.lines.rest.now
+    (steps_of c.loop.replies.entries) _
+    c.loop.invariant.0 c.loop.invariant.1 c.loop.invariant.2 c.loop-test.true c.loop.invariant.3
+    c.in_err-read_reply.ensures.lacks)
 
 pub loop-preserved : goal.loop-preserved
 loop-preserved c =

@@ -4,7 +4,8 @@ use Rattle.trail_bundle.proofs.Readings.{no-request, read-as}
 use Rattle.trail_bundle.proofs.line_reading.request_on.Goals as goal
 
 pub returns-in-Err-OtherKind-clause-none : goal.returns-in-Err-OtherKind-clause-none
-returns-in-Err-OtherKind-clause-none c = λ r is. no-request c.args.line.now r (rw c.in-Err-OtherKind.field-0-is at c.in-Err-OtherKind.ensures) is
+returns-in-Err-OtherKind-clause-none c =
+    λ r is. no-request c.args.line.now r (rw c.in-Err-OtherKind.field-0-is at c.in-Err-OtherKind.ensures) is
 
 pub returns-clause-none : goal.returns-clause-none
 returns-clause-none c = λ r is.

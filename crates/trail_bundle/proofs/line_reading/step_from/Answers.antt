@@ -27,7 +27,8 @@ returns-in_err-reply-clause-read c =
 pub returns-clause-read : goal.returns-clause-read
 unfolding step_of
 returns-clause-read c =
-    some_then _ _ (sym c.in-Some.ensures) (some_then _ _ c.in_ok-question.ensures (some_then _ _ c.in_ok-reply.ensures.read refl))
+    some_then _ _ (sym c.in-Some.ensures) (some_then _ _ c.in_ok-question.ensures
+    (some_then _ _ c.in_ok-reply.ensures.read refl))
 
 pub returns-clause-reply : goal.returns-clause-reply
 returns-clause-reply c =

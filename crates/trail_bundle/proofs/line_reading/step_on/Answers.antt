@@ -4,7 +4,8 @@ use Rattle.trail_bundle.proofs.Readings.{no-step, step-read-as}
 use Rattle.trail_bundle.proofs.line_reading.step_on.Goals as goal
 
 pub returns-in-Err-OtherKind-clause-none : goal.returns-in-Err-OtherKind-clause-none
-returns-in-Err-OtherKind-clause-none c = λ step h is. no-step c.args.line.now step h (rw c.in-Err-OtherKind.field-0-is at c.in-Err-OtherKind.ensures.read) is
+returns-in-Err-OtherKind-clause-none c =
+    λ step h is. no-step c.args.line.now step h (rw c.in-Err-OtherKind.field-0-is at c.in-Err-OtherKind.ensures.read) is
 
 pub returns-clause-none : goal.returns-clause-none
 returns-clause-none c = λ step h is.

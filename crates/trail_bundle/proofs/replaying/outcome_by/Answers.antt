@@ -9,5 +9,6 @@ use Rattle.trail_bundle.proofs.replaying.outcome_by.Goals as goal
 
 pub returns-clause-agree : goal.returns-clause-agree
 returns-clause-agree c =
-    subst (λ (steps : List (Question × Reply)). IfOk c.resolve_import_with.result (λ o. AgreeWith (agrees_with steps) o.trail))
+    subst (λ (steps : List (Question × Reply)). IfOk c.resolve_import_with.result
+    (λ o. AgreeWith (agrees_with steps) o.trail))
     (ap (λ (r : Replay). r.trail) c.of-tree.ensures) c.resolve_import_with.ensures.agree

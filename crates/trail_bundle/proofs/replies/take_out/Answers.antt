@@ -15,5 +15,6 @@ loop-question-preserved c =
           ∙ ap (λ y. kept_without (y ∷ rest) c.loop-question.replies q) c.question-item.is
           ∙ ap (λ xs. kept_without xs c.loop-question.replies q) (sym more)
           ∙ c.loop-question.invariant.0 q,
-      λ are. are_without c.loop-question.replies c.remove.new.self _ c.remove.ensures.entries c.remove.ensures.ordered (c.loop-question.invariant.1 are),
+      λ are. are_without c.loop-question.replies c.remove.new.self _ c.remove.ensures.entries c.remove.ensures.ordered
+          (c.loop-question.invariant.1 are),
     )

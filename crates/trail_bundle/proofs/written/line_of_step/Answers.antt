@@ -8,4 +8,5 @@ pub returns : goal.returns
 unfolding reply_line
 returns c =
     let same = c.in_ok-value.ensures in
-    c.in_ok-line.ensures.text (ap has_float same ∙ step_without (c.args.question.now, c.args.reply.now)) ∙ ap compact_text same
+    c.in_ok-line.ensures.text (ap has_float same ∙ step_without (c.args.question.now, c.args.reply.now))
+    ∙ ap compact_text same

@@ -6,10 +6,14 @@ use Rattle.tree_core.proofs.memory.file_at.Goals as goal
 
 pub returns-then-contains_key : goal.returns-then-contains_key
 returns-then-contains_key c =
-    let told : is_file (files_of c.args.files.now.entries) c.args.path.now ≡ true = ap is_some (get-files_of c.args.files.now.entries c.args.path.now) ∙ sym c.contains_key.ensures ∙ c.if-contains_key.true in
+    let told : is_file (files_of c.args.files.now.entries) c.args.path.now ≡ true =
+    ap is_some (get-files_of c.args.files.now.entries c.args.path.now) ∙ sym c.contains_key.ensures
+    ∙ c.if-contains_key.true in
     ap (λ b. cond b (Some c.args.path.now) None) (sym told)
 
 pub returns : goal.returns
 returns c =
-    let told : is_file (files_of c.args.files.now.entries) c.args.path.now ≡ false = ap is_some (get-files_of c.args.files.now.entries c.args.path.now) ∙ sym c.contains_key.ensures ∙ c.if-contains_key.false in
+    let told : is_file (files_of c.args.files.now.entries) c.args.path.now ≡ false =
+    ap is_some (get-files_of c.args.files.now.entries c.args.path.now) ∙ sym c.contains_key.ensures
+    ∙ c.if-contains_key.false in
     ap (λ b. cond b (Some c.args.path.now) None) (sym told)

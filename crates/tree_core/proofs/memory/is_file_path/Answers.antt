@@ -6,4 +6,5 @@ use Rattle.tree_core.proofs.memory.is_file_path.Goals as goal
 pub returns-then-ne : goal.returns-then-ne
 returns-then-ne c =
     let apart : not (bytes_eq c.args.text.now (47 ∷ [])) ≡ true = grind arith in
-    is_clean-is c.args.text.now c.is_clean.result c.is_clean.ensures.0 c.is_clean.ensures.1 ∙ ap (λ b. b && bytes_eq c.args.text.now (text_of (path_in c.args.text.now))) (sym apart)
+    is_clean-is c.args.text.now c.is_clean.result c.is_clean.ensures.0 c.is_clean.ensures.1
+    ∙ ap (λ b. b && bytes_eq c.args.text.now (text_of (path_in c.args.text.now))) (sym apart)

@@ -10,7 +10,8 @@ returns-then-starts_with c =
     let path = c.args.path.now in
     let other = c.args.other.now in
     let begins : starts_with nat_eq other path ≡ true = cc in
-    let rest : take (length c.as_bytes-below.result.now - length c.as_bytes-above.result.now) (drop (length c.as_bytes-above.result.now) c.as_bytes-below.result.now) ≡ drop (length path) other =
+    let rest : take (length c.as_bytes-below.result.now - length c.as_bytes-above.result.now)
+    (drop (length c.as_bytes-above.result.now) c.as_bytes-below.result.now) ≡ drop (length path) other =
     take_rest c.as_bytes-below.result.now (length c.as_bytes-above.result.now) ∙ (cc) in
     c.starts_with-then-starts_with.ensures.value
     ∙ ap (λ (text : List _). starts_with nat_eq text (47 ∷ [])) rest

@@ -4,4 +4,5 @@ use Rattle.tree_core.proofs.trail.hash_on.Goals as goal
 
 pub returns : goal.returns
 unfolding hash_of
-returns c = rw (kind_of-on c.args.kind c.args.path.now, path_asked-on c.args.kind c.args.path.now) (cc (c.hash_one.ensures, c.new.ensures, c.number_of.ensures))
+returns c = rw (kind_of-on c.args.kind c.args.path.now, path_asked-on c.args.kind c.args.path.now)
+    (cc (c.hash_one.ensures, c.new.ensures, c.number_of.ensures))

@@ -8,7 +8,8 @@ use Rattle.tree_core.proofs.trail.is_on.Goals as goal
 pub returns-then-number_of : goal.returns-then-number_of
 returns-then-number_of c =
     let own = c.number_of.ensures ∙ ap number_of c.kind.ensures in
-    let one : (number_of (kind_of c.args.question.now) == number_of c.args.kind) ≡ true = (Decides-eqb _ _).1 (sym own ∙ c.if-number_of.true ∙ c.number_of-2.ensures) in
+    let one : (number_of (kind_of c.args.question.now) == number_of c.args.kind) ≡ true =
+    (Decides-eqb _ _).1 (sym own ∙ c.if-number_of.true ∙ c.number_of-2.ensures) in
     c.eq.ensures
     ∙ ap (λ p. bytes_eq p c.args.path.now) c.path.ensures
     ∙ ap (λ b. b && bytes_eq (path_asked c.args.question.now) c.args.path.now) (sym one)

@@ -18,5 +18,8 @@ loop-behind-smaller c = (line_at-later _ _ (sym c.in-Some-line_at.ensures)).shor
 
 pub loop-behind-preserved : goal.loop-behind-preserved
 loop-behind-preserved c =
-    let here = rw c.in_default.is at c.after_empty_line.ensures in
-    (search rules, sym (first_empty-later c.loop-behind.rest.now _ (sym here) (sym c.in-Some-line_at.ensures)) ∙ c.loop-behind.invariant.1)
+    let here = rw c.in_default.is at c.after_empty_line.ensures in (
+      search rules,
+      sym (first_empty-later c.loop-behind.rest.now _ (sym here) (sym c.in-Some-line_at.ensures))
+          ∙ c.loop-behind.invariant.1,
+    )

@@ -6,4 +6,5 @@ pub front-requires : goal.front-requires
 front-requires c = (first_empty-rest _ _ (sym c.in-Some.ensures)).rest_is
 
 pub returns-in-None : goal.returns-in-None
-returns-in-None c = sym (entry_text-whole c.args.text.now (sym c.is_empty.ensures ∙ c.if-is_empty.false) (sym c.in-None.ensures))
+returns-in-None c =
+    sym (entry_text-whole c.args.text.now (sym c.is_empty.ensures ∙ c.if-is_empty.false) (sym c.in-None.ensures))

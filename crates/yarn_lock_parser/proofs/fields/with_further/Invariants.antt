@@ -9,7 +9,8 @@ use Rattle.yarn_lock_parser.proofs.fields.with_further.Given as goal
 
 -- what is left has the answer
 abbrev pub invariant-loop-fields : goal.invariant-loop-fields
-invariant-loop-fields l = shadow (Utf8 l.rest) × (fold with_item l.fields (every item_at l.rest).0 ≡ fold with_item l.fn.fields (every item_at l.text).0)
+invariant-loop-fields l = shadow (Utf8 l.rest)
+    × (fold with_item l.fields (every item_at l.rest).0 ≡ fold with_item l.fn.fields (every item_at l.text).0)
 
 abbrev pub decreases-loop-fields : goal.decreases-loop-fields
 decreases-loop-fields l = length l.rest

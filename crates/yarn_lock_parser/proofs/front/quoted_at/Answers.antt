@@ -9,4 +9,5 @@ returns-in_err-inner c = rw (c.from_residual.ensures, sym c.in_err-inner.ensures
 
 pub returns : goal.returns
 unfolding quoted_at
-returns c = rw (sym c.in_ok-inner.ensures) (split-around 34 c.in_ok-inner.inner.now c.split_once.result c.split_once.ensures.cases (lit< tt))
+returns c = rw (sym c.in_ok-inner.ensures) (split-around 34 c.in_ok-inner.inner.now c.split_once.result
+    c.split_once.ensures.cases (lit< tt))

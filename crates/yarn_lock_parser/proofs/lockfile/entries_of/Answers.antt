@@ -10,7 +10,8 @@ loop-one-smaller c = (entry_text-cut _ _ (sym c.in-Some.ensures)).later.shorter
 pub loop-one-preserved : goal.loop-one-preserved
 loop-one-preserved c =
     let one = sym c.in-Some.ensures in
-    let more = entries_at-more c.loop-one.found.items c.in-Ok.entry (place_in c.args.content.now c.loop-one.rest.now) _ _ one c.in-Ok.ensures.read in
+    let more = entries_at-more c.loop-one.found.items c.in-Ok.entry (place_in c.args.content.now c.loop-one.rest.now) _
+    _ one c.in-Ok.ensures.read in
     let place = next_place c.args.content.now _ _ c.loop-one.invariant.rest one in
     record {
       text = search rules;
@@ -20,8 +21,11 @@ loop-one-preserved c =
 
 pub returns-in-Err-clause-refused : goal.returns-in-Err-clause-refused
 returns-in-Err-clause-refused c =
-    let told = entries_at-error c.loop-one.found.items (place_in c.args.content.now c.loop-one.rest.now) _ _ c.in-Err.e (sym c.in-Some.ensures) c.in-Err.ensures.refused in
+    let told = entries_at-error c.loop-one.found.items (place_in c.args.content.now c.loop-one.rest.now) _ _ c.in-Err.e
+    (sym c.in-Some.ensures) c.in-Err.ensures.refused in
     rw (c.at.ensures, c.place_in-place.ensures, ← c.loop-one.invariant.whole) told
 
 pub returns-clause-read : goal.returns-clause-read
-returns-clause-read c = sym c.loop-one.invariant.whole ∙ entries_at-end c.loop-one.found.items (place_in c.args.content.now c.loop-one.rest.now) _ (sym c.in_default.ensures)
+returns-clause-read c = sym c.loop-one.invariant.whole
+    ∙ entries_at-end c.loop-one.found.items (place_in c.args.content.now c.loop-one.rest.now) _
+    (sym c.in_default.ensures)

@@ -12,7 +12,8 @@ abbrev pub invariant-loop-one : goal.invariant-loop-one
 invariant-loop-one l = record {
   text : shadow (Utf8 l.rest);
   rest : IsRest l.content l.rest;
-  whole : entries_at l.found.items (place_in l.content l.rest) l.rest ≡ entries_from (place_in l.content l.text) (entry_texts l.text);
+  whole : entries_at l.found.items (place_in l.content l.rest) l.rest ≡ entries_from (place_in l.content l.text)
+      (entry_texts l.text);
 }
 
 abbrev pub decreases-loop-one : goal.decreases-loop-one

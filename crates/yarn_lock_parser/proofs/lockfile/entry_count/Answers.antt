@@ -9,9 +9,15 @@ loop-behind-smaller c = (entry_text-cut _ _ (sym c.in-Some.ensures)).later.short
 
 pub loop-behind-preserved : goal.loop-behind-preserved
 loop-behind-preserved c =
-    let more = ap (λ x. length x.0) (every-more entry_text entry_text-shortens c.loop-behind.rest.now _ (sym c.in-Some.ensures)) in
+    let more = ap (λ x. length x.0) (every-more entry_text entry_text-shortens c.loop-behind.rest.now _
+    (sym c.in-Some.ensures)) in
     let shorter = (entry_text-cut _ _ (sym c.in-Some.ensures)).later.shorter in
-    record { text = search rules; whole = omega (arith, more, c.loop-behind.invariant.whole); bound = omega (arith, shorter, c.loop-behind.invariant.bound) }
+    record {
+      text = search rules;
+      whole = omega (arith, more, c.loop-behind.invariant.whole);
+      bound =
+          omega (arith, shorter, c.loop-behind.invariant.bound);
+    }
 
 pub returns : goal.returns
 returns c =

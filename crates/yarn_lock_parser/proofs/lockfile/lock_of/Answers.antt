@@ -7,4 +7,5 @@ pub place_in-requires : goal.place_in-requires
 place_in-requires c = header_at-rest _ _ (sym c.in-Some.ensures)
 
 pub entries_of-requires : goal.entries_of-requires
-entries_of-requires c = behind (header_at-rest _ _ (sym c.in-Some.ensures)) (metadata_after-rest _ _ _ (sym c.in-Some-metadata_after.ensures))
+entries_of-requires c = behind (header_at-rest _ _ (sym c.in-Some.ensures))
+    (metadata_after-rest _ _ _ (sym c.in-Some-metadata_after.ensures))

@@ -13,5 +13,6 @@ returns-in_err-key c =
 pub returns : goal.returns
 unfolding flag_under
 returns c =
-    let more = some-more (property_at c.args.indent.now) (property_at-shortens c.args.indent.now) c.args.text.now _ (sym c.in_ok-key.ensures) in
+    let more = some-more (property_at c.args.indent.now) (property_at-shortens c.args.indent.now) c.args.text.now _
+    (sym c.in_ok-key.ensures) in
     rw (more, c.further_flag.ensures.flag, c.further_flag.ensures.rest, c.noted.ensures) refl

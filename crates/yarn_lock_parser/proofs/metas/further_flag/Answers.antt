@@ -9,7 +9,8 @@ loop-key-smaller c = property_at-shortens _ _ _ (sym c.in-Some.ensures)
 
 pub loop-key-preserved : goal.loop-key-preserved
 loop-key-preserved c =
-    let more = every-more (property_at c.args.indent.now) (property_at-shortens c.args.indent.now) c.loop-key.rest.now _ (sym c.in-Some.ensures) in
+    let more = every-more (property_at c.args.indent.now) (property_at-shortens c.args.indent.now) c.loop-key.rest.now _
+    (sym c.in-Some.ensures) in
     let flag = rw more at c.loop-key.invariant.flag in
     let rest = rw more at c.loop-key.invariant.rest in
     record { text = search rules; flag = rw c.noted-flag.ensures flag; rest = rest }

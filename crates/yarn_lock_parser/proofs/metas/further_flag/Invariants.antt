@@ -11,7 +11,8 @@ use Rattle.yarn_lock_parser.proofs.metas.further_flag.Given as goal
 abbrev pub invariant-loop-key : goal.invariant-loop-key
 invariant-loop-key l = record {
   text : shadow (Utf8 l.rest);
-  flag : fold noted (flag_said l.flag) (every (property_at l.indent) l.rest).0 ≡ fold noted (flag_said l.fn.flag) (every (property_at l.indent) l.text).0;
+  flag : fold noted (flag_said l.flag) (every (property_at l.indent) l.rest).0 ≡ fold noted (flag_said l.fn.flag)
+      (every (property_at l.indent) l.text).0;
   rest : (every (property_at l.indent) l.rest).1 ≡ (every (property_at l.indent) l.text).1;
 }
 

@@ -6,5 +6,7 @@ use Rattle.deno_package_json.proofs.cache.BTreeMapCachePackageJsonCache.set.Goal
 
 pub returns-clause-put : goal.returns-clause-put
 returns-clause-put c =
-    kept_by-insert c.args.self.now.packages c.insert.new.self shared c.in_ok-path.path c.args.package_json c.in_ok-insert.ensures.updates
-    ∙ ap (λ k. finite.insert (kept_by c.args.self.now.packages.entries shared) k c.args.package_json.value) c.in_ok-path.ensures
+    kept_by-insert c.args.self.now.packages c.insert.new.self shared c.in_ok-path.path c.args.package_json
+    c.in_ok-insert.ensures.updates
+    ∙ ap (λ k. finite.insert (kept_by c.args.self.now.packages.entries shared) k c.args.package_json.value)
+    c.in_ok-path.ensures

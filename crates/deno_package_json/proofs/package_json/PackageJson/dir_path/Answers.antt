@@ -8,5 +8,6 @@ use Rattle.deno_package_json.proofs.package_json.PackageJson.dir_path.Goals as g
 pub to_slash-requires : goal.to_slash-requires
 to_slash-requires c =
     let text = subst IsUtf8 c.as_str.ensures c.as_str.utf8 in
-    let found = sym (ap parent_of (c.of_text.ensures ∙ c.as_str.ensures)) ∙ sym c.parent.ensures ∙ ap (option_map path_bytes) c.unwrap.ensures in
+    let found = sym (ap parent_of (c.of_text.ensures ∙ c.as_str.ensures)) ∙ sym c.parent.ensures
+    ∙ ap (option_map path_bytes) c.unwrap.ensures in
     IsUtf8-parent_of c.args.self.now.path _ text found

@@ -12,4 +12,5 @@ returns-clause-as_loaded c =
     let AsLoaded : Package → Type 0 = IsAsLoaded in
     let whole : has_float (view c.args.value.now) ≡ false = sym c.holds_float.ensures ∙ c.if-holds_float.false in
     let fields = c.in_ok-package_in.ensures.fields in
-    subst AsLoaded (sym fields) (as_loaded c.args.path (view c.args.value.now) whole (subst Ordered fields c.in_ok-package_in.ensures.tables))
+    subst AsLoaded (sym fields) (as_loaded c.args.path (view c.args.value.now) whole
+    (subst Ordered fields c.in_ok-package_in.ensures.tables))

@@ -18,11 +18,13 @@ unfolding file_of
 returns-in_err-canonical g c =
     let content = rw (c.member.ensures, c.member-2.ensures) at c.in_ok-content.ensures in
     let canonical = rw (c.member-3.ensures, c.in_ok-path.ensures) at c.in_err-canonical.ensures in
-    reads_then _ _ _ c.in_ok-given.ensures (reads_then _ _ _ content (reads_stops _ _ _ _ c.from_residual-in_err-canonical.ensures.1 canonical))
+    reads_then _ _ _ c.in_ok-given.ensures (reads_then _ _ _ content
+    (reads_stops _ _ _ _ c.from_residual-in_err-canonical.ensures.1 canonical))
 
 pub returns : goal.returns
 unfolding file_of
 returns g c =
     let content = rw (c.member.ensures, c.member-2.ensures) at c.in_ok-content.ensures in
     let canonical = rw (c.member-3.ensures, c.in_ok-path.ensures) at c.in_ok-canonical.ensures in
-    some_then _ _ c.in_ok-given.ensures (some_then _ _ content (some_then _ _ canonical (rw (c.in_ok-path.ensures) refl)))
+    some_then _ _ c.in_ok-given.ensures (some_then _ _ content
+    (some_then _ _ canonical (rw (c.in_ok-path.ensures) refl)))

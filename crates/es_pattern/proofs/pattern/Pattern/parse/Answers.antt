@@ -15,10 +15,12 @@ returns-in_err-pieces-clause-refused c = λ e h.
     (caused_as (chars c.args.text.now) e c.in_err-pieces.field-0.0 h c.in_err-pieces.ensures.fault)
 
 pub returns-clause-ok : goal.returns-clause-ok
-returns-clause-ok c = accepted_is_pattern (chars c.args.text.now) (tree_of c.in_ok-pieces.pieces.items) c.in_ok-pieces.ensures.ok
+returns-clause-ok c =
+    accepted_is_pattern (chars c.args.text.now) (tree_of c.in_ok-pieces.pieces.items) c.in_ok-pieces.ensures.ok
 
 pub returns-clause-one_tree : goal.returns-clause-one_tree
-returns-clause-one_tree c = λ tree h. same_Some (tree_of c.in_ok-pieces.pieces.items) tree (sym c.in_ok-pieces.ensures.ok ∙ pattern_accepted (chars c.args.text.now) tree h)
+returns-clause-one_tree c = λ tree h. same_Some (tree_of c.in_ok-pieces.pieces.items) tree
+    (sym c.in_ok-pieces.ensures.ok ∙ pattern_accepted (chars c.args.text.now) tree h)
 
 pub returns-clause-refused : goal.returns-clause-refused
 returns-clause-refused c = λ e h. no_fault (chars c.args.text.now) e c.in_ok-pieces.ensures.clear h
@@ -29,7 +31,8 @@ returns-in_err-pieces-clause-accepts c = λ tree h limits.
     (caused_by_memory (chars c.args.text.now) tree c.in_err-pieces.field-0.0 h limits c.in_err-pieces.ensures.fault)
 
 pub returns-clause-reads : goal.returns-clause-reads
-returns-clause-reads c = accepted_as (chars c.args.text.now) (tree_of c.in_ok-pieces.pieces.items) c.in_ok-pieces.ensures.ok c.in_ok-pieces.ensures.clear
+returns-clause-reads c = accepted_as (chars c.args.text.now) (tree_of c.in_ok-pieces.pieces.items)
+    c.in_ok-pieces.ensures.ok c.in_ok-pieces.ensures.clear
 
 pub returns-in_err-pieces-clause-none : goal.returns-in_err-pieces-clause-none
 returns-in_err-pieces-clause-none c =

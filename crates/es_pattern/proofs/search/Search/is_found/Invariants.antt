@@ -13,11 +13,14 @@ invariant-loop-place g l = record {
   told : AllTell l.self.pieces.now l.self.text.now l.tables.items;
   room : length l.self.program.now.steps.items / 64 < length l.alive.taken.words.items;
   within : l.from ≤ length l.self.text.now + 1;
-  arrives : ArrivesBy Forward l.self.pieces.now l.self.text.now (may_begin (tree_of l.self.pieces.now) l.self.text.now) l.self.program.now.steps.items l.from l.alive;
+  arrives : ArrivesBy Forward l.self.pieces.now l.self.text.now (may_begin (tree_of l.self.pieces.now) l.self.text.now)
+      l.self.program.now.steps.items l.from l.alive;
   few : length l.alive.waiting.items ≤ length l.self.program.now.steps.items + 1;
-  turned : l.turns + untold_turns (length l.self.text.now + 1) l.self.pieces.now l.tables.items + pass_turns (length l.self.text.now + 1 - l.from) (length l.self.program.now.steps.items)
+  turned : l.turns + untold_turns (length l.self.text.now + 1) l.self.pieces.now l.tables.items + pass_turns
+      (length l.self.text.now + 1 - l.from) (length l.self.program.now.steps.items)
       ≤ l.initial.turns + search_turns (length l.self.text.now + 1) l.self.pieces.now;
-  none : none_before l.self.pieces.now l.self.text.now (may_begin (tree_of l.self.pieces.now) l.self.text.now) l.self.program.now.steps.items l.from;
+  none : none_before l.self.pieces.now l.self.text.now (may_begin (tree_of l.self.pieces.now) l.self.text.now)
+      l.self.program.now.steps.items l.from;
 }
 
 abbrev pub decreases-loop-place : goal.decreases-loop-place

@@ -10,9 +10,16 @@ returns g c =
     let u = state_of c.latest_graph.new.sources in
     let entries = c.self.inside.entries in
     let there : c.latest_graph.new.latest ≡ Some c.unwrap.result.now = search rules in
-    let is = borrowed-is imports s u entries c.as_slice.result.now c.latest_graph.new.latest c.unwrap.result.now c.as_slice.ensures there c.in_ok-latest_graph.ensures.last c.in_ok-latest_graph.ensures.same in
-    let asked = borrowed-asked s u c.latest_graph.new.latest c.unwrap.result.now there c.in_ok-latest_graph.ensures.asked in
+    let is = borrowed-is imports s u entries c.as_slice.result.now c.latest_graph.new.latest c.unwrap.result.now
+    c.as_slice.ensures there c.in_ok-latest_graph.ensures.last c.in_ok-latest_graph.ensures.same in
+    let asked =
+    borrowed-asked s u c.latest_graph.new.latest c.unwrap.result.now there c.in_ok-latest_graph.ensures.asked in
     rw (← c.self.view_is) (
       (refl, λ _. tt, leaves-asked imports s u entries c.unwrap.result.now is asked),
-      record { ends = tt; graph = is; once = graph-once imports (record { session = s; entries = entries }) c.unwrap.result.now is },
+      record {
+        ends = tt;
+        graph = is;
+        once = graph-once imports (record { session = s; entries = entries })
+            c.unwrap.result.now is;
+      },
     )

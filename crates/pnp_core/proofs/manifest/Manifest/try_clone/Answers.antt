@@ -5,7 +5,8 @@ use Rattle.pnp_core.proofs.manifest.Manifest.try_clone.Goals as goal
 
 pub returns : goal.returns
 returns c =
-    let pool = told_whole c.in_ok-copied_map.field-0.entries c.self.inside.fallback_pool.entries c.in_ok-copied_map.ensures in
+    let pool =
+    told_whole c.in_ok-copied_map.field-0.entries c.self.inside.fallback_pool.entries c.in_ok-copied_map.ensures in
     (λ i. record {
       manifest_dir = c.in_ok-try_clone.ensures i;
       manifest_path = c.in_ok-try_clone-2.ensures i;

@@ -9,7 +9,8 @@ returns-in_err-name g c = reads_stops _ _ _ _ c.from_residual.ensures.1 c.in_err
 
 pub returns-in_err-reference : goal.returns-in_err-reference
 unfolding locator_in
-returns-in_err-reference g c = reads_then _ _ _ c.in_ok-name.ensures (reads_stops _ _ _ _ c.from_residual-in_err-reference.ensures.1 c.in_err-reference.ensures)
+returns-in_err-reference g c = reads_then _ _ _ c.in_ok-name.ensures
+    (reads_stops _ _ _ _ c.from_residual-in_err-reference.ensures.1 c.in_err-reference.ensures)
 
 pub returns : goal.returns
 unfolding locator_in

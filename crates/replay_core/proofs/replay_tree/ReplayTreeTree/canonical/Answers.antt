@@ -8,4 +8,5 @@ use Rattle.replay_core.proofs.replay_tree.ReplayTreeTree.canonical.Goals as goal
 pub returns : goal.returns
 returns c =
     replayed Name (Canon c.args.p.now) c.in-Name.name c.count.ensures c.in_ok-reply.ensures.same
-    (known_as (replay_of c.count.new.self).trail _ _ _ _ c.in_ok-reply.ensures.known (ap Canon c.in_ok-of.ensures) (sym c.in_ok-name.ensures ∙ c.in-Name.is))
+    (known_as (replay_of c.count.new.self).trail _ _ _ _ c.in_ok-reply.ensures.known (ap Canon c.in_ok-of.ensures)
+    (sym c.in_ok-name.ensures ∙ c.in-Name.is))

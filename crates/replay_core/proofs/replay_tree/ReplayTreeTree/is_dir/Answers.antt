@@ -8,4 +8,5 @@ use Rattle.replay_core.proofs.replay_tree.ReplayTreeTree.is_dir.Goals as goal
 pub returns : goal.returns
 returns c =
     replayed Flag (Dir c.args.p.now) c.in-Flag.b c.count.ensures c.in_ok-b.ensures.same
-    (known_as (replay_of c.count.new.self).trail _ _ _ _ c.in_ok-b.ensures.known (ap Dir c.in_ok-of.ensures) c.in-Flag.is)
+    (known_as (replay_of c.count.new.self).trail _ _ _ _ c.in_ok-b.ensures.known (ap Dir c.in_ok-of.ensures)
+    c.in-Flag.is)

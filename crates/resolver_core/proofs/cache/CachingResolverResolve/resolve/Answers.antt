@@ -11,15 +11,18 @@ returns-in_err-answer-clause-resolves g c = asks_starved_in resolving _ c.from_r
 
 pub returns-in-Some-clause-resolves : goal.returns-in-Some-clause-resolves
 returns-in-Some-clause-resolves g c =
-    let kept : kept_answer (kept_of c.args.self.now) (request c.args.base.now c.args.specifier.now) ≡ Some c.in-Some.answer = search rules in
+    let kept : kept_answer (kept_of c.args.self.now) (request c.args.base.now c.args.specifier.now) ≡ Some
+    c.in-Some.answer = search rules in
     rw kept (asks_done refl)
 
 pub returns-in_err-copy-clause-resolves : goal.returns-in_err-copy-clause-resolves
 returns-in_err-copy-clause-resolves g c =
-    let none : kept_answer (kept_of c.args.self.now) (request c.args.base.now c.args.specifier.now) ≡ None = search rules in
+    let none : kept_answer (kept_of c.args.self.now) (request c.args.base.now c.args.specifier.now) ≡ None =
+    search rules in
     rw none (then_starved _ c.from_residual-in_err-copy.ensures.1 c.in_ok-answer-2.ensures.resolves)
 
 pub returns-in_err-put_first-clause-resolves : goal.returns-in_err-put_first-clause-resolves
 returns-in_err-put_first-clause-resolves g c =
-    let none : kept_answer (kept_of c.args.self.now) (request c.args.base.now c.args.specifier.now) ≡ None = search rules in
+    let none : kept_answer (kept_of c.args.self.now) (request c.args.base.now c.args.specifier.now) ≡ None =
+    search rules in
     rw none (then_starved _ c.from_residual-in_err-put_first.ensures.1 c.in_ok-answer-2.ensures.resolves)

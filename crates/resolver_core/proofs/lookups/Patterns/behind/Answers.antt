@@ -10,8 +10,13 @@ pub returns-in-Some : goal.returns-in-Some
 returns-in-Some c =
     let within : c.args.length ≤ length c.args.specifier.now = grind (arith, common_steps) in
     let front : c.in-Some.front.now ≡ take c.args.length c.args.specifier.now = grind (arith, common_steps) in
-    let places : c.at-places.result.now ≡ places_from (is_behind (take c.args.length c.args.specifier.now)) 0 c.self.inside.given = c.at-places.ensures ∙ rw front (c.self.invariant.0.behind (take c.args.length c.args.specifier.now)) in
-    rw (← c.self.view_is) (c.first_that_fits.ensures ∙ rw (c.as_slice.ensures, places) (first_passing-places (is_behind (take c.args.length c.args.specifier.now)) (fits c.args.version c.args.specifier.now) c.self.inside.given ∙ found-behind c.args.version c.args.specifier.now c.args.length c.self.inside.given within))
+    let places : c.at-places.result.now ≡ places_from (is_behind (take c.args.length c.args.specifier.now)) 0
+    c.self.inside.given = c.at-places.ensures
+    ∙ rw front (c.self.invariant.0.behind (take c.args.length c.args.specifier.now)) in
+    rw (← c.self.view_is) (c.first_that_fits.ensures
+    ∙ rw (c.as_slice.ensures, places) (first_passing-places (is_behind (take c.args.length c.args.specifier.now))
+    (fits c.args.version c.args.specifier.now) c.self.inside.given
+    ∙ found-behind c.args.version c.args.specifier.now c.args.length c.self.inside.given within))
 
 pub returns-in-None : goal.returns-in-None
 returns-in-None c =

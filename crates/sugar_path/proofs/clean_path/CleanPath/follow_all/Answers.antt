@@ -9,7 +9,9 @@ use Rattle.sugar_path.proofs.clean_path.CleanPath.follow_all.Goals as goal
 pub follow-requires : goal.follow-requires
 follow-requires c =
     part-no_slash c.args.text.now (length c.loop-part.yielded) c.in-Some.part.now
-    (YieldsList-turn (YieldsList-at c.into_iter-part-iterator.ensures.into_iter_gives (YieldsList-from_str_split 47 c.args.text.now (lit< tt) c.split-part-items.ensures.text c.split-part-items.ensures.has_more c.split-part-items.ensures.pattern))
+    (YieldsList-turn (YieldsList-at c.into_iter-part-iterator.ensures.into_iter_gives
+    (YieldsList-from_str_split 47 c.args.text.now (lit< tt) c.split-part-items.ensures.text
+    c.split-part-items.ensures.has_more c.split-part-items.ensures.pattern))
     c.loop-part.yielded _ c.loop-part.yielded_by _ _ c.in-Some.part c.in-Some.is c.next.ensures.steps)
 
 pub loop-part-preserved : goal.loop-part-preserved
@@ -24,6 +26,8 @@ loop-part-preserved c = (
 
 pub returns : goal.returns
 returns c =
-    let all = YieldsList-end (YieldsList-at c.into_iter-part-iterator.ensures.into_iter_gives (YieldsList-from_str_split 47 c.args.text.now (lit< tt) c.split-part-items.ensures.text c.split-part-items.ensures.has_more c.split-part-items.ensures.pattern))
+    let all = YieldsList-end (YieldsList-at c.into_iter-part-iterator.ensures.into_iter_gives
+    (YieldsList-from_str_split 47 c.args.text.now (lit< tt) c.split-part-items.ensures.text
+    c.split-part-items.ensures.has_more c.split-part-items.ensures.pattern))
     c.loop-part.yielded _ c.loop-part.yielded_by _ _ c.in-None.is c.next.ensures.steps in
     c.loop-part.invariant.2 ∙ ap (by_parts c.args.self) all.0

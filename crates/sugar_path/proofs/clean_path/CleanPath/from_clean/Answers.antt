@@ -8,7 +8,8 @@ use Rattle.sugar_path.proofs.clean_path.CleanPath.from_clean.Goals.{Joined-eq, t
 
 pub cut_at-requires : goal.cut_at-requires
 cut_at-requires c =
-    let root = (bytes_eq-Decides c.into_content-steps.result (47 ∷ [])).0 (sym (rw c.as_str.ensures at c.eq.ensures) ∙ c.if-eq.true) in
+    let root = (bytes_eq-Decides c.into_content-steps.result (47 ∷ [])).0
+    (sym (rw c.as_str.ensures at c.eq.ensures) ∙ c.if-eq.true) in
     rw root record { within = lit< tt; slash = refl }
 
 whole : (c : Joined-eq) → IsSteps c.if-eq.steps × (names_in c.if-eq.steps ≡ path_in c.args.text)

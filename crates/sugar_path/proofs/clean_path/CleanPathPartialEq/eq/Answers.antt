@@ -5,4 +5,5 @@ use Rattle.sugar_path.proofs.clean_path.CleanPathPartialEq.eq.Goals as goal
 pub returns : goal.returns
 returns c =
     let same = c.eq.ensures in
-    rw (← c.self.view_is, ← c.other.view_is) ((rw (c.as_str.ensures, c.as_str-2.ensures) at same) ∙ bytes_eq-steps _ _ c.self.invariant c.other.invariant)
+    rw (← c.self.view_is, ← c.other.view_is) ((rw (c.as_str.ensures, c.as_str-2.ensures) at same)
+    ∙ bytes_eq-steps _ _ c.self.invariant c.other.invariant)

@@ -6,5 +6,6 @@ use Rattle.sugar_path.proofs.lexical_buf.PathBufSugarPathBuf.try_into_slash.Goal
 pub returns-in-Ok-clause-refused : goal.returns-in-Ok-clause-refused
 returns-in-Ok-clause-refused c =
     let P : List ℕ → Type 0 = IsUtf8 in
-    let text : IsUtf8 c.args.self = subst P (ap (λ v. v.items) c.in-Ok.ensures.ok ∙ c.from.ensures) (IsUtf8-string_bytes c.in-Ok.text) in
+    let text : IsUtf8 c.args.self =
+    subst P (ap (λ v. v.items) c.in-Ok.ensures.ok ∙ c.from.ensures) (IsUtf8-string_bytes c.in-Ok.text) in
     ((λ (e : false ≡ true). cc), λ other. absurd (other text))

@@ -11,6 +11,7 @@ returns-clause-route c =
     elim c.if-rooted.branch [
       | then-rooted w ↦
           ap (λ n. route_by_parts (route_start t) (parts (drop n t))) w.base-is
-          ∙ begin-rooted t (ap is_absolute (sym c.as_slice.ensures.value) ∙ sym c.is_absolute-rooted.ensures ∙ w.if-rooted.true)
+          ∙ begin-rooted t (ap is_absolute (sym c.as_slice.ensures.value) ∙ sym c.is_absolute-rooted.ensures
+          ∙ w.if-rooted.true)
       | else-rooted w ↦ ap (λ n. route_by_parts (route_start t) (parts (drop n t))) w.base-is ∙ begin-loose t
     ]

@@ -17,7 +17,8 @@ loop-at-preserved c =
     let part = part_in at end s.text.items in
     let passed = c.follow.ensures.passed in
     let inside : at < length s.text.items = omega (arith, s.text.ok.0) in
-    let later : drop (end + 1) s.text.items ≡ drop (end + 1) t = drop-later s.text.items t at (end + 1) (omega (arith, ends.order)) inv.rest in
+    let later : drop (end + 1) s.text.items ≡ drop (end + 1) t =
+    drop-later s.text.items t at (end + 1) (omega (arith, ends.order)) inv.rest in
     record {
       read = λ r h.
           let before = inv.read r h in (
@@ -29,7 +30,12 @@ loop-at-preserved c =
                 ∙ before.2,
           );
       rest = drop-later c.follow.new.self.text.items s.text.items end (end + 1) (omega arith) passed.rest ∙ later;
-      room = omega (arith, with_slash-most (read_text c.follow.new.self), length-take c.follow.new.self.len c.follow.new.self.text.items, passed.read);
+      room = omega (
+        arith,
+        with_slash-most (read_text c.follow.new.self),
+        length-take c.follow.new.self.len c.follow.new.self.text.items,
+        passed.read,
+      );
       passed = omega (arith, passed.read);
       within = omega (arith, ends.within, s.text.ok.0, inv.size);
       size = passed.size ∙ inv.size;

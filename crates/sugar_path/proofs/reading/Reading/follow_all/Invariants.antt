@@ -7,7 +7,9 @@ use Rattle.sugar_path.proofs.reading.Reading.follow_all.Given as goal
 -- what was read, and what is left to read, lead where all of it leads
 abbrev pub invariant-loop-at : goal.invariant-loop-at
 invariant-loop-at l = record {
-  read : (r : Route) → HasRead r l.fn.self → (s : Route) × HasRead s l.self × (route_by_parts s (parts (drop l.at l.fn.self.text.items)) ≡ route_by_parts r (parts (drop l.fn.self.len l.fn.self.text.items)));
+  read : (r : Route) → HasRead r l.fn.self → (s : Route) × HasRead s l.self
+      × (route_by_parts s (parts (drop l.at l.fn.self.text.items)) ≡ route_by_parts r
+      (parts (drop l.fn.self.len l.fn.self.text.items)));
   rest : drop l.at l.self.text.items ≡ drop l.at l.fn.self.text.items;
   room : length (with_slash (read_text l.self)) ≤ l.at;
   passed : l.self.len ≤ l.at;

@@ -8,7 +8,9 @@ returns-clause-passed c =
     record {
       read = omega arith;
       rest =
-          drop-moved put.text.items _ c.args.at c.args.end put.len (omega arith) (omega arith) (omega (arith, put.text.ok.0)) c.copy_within.ensures.items
-          ∙ drop-later put.text.items c.args.self.now.text.items c.args.at c.args.end (omega arith) c.put_slash.ensures.passed.rest;
+          drop-moved put.text.items _ c.args.at c.args.end put.len (omega arith) (omega arith)
+          (omega (arith, put.text.ok.0)) c.copy_within.ensures.items
+          ∙ drop-later put.text.items c.args.self.now.text.items c.args.at c.args.end (omega arith)
+          c.put_slash.ensures.passed.rest;
       size = c.copy_within.ensures.len ∙ c.put_slash.ensures.passed.size;
     }

@@ -10,7 +10,11 @@ returns-then-self-clause-read c = λ r h.
     let len = c.front_len-self.result in
     HasRead-up r s _ h (omega arith)
     (λ front n stands name is.
-    sym (take-take len s.len s.text.items (omega (arith, c.front_len-self.ensures.within, length-take s.len c.deref.result.now)))
+    sym (take-take len s.len s.text.items (omega (
+      arith,
+      c.front_len-self.ensures.within,
+      length-take s.len c.deref.result.now,
+    )))
     ∙ ap (λ t. take len (take s.len t)) (sym c.deref.ensures.value)
     ∙ c.front_len-self.ensures.front front n stands name (ap (take s.len) c.deref.ensures.value ∙ is))
     (omega (arith, c.front_len-self.ensures.within, length-take s.len c.deref.result.now, h.within)) refl refl
@@ -20,7 +24,8 @@ returns-then-not-self-clause-read c = λ r h.
     let down = c.go_down.new.self in
     HasRead-above r c.args.self.now _ h (omega arith) c.if-not-self.true
     (c.go_down.ensures.read ∙ ap (λ x. with_slash (read_text c.args.self.now) ++ x) c.requires.dots)
-    (omega (arith, down.text.ok.0, c.go_down.ensures.passed.read, c.go_down.ensures.passed.size)) refl c.go_down.ensures.rooted
+    (omega (arith, down.text.ok.0, c.go_down.ensures.passed.read, c.go_down.ensures.passed.size)) refl
+    c.go_down.ensures.rooted
 
 pub returns-else-not-self-clause-read : goal.returns-else-not-self-clause-read
 returns-else-not-self-clause-read c = λ r h. HasRead-root r c.args.self.now h (omega arith) c.if-not-self.false

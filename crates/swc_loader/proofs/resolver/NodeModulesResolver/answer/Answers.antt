@@ -16,4 +16,10 @@ pub returns : goal.returns
 unfolding answered
 returns g c =
     asks_then _ c.in_ok-filename.ensures
-    (asks_done (ap (λ text. let r : Resolution = record { filename = c.in_ok-filename.filename; slug = None; found = Some (record { file = text; via = c.args.via }) } in r) c.in_ok-file.ensures.text))
+    (asks_done (ap (λ text. let r : Resolution =
+    record {
+      filename = c.in_ok-filename.filename;
+      slug = None;
+      found =
+          Some (record { file = text; via = c.args.via });
+    } in r) c.in_ok-file.ensures.text))

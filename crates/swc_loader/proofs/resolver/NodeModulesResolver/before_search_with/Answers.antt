@@ -14,7 +14,8 @@ returns-in-Some g c = asks_as _ c.in_ok-resolution.ensures c.in-Some.is (asks_do
 pub returns-in_err-core_module_or_target-in-None : goal.returns-in_err-core_module_or_target-in-None
 unfolding before_search
 returns-in_err-core_module_or_target-in-None g c =
-    asks_as _ c.in_ok-resolution.ensures c.in-None.is (asks_starved _ c.from_residual-in_err-core_module_or_target-in-None.ensures.1)
+    asks_as _ c.in_ok-resolution.ensures c.in-None.is (asks_starved _
+    c.from_residual-in_err-core_module_or_target-in-None.ensures.1)
 
 pub returns-in_ok-core_module_or_target-in-None : goal.returns-in_ok-core_module_or_target-in-None
 unfolding before_search

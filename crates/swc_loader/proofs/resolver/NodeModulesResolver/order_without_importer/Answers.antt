@@ -12,15 +12,20 @@ returns-in_err-file g c = asks_node _ _ _ (asks_fails_in resolving _ _ c.from_re
 pub returns-in_err-answer : goal.returns-in_err-answer
 unfolding never_refuses
 returns-in_err-answer g c =
-    let absolute : c.starts_with-relative.result ≡ is_absolute c.args.specifier.now = c.starts_with-relative.ensures.byte (lit< tt) (lit< tt) (λ w o h. h) in
-    asks_node _ _ _ (asks_as _ c.in_ok-file.ensures c.in-Some.is (asks_fails_in resolving _ _ c.from_residual-in_err-answer.ensures.1 (rw absolute at c.in_err-answer.ensures)))
+    let absolute : c.starts_with-relative.result ≡ is_absolute c.args.specifier.now =
+    c.starts_with-relative.ensures.byte (lit< tt) (lit< tt) (λ w o h. h) in
+    asks_node _ _ _ (asks_as _ c.in_ok-file.ensures c.in-Some.is
+    (asks_fails_in resolving _ _ c.from_residual-in_err-answer.ensures.1 (rw absolute at c.in_err-answer.ensures)))
 
 pub returns-in-Some : goal.returns-in-Some
 unfolding never_refuses
 returns-in-Some g c =
-    let absolute : c.starts_with-relative.result ≡ is_absolute c.args.specifier.now = c.starts_with-relative.ensures.byte (lit< tt) (lit< tt) (λ w o h. h) in
-    asks_node _ _ _ (asks_as _ c.in_ok-file.ensures c.in-Some.is (asks_then _ (rw absolute at c.in_ok-answer.ensures) (asks_done refl)))
+    let absolute : c.starts_with-relative.result ≡ is_absolute c.args.specifier.now =
+    c.starts_with-relative.ensures.byte (lit< tt) (lit< tt) (λ w o h. h) in
+    asks_node _ _ _ (asks_as _ c.in_ok-file.ensures c.in-Some.is
+    (asks_then _ (rw absolute at c.in_ok-answer.ensures) (asks_done refl)))
 
 pub returns : goal.returns
 returns g c =
-    asks_node _ _ _ (asks_as _ c.in_ok-file.ensures c.in_default.is (rw (refused_base c.args.self.now c.args.base.now c.args.specifier.now c.requires) (asks_done refl)))
+    asks_node _ _ _ (asks_as _ c.in_ok-file.ensures c.in_default.is
+    (rw (refused_base c.args.self.now c.args.base.now c.args.specifier.now c.requires) (asks_done refl)))

@@ -7,4 +7,5 @@ returns-then-not-is_probed g c = rw (sym c.is_probed.ensures ∙ c.if-not-is_pro
 
 pub returns : goal.returns
 returns g c =
-    rw (sym c.is_probed.ensures ∙ c.if-not-is_probed.false, ← c.self.view_is) (rw c.in_ok-at.ensures at c.place_without_entry.ensures)
+    rw (sym c.is_probed.ensures ∙ c.if-not-is_probed.false, ← c.self.view_is)
+    (rw c.in_ok-at.ensures at c.place_without_entry.ensures)

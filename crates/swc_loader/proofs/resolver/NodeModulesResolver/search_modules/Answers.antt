@@ -10,19 +10,29 @@ use Rattle.swc_loader.proofs.resolver.NodeModulesResolver.search_modules.Goals.{
 
 pub returns-in_err-folder : goal.returns-in_err-folder
 unfolding walked
-returns-in_err-folder g c = asks_fails_in resolving _ _ c.from_residual.ensures.1 (rw c.requires at c.in_err-folder.ensures)
+returns-in_err-folder g c =
+    asks_fails_in resolving _ _ c.from_residual.ensures.1 (rw c.requires at c.in_err-folder.ensures)
 
 pub returns-in_err-walked : goal.returns-in_err-walked
 unfolding walked
 returns-in_err-walked g c =
     asks_then _ (rw c.requires at c.in_ok-folder.ensures)
-    (asks_fails_in resolving (λ found. told c.args.self.now c.args.target.now true (found_or_nothing found)) _ c.from_residual-in_err-walked.ensures.1 (asks_walk c.args.target.now (c.in_ok-folder.folder ∷ up c.in_ok-folder.folder) c.context-context.ensures.conventions c.context-context.ensures.target c.in_err-walked.ensures))
+    (asks_fails_in resolving (λ found. told c.args.self.now c.args.target.now true (found_or_nothing found)) _
+    c.from_residual-in_err-walked.ensures.1 (asks_walk c.args.target.now
+    (c.in_ok-folder.folder ∷ up c.in_ok-folder.folder) c.context-context.ensures.conventions
+    c.context-context.ensures.target c.in_err-walked.ensures))
 
 pub returns : goal.returns
 unfolding walked
 returns g c =
     asks_then _ (rw c.requires at c.in_ok-folder.ensures)
     (elim c.match-walked.branch [
-      | in-Some w ↦ asks_as (λ found. told c.args.self.now c.args.target.now true (found_or_nothing found)) (asks_walk c.args.target.now (c.in_ok-folder.folder ∷ up c.in_ok-folder.folder) c.context-context.ensures.conventions c.context-context.ensures.target c.in_ok-walked.ensures) w.in-Some.is (rw w.found-is at c.told.ensures)
-      | in-None w ↦ asks_as (λ found. told c.args.self.now c.args.target.now true (found_or_nothing found)) (asks_walk c.args.target.now (c.in_ok-folder.folder ∷ up c.in_ok-folder.folder) c.context-context.ensures.conventions c.context-context.ensures.target c.in_ok-walked.ensures) w.in-None.is (rw w.found-is at c.told.ensures)
+      | in-Some w ↦ asks_as (λ found. told c.args.self.now c.args.target.now true (found_or_nothing found))
+          (asks_walk c.args.target.now (c.in_ok-folder.folder ∷ up c.in_ok-folder.folder)
+          c.context-context.ensures.conventions c.context-context.ensures.target c.in_ok-walked.ensures) w.in-Some.is
+          (rw w.found-is at c.told.ensures)
+      | in-None w ↦ asks_as (λ found. told c.args.self.now c.args.target.now true (found_or_nothing found))
+          (asks_walk c.args.target.now (c.in_ok-folder.folder ∷ up c.in_ok-folder.folder)
+          c.context-context.ensures.conventions c.context-context.ensures.target c.in_ok-walked.ensures) w.in-None.is
+          (rw w.found-is at c.told.ensures)
     ])

@@ -8,9 +8,12 @@ use Rattle.swc_loader.proofs.resolver.NodeModulesResolver.search_root.Goals as g
 pub returns-in_err-found : goal.returns-in_err-found
 unfolding at_root
 returns-in_err-found g c =
-    asks_fails_in resolving _ _ c.from_residual-in_err-found.ensures.1 (asks_place c.context-context.ensures.conventions c.context-context.ensures.target refl refl c.root.ensures c.in_ok-at.ensures c.in_err-found.ensures)
+    asks_fails_in resolving _ _ c.from_residual-in_err-found.ensures.1
+    (asks_place c.context-context.ensures.conventions c.context-context.ensures.target refl refl c.root.ensures
+    c.in_ok-at.ensures c.in_err-found.ensures)
 
 pub returns : goal.returns
 unfolding at_root
 returns g c =
-    asks_then _ (asks_place c.context-context.ensures.conventions c.context-context.ensures.target refl refl c.root.ensures c.in_ok-at.ensures c.in_ok-found.ensures) c.told.ensures
+    asks_then _ (asks_place c.context-context.ensures.conventions c.context-context.ensures.target refl refl
+    c.root.ensures c.in_ok-at.ensures c.in_ok-found.ensures) c.told.ensures

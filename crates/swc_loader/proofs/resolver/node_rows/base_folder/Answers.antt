@@ -14,6 +14,7 @@ unfolding base_folder
 returns g c =
     rw (← c.in_ok-folder.ensures)
     (elim c.if-branch.branch [
-      | then-branch w ↦ asks_as _ c.in_ok-is_file.ensures w.if-branch.true (asks_done (w.folder-is ∙ w.go_up-above.ensures.up))
+      | then-branch w ↦ asks_as _ c.in_ok-is_file.ensures w.if-branch.true
+          (asks_done (w.folder-is ∙ w.go_up-above.ensures.up))
       | else-branch w ↦ asks_as _ c.in_ok-is_file.ensures w.if-branch.false (asks_done w.folder-is)
     ])

@@ -7,7 +7,8 @@ use Rattle.tree_core.proofs.MemoryReplies.{refused_one, answered_one}
 use Rattle.tree_core.proofs.failing.FailingTreeTree.is_file.Goals as goal
 
 pub returns-then-refuses : goal.returns-then-refuses
-returns-then-refuses c = refused_one Flag (File c.args.p.now) c.refuses.ensures.test c.if-refuses.true c.refuses.ensures.after
+returns-then-refuses c =
+    refused_one Flag (File c.args.p.now) c.refuses.ensures.test c.if-refuses.true c.refuses.ensures.after
 
 pub returns : goal.returns
 returns c =

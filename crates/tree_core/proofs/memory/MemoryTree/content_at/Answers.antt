@@ -7,11 +7,13 @@ use Rattle.tree_core.proofs.memory.MemoryTree.content_at.Goals as goal
 
 pub returns-in-None : goal.returns-in-None
 returns-in-None c =
-    ap (option_map (λ (f : TreeFile). f.content)) (c.in-None.ensures.value ∙ sym (get-files_of c.self.inside.files.entries c.args.p.now))
+    ap (option_map (λ (f : TreeFile). f.content)) (c.in-None.ensures.value
+    ∙ sym (get-files_of c.self.inside.files.entries c.args.p.now))
     ∙ ap (λ (m : Memory). option_map (λ f. f.content) (map.get m.files c.args.p.now)) c.self.view_is
 
 pub returns-in_ok-try_clone-in-Some : goal.returns-in_ok-try_clone-in-Some
 returns-in_ok-try_clone-in-Some c =
     ap Some c.in_ok-try_clone-in-Some.ensures
-    ∙ ap (option_map (λ (f : TreeFile). f.content)) (c.in-Some.ensures.value ∙ sym (get-files_of c.self.inside.files.entries c.args.p.now))
+    ∙ ap (option_map (λ (f : TreeFile). f.content)) (c.in-Some.ensures.value
+    ∙ sym (get-files_of c.self.inside.files.entries c.args.p.now))
     ∙ ap (λ (m : Memory). option_map (λ f. f.content) (map.get m.files c.args.p.now)) c.self.view_is

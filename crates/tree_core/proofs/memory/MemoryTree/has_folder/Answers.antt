@@ -7,5 +7,6 @@ use Rattle.tree_core.proofs.memory.MemoryTree.has_folder.Goals as goal
 pub returns-clause-value : goal.returns-clause-value
 returns-clause-value c =
     let apart : bytes_eq c.args.p.now (47 ∷ []) ≡ false = grind arith in
-    folder-found (files_of c.self.inside.files.entries) c.args.p.now (string_capacity c.self.inside.prefix) c.finds_below.result c.self.invariant apart c.finds_below.ensures.found c.finds_below.ensures.missed
+    folder-found (files_of c.self.inside.files.entries) c.args.p.now (string_capacity c.self.inside.prefix)
+    c.finds_below.result c.self.invariant apart c.finds_below.ensures.found c.finds_below.ensures.missed
     ∙ ap (λ (m : Memory). is_folder m.files c.args.p.now) c.self.view_is

@@ -7,15 +7,20 @@ use Rattle.tree_core.proofs.Conflicts.{store-remove}
 use Rattle.tree_core.proofs.memory.MemoryTree.remove.Goals as goal
 
 pub invariant_of-self : goal.invariant_of-self
-invariant_of-self c = rw (files_of-remove c.self.inside.files c.remove.new.self c.args.path.now c.remove.ensures.updates) (store-remove (files_of c.self.inside.files.entries) c.args.path.now (string_capacity c.self.inside.prefix) c.self.invariant)
+invariant_of-self c = rw (files_of-remove c.self.inside.files c.remove.new.self c.args.path.now
+    c.remove.ensures.updates) (store-remove (files_of c.self.inside.files.entries) c.args.path.now
+    (string_capacity c.self.inside.prefix) c.self.invariant)
 
 pub returns-clause-was : goal.returns-clause-was
 returns-clause-was c =
-    c.is_some.ensures ∙ ap is_some (c.remove.ensures.value ∙ sym (get-files_of c.self.inside.files.entries c.args.path.now)) ∙ ap (λ (m : Memory). is_file m.files c.args.path.now) c.self.view_is
+    c.is_some.ensures ∙ ap is_some (c.remove.ensures.value
+    ∙ sym (get-files_of c.self.inside.files.entries c.args.path.now))
+    ∙ ap (λ (m : Memory). is_file m.files c.args.path.now) c.self.view_is
 
 pub returns-clause-gone : goal.returns-clause-gone
 returns-clause-gone c =
-    let files = files_of-remove c.self.inside.files c.remove.new.self c.args.path.now c.remove.ensures.updates ∙ ap (λ (m : Memory). map.remove m.files c.args.path.now) c.self.view_is in
+    let files = files_of-remove c.self.inside.files c.remove.new.self c.args.path.now c.remove.ensures.updates
+    ∙ ap (λ (m : Memory). map.remove m.files c.args.path.now) c.self.view_is in
     let questions = ap (λ (m : Memory). m.questions) c.self.view_is in
     λ i. record { files = files i; questions = questions i }
 

@@ -8,4 +8,6 @@ use Rattle.tree_core.proofs.memory.MemoryTreeTree.canonical.Goals as goal
 
 pub returns : goal.returns
 returns c =
-    replied Name (Canon c.args.p.now) _ _ _ (ap Name (c.in_ok-canonical_at.ensures ∙ ap (λ (m : Memory). option_map (λ g. g.canonical) (map.get m.files c.args.p.now)) c.count.ensures)) tt (c.count.ensures)
+    replied Name (Canon c.args.p.now) _ _ _ (ap Name (c.in_ok-canonical_at.ensures
+    ∙ ap (λ (m : Memory). option_map (λ g. g.canonical) (map.get m.files c.args.p.now)) c.count.ensures)) tt
+    (c.count.ensures)

@@ -8,4 +8,6 @@ use Rattle.tree_core.proofs.memory.MemoryTreeTree.exists.Goals as goal
 
 pub returns-clause-replied : goal.returns-clause-replied
 returns-clause-replied c =
-    replied Flag (Exists c.args.p.now) _ _ _ (ap Flag (c.has_path.ensures.value ∙ ap (λ (m : Memory). is_file m.files c.args.p.now || is_folder m.files c.args.p.now) c.count.ensures)) tt (c.has_path.ensures.same ∙ c.count.ensures)
+    replied Flag (Exists c.args.p.now) _ _ _ (ap Flag (c.has_path.ensures.value
+    ∙ ap (λ (m : Memory). is_file m.files c.args.p.now || is_folder m.files c.args.p.now) c.count.ensures)) tt
+    (c.has_path.ensures.same ∙ c.count.ensures)

@@ -8,4 +8,6 @@ use Rattle.tree_core.proofs.memory.MemoryTreeTree.is_dir.Goals as goal
 
 pub returns-clause-replied : goal.returns-clause-replied
 returns-clause-replied c =
-    replied Flag (Dir c.args.p.now) _ _ _ (ap Flag (c.has_folder.ensures.value ∙ ap (λ (m : Memory). is_folder m.files c.args.p.now) c.count.ensures)) tt (c.has_folder.ensures.same ∙ c.count.ensures)
+    replied Flag (Dir c.args.p.now) _ _ _ (ap Flag (c.has_folder.ensures.value
+    ∙ ap (λ (m : Memory). is_folder m.files c.args.p.now) c.count.ensures)) tt
+    (c.has_folder.ensures.same ∙ c.count.ensures)
