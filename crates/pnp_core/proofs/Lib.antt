@@ -25,3 +25,4 @@ pub mod OnTrees
 pub mod VirtualPaths
 pub mod Findings
 pub mod PatternReadings
+pub mod NamesOnce

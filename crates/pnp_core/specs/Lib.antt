@@ -7,6 +7,7 @@ pub mod Manifest
 pub mod Copying
 pub mod ManifestReading
 pub mod PatternReading
+pub mod NamesOnce
 pub mod Owner
 pub mod Ownership
 pub mod Trie

@@ -1,5 +1,6 @@
 // Laws, each proved for all texts and trees. The calls have them by their contracts.
 ghost use Rattle.pnp_core.specs.Laws.{NormalizesAsNormal};
+ghost use Rattle.pnp_core.specs.NamesOnce.{NamesStandOnce};
 ghost use Rattle.pnp_core.specs.OnTree.{NearestOnTree, NearestTextOnTree, LoadedOnTree, ToldOnTree};
 ghost use Rattle.pnp_core.specs.Ownership.{OwnerOwns};
 ghost use Rattle.pnp_core.specs.PatternReading.{PatternRead};
@@ -52,4 +53,10 @@ pub fn told_on_tree()
 /// A value is refused for its pattern exactly where all else in it reads and that text has a first fault.
 pub fn pattern_read()
     ensures { PatternRead }
+{}
+
+/// In each manifest that the bytes of a file are, no name stands twice: of a package in the registry, of a reference
+/// under it, of what a row binds.
+pub fn names_stand_once()
+    ensures { NamesStandOnce }
 {}
