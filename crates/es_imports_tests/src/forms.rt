@@ -116,7 +116,7 @@ fn forms_are_found(rt: HostRuntime) -> Result<(), Fail> {
     agrees(&rt, rt.alloc(), forms())
 }
 
-// The same for names that look like imports.
+// Names that look like imports, and what is found in their texts.
 fn names() -> &'static str {
     r###"a.import('b') ⇒ 
 a.require('b') ⇒ 

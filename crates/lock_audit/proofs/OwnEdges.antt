@@ -18,7 +18,8 @@ use Rattle.yarn_lock_parser.specs.Lock.{Lock}
 use Rattle.lock_audit.specs.declared.audited.Finding.{Finding}
 use Rattle.lock_audit.specs.declared.edges.RowEdge.{RowEdge}
 use Rattle.lock_audit.specs.Edges.{edge, edge_of, edges, edges_of_row, finding}
-use Rattle.lock_audit.specs.Laws.{EdgesAreBindings, HasNamesOnce, asks_for, found_for, is_found_for}
+use Rattle.pnp_core.specs.NamesOnce.{HasNamesOnce}
+use Rattle.lock_audit.specs.Laws.{EdgesAreBindings, asks_for, found_for, is_found_for}
 use Rattle.lock_audit.specs.OnTree.{fault_on, finding_on}
 use Rattle.lock_audit.proofs.AtOneName.{cons_option-nil, filter-filter_map, filter-flat_map, filter_map-filter}
 use Rattle.lock_audit.proofs.AtOneName.{flat_map-flat_map, flat_option, given_at}
@@ -85,7 +86,7 @@ own_row owner name bindings once =
     at_name (Some None) = refl
     at_name (Some (Some dependency)) = rw (locator-same owner, text-same name) refl
 
--- the same by what the registry has under the package's reference
+-- the edges of a package and a name, by what the registry has under the package's reference
 at_row : (manifest : Contents) (owner : PackageLocator) (name : List ℕ) (found : Option Package)
     → HasNamesOnce manifest → package_at manifest.package_registry_data owner ≡ found
     → flat_option (λ says. of_name owner name (edges_of_row (owner, says))) found

@@ -21,7 +21,7 @@ pub record Audits (lock : Option Lock) (file : Path) (old new : TreeState) (resu
     -- The tree was asked once for each different question.
     pub put : IfOk (seen auditing result) (λ told. (t : Files) → IsTrue (old.stands_for t)
         → new.questions ≡ put_times (length (recorded t [] (asked t (audit lock file)))) old.questions)
-    -- The same trees are stood for.
+    -- Just those trees are stood for that were before.
     pub stands : new.stands_for ≡ old.stands_for
     -- A fault of the tree has its cause, and no other answer hides one.
     pub cause : HasCause old.faults new.faults (seen auditing result)

@@ -1,8 +1,6 @@
 -- What an audit says of requests to the join.
 use Rattle.std.specs.Prelude.{◌≡◌, ℕ, Bool, ◌&&◌, List, [], bytes_eq, filter, Contains}
 use Rattle.std.specs.Prelude.{Some, option_and_then, option_map, Ok, Err}
-use Rattle.std.specs.List.{IsDistinct}
-use Rattle.std.specs.Map.{keys_of}
 use Rattle.std.specs.Option.{option_to_list}
 use Rattle.tree_core.specs.Tree.{Files}
 use Rattle.lock_checks.specs.declared.fault.EdgeFault.{EdgeFault}
@@ -10,7 +8,8 @@ use Rattle.pnp_core.specs.declared.manifest.Binding.TheVariants.{Bound}
 use Rattle.pnp_core.specs.declared.manifest.PackageDependency.{PackageDependency}
 use Rattle.pnp_core.specs.declared.manifest.PackageLocator.{PackageLocator}
 use Rattle.pnp_core.specs.Binding.{bind, bound_to, given, own}
-use Rattle.pnp_core.specs.Manifest.{Contents, Package, at, locator_eq, package_at}
+use Rattle.pnp_core.specs.Manifest.{Contents, locator_eq}
+use Rattle.pnp_core.specs.NamesOnce.{HasNamesOnce}
 use Rattle.resolve_stack.specs.OnTree.{checked_on}
 use Rattle.resolve_stack.specs.Rows.{of_fault}
 use Rattle.resolve_stack.specs.Settings.{ProjectSettings}
@@ -19,16 +18,6 @@ use Rattle.lock_audit.specs.declared.audited.Finding.{Finding}
 use Rattle.lock_audit.specs.declared.edges.RowEdge.{RowEdge}
 use Rattle.lock_audit.specs.Edges.{edge, edges}
 use Rattle.lock_audit.specs.OnTree.{finding_on, findings_on}
-
--- No name stands twice: of a package in the registry, of a reference under it, of what a row binds. So it is in each
--- manifest that is read, since its maps hold a key once.
-pub record HasNamesOnce (manifest : Contents) : Type 0 where
-  pub packages : IsDistinct bytes_eq (keys_of manifest.package_registry_data)
-  pub references : (name : List ℕ) (references : List (List ℕ × Package))
-      → at name manifest.package_registry_data ≡ Some references → IsDistinct bytes_eq (keys_of references)
-  pub names : (owner : PackageLocator) (row : Package)
-      → package_at manifest.package_registry_data owner ≡ Some row
-      → IsDistinct bytes_eq (keys_of row.package_dependencies)
 
 -- an edge is that of a package and a name
 abbrev pub asks_for : PackageLocator → List ℕ → RowEdge → Bool

@@ -42,7 +42,7 @@ audit_of_on t lock manifest = made (audit_with lock manifest) (findings_on t loc
 abbrev pub audit_by_on : Files → Lock → Path → Told (Result Audit HydrationCause)
 audit_by_on t lock file = loaded_on t file >>=? λ manifest. made (λ audit. Ok audit) (audit_of_on t lock manifest)
 
--- the same, by a lock if there is one
+-- the audit of the manifest that a file is, by a lock if there is one
 abbrev pub audit_on : Files → Option Lock → Path → Told (Result Audit Refusal)
 audit_on t None file = unasked (Err NoLock)
 audit_on t (Some lock) file = made (widened NoManifest) (audit_by_on t lock file)

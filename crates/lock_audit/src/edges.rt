@@ -56,7 +56,7 @@ fn put_rows(
     Ok(())
 }
 
-// Puts the edges of a row.
+// Puts the edges of a row. Each holds the row's package, so its texts are shared by them.
 fn put_row(
     alloc: Global,
     found: &mut Vec<RowEdge>,
@@ -68,8 +68,8 @@ fn put_row(
         ++ edges_of_row (locator name.now reference.now, row.now)) }
 {
     let owner = PackageLocator {
-        name: name.try_clone(alloc)?,
-        reference: reference.try_clone(alloc)?,
+        name: Text::shared(alloc, name.as_str())?,
+        reference: Text::shared(alloc, reference.as_str())?,
     };
     put_bindings(alloc, found, &owner, &row.package_dependencies)
 }

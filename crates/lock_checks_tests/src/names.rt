@@ -61,7 +61,7 @@ fn integrity_found<'k>(
     }
 }
 
-// The same without the index.
+// The integrity of the first entry that names a package, sought without the lock's index.
 fn integrity_sought<'k>(lock: &'k Lock<'_>, asked: &PackageLocator) -> &'k str {
     let file = lock.file();
     for entry in file.entries() {

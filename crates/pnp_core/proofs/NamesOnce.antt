@@ -42,7 +42,13 @@ use Rattle.es_pattern.specs.Tree.{Tree}
 use Rattle.es_pattern.specs.Accepted.{pattern_of}
 use Rattle.sugar_path.specs.Path.{Path, text_of, parent}
 use Rattle.pnp_core.specs.declared.error.HydrationCause.{HydrationCause}
-use Rattle.pnp_core.specs.declared.error.HydrationCause.TheVariants.{NotText, NoPayload, BadJson, BadPattern, NoTopLevel}
+use Rattle.pnp_core.specs.declared.error.HydrationCause.TheVariants.{
+  NotText,
+  NoPayload,
+  BadJson,
+  BadPattern,
+  NoTopLevel,
+}
 use Rattle.pnp_core.specs.declared.manifest.PackageLocator.{PackageLocator}
 use Rattle.pnp_core.specs.Manifest.{Contents, Dependencies, Package, Registry, at, has_row, package_at, top_level}
 use Rattle.pnp_core.specs.ManifestReading.{

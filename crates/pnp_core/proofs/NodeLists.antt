@@ -156,7 +156,7 @@ on_err (Err e) p = p
 
 -- ---- one node gets other children
 
--- the same node with other children
+-- a node with other children in place of its own
 abbrev pub with_children : {T : Type 0} → Node T → BTreeMap (String Global) NodeId → Node T
 with_children x m = record { location = x.location; children = m; value = x.value }
 

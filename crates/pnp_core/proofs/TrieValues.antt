@@ -39,7 +39,7 @@ use Rattle.pnp_core.proofs.TrieShapes.{is_place}
 use Rattle.pnp_core.proofs.TrieMakes.{trie_alike, parts_kept}
 use Rattle.pnp_core.proofs.TrieWays.{is_path, no_node, at_node}
 
--- the same node with a value
+-- a node with a value in place of its own
 abbrev pub with_value : {T : Type 0} → Node T → T → Node T
 with_value x v = record { location = x.location; children = x.children; value = Some v }
 

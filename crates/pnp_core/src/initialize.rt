@@ -212,7 +212,8 @@ fn plain_location(alloc: Global, folder: &str, text: &str) -> Result<Option<Clea
     requires { IsTrue (is_absolute folder.now) }
     ensures plain { IfOk result (λ found.
         IfSome found (λ p. p ≡ location_path (join folder.now text.now))) }
-    ensures ends { IfOk result (λ found. IsSome found → ends_in_slash (join folder.now text.now) ≡ ends_in_slash text.now) }
+    ensures ends { IfOk result (λ found.
+        IsSome found → ends_in_slash (join folder.now text.now) ≡ ends_in_slash text.now) }
 {
     let Some(names) = text.strip_prefix("./") else {
         return Ok(None);

@@ -23,8 +23,7 @@ pub fn finding_on_tree()
 {}
 
 /// The owner of a path is the one locator that owns it by its rows: the longest location that is a component prefix of
-/// the path,
-/// and of equal ones the last. Nothing owns a path in which the ignore pattern is found.
+/// the path, and of equal ones the last. Nothing owns a path in which the ignore pattern is found.
 pub fn owner_owns()
     ensures { OwnerOwns }
 {}

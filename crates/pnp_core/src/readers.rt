@@ -290,7 +290,8 @@ fn registry_given_up(
 // The registry of rows, each of which goes once it is read.
 fn registry_of_rows(alloc: Global, rows: Vec<json::Value<'_>>) -> Result<Registry, FromJsonError>
     ensures { ReadsAs result (option_map (λ pairs. entries_of (map named pairs))
-        (items_by (pair_by (nullable_by as_str) references_in) (items_of (map (λ v. data_of (value_view v)) rows.entry.items)))) }
+        (items_by (pair_by (nullable_by as_str) references_in)
+        (items_of (map (λ v. data_of (value_view v)) rows.entry.items)))) }
 {
     let mut map = IndexMap::with_capacity(alloc, rows.len())?;
     for row in rows {

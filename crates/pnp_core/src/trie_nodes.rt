@@ -371,7 +371,8 @@ fn put_beside<T: Drop>(
     requires way { IsSome (child_at nodes.old.items at.0 (string_bytes name)) }
     requires empty { parting.value ≡ None }
     ensures made { IfOk result (λ node. node.0 ≡ suc (length nodes.old.items)) }
-    ensures ok { OnOk result (PutsBeside nodes.old.items nodes.new.items at.0 (string_bytes name) parting (string_bytes beside) location) }
+    ensures ok { OnOk result (PutsBeside nodes.old.items nodes.new.items at.0 (string_bytes name) parting
+        (string_bytes beside) location) }
     ensures err { OnErr result (nodes.new.items ≡ nodes.old.items) }
 {
     nodes.reserve(2)?;

@@ -34,7 +34,7 @@ alike_then {t = t} {p = p} {q = q} k l first rest = record {
       ∙ sym (asked-then t q l);
 }
 
--- The same of plans that may refuse.
+-- Plans that may refuse and go on alike are alike.
 pub alike_on_ok : {A B X : Type 0} {t : Files} {p q : Plan (Result A X)} (k l : A → Plan (Result B X)) → Alike t p q →
     ((a : A) → Alike t (k a) (l a)) → Alike t (p >>=? k) (q >>=? l)
 alike_on_ok {A = A} {B = B} {X = X} {t = t} k l first rest = alike_then (on_ok k) (on_ok l) first by_result

@@ -57,7 +57,7 @@ pub known-push : (t : Files) (known : List ReadManifest) (k : ReadManifest) → 
 known-push t [] k h is = (is, tt)
 known-push t (x ∷ known) k h is = (h.0, known-push t known k h.1 is)
 
--- The same of a push that may be refused.
+-- One more is known, or none where the push is refused.
 pub known-pushed : (t : Files) (known now : List ReadManifest) (k : ReadManifest) (pushed : Bool) →
     now ≡ cond pushed (known ++ k ∷ []) known → AreKnownOn t known → (loaded_on t k.path).result ≡ Ok k.manifest →
     AreKnownOn t now

@@ -20,7 +20,7 @@ pub record Decides (project : ProjectSettings) (request : Request) (old new : Tr
   pub agree : IfOk result (λ o. AgreeWith old.stands_for o.trail)
   -- A file found through a row lies below the location of the row that binds the name asked for, or that of its alias.
   pub found : IfOk result (λ o. (t : Files) → Agrees t o.trail → IsFound t project request o.verdict)
-  -- The same trees are stood for.
+  -- Just those trees are stood for that were before.
   pub stands : new.stands_for ≡ old.stands_for
   -- A fault of the tree has its cause, and no other answer hides one.
   pub cause : HasCause old.faults new.faults (as_read result)

@@ -37,6 +37,6 @@ join_rows project request = do
 unfoldable pub join : ProjectSettings → Request → Plan (Result Resolution JoinRefusal)
 join project request = order (join_rows project request)
 
--- the same by a base and a specifier, as a resolver's order
+-- the order of search by a base and a specifier, as a resolver's order
 abbrev pub join_order : ProjectSettings → Order JoinRefusal
 join_order project base specifier = join project (asked_for base specifier)

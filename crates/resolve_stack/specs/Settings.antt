@@ -82,7 +82,7 @@ mapping_given (Some ts) = do
 abbrev pub cause_in_lock : Refusal → ProjectError
 cause_in_lock refusal = LockParser refusal.place refusal.cause
 
--- the same of a reader's error, which may be want of memory
+-- why a reader tells no lock file, which may be want of memory, as an error against the settings
 abbrev pub error_of_lock : YarnLockError → ProjectError
 error_of_lock (yarn_lock_error.Parser place cause) = LockParser place cause
 error_of_lock yarn_lock_error.NoMemory = NoMemory

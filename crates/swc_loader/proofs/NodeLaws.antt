@@ -119,8 +119,8 @@ told-answered_placed t s relative (placed.File f rewritten) =
 told-answered_placed t s relative (placed.Ignored name) = told-done t _
 
 told-told : (t : Files) (s : NodeSettings) (target : List ℕ) (relative : Bool) (found : Searched)
-    → told t (rows.told s target relative found) ≡ told_on t s target relative found
-unfolding rows.told
+    → told t (rows.answer_found s target relative found) ≡ told_on t s target relative found
+unfolding rows.answer_found
 told-told t s target relative found =
     told-refusing t (searched s target found) _ (told-searched t s target found) (λ what.
     told-never_refuses t (answered_placed s relative what)
@@ -133,7 +133,7 @@ told-base_folder t importer =
 
 -- the place of a text that is read from `/`, and then what it is told as
 told-place : (t : Files) (s : NodeSettings) (target text : List ℕ) (relative : Bool)
-    → told t (place s.conventions s.target [] text >>= rows.told s target relative) ≡ on.◌>>=◌
+    → told t (place s.conventions s.target [] text >>= rows.answer_found s target relative) ≡ on.◌>>=◌
     (place_on t s.conventions s.target [] text) (told_on t s target relative)
 told-place t s target text relative =
     told-by t (place s.conventions s.target [] text) _ (place_on_tree.tells t s.conventions s.target (clean [] text)

@@ -140,29 +140,29 @@ answered_placed s relative (placed.File f rewritten) =
 answered_placed s relative (placed.Ignored name) = Done (custom name)
 
 -- Node rows 9 and 10: what a search by a target comes to, a file by the rules for it
-unfoldable pub told : NodeSettings → List ℕ → Bool → Searched → Plan (Result Resolution NodeRefusal)
-told s target relative found =
+unfoldable pub answer_found : NodeSettings → List ℕ → Bool → Searched → Plan (Result Resolution NodeRefusal)
+answer_found s target relative found =
     searched s target found >>=? λ placed. never_refuses (answered_placed s relative placed)
 
 -- Node row 6: an absolute target
 unfoldable pub at_root : NodeSettings → List ℕ → Plan (Result Resolution NodeRefusal)
 at_root s target = do
   found ← place s.conventions s.target [] target
-  told s target false found
+  answer_found s target false found
 
 -- Node row 7: a target whose first component is `.` or `..`, behind the base folder
 unfoldable pub behind_base : NodeSettings → List ℕ → List ℕ → Plan (Result Resolution NodeRefusal)
 behind_base s base target = do
   folder ← base_folder (clean s.cwd base)
   found ← place s.conventions s.target [] (join (text_of folder) target)
-  told s target (not (is_absolute base)) found
+  answer_found s target (not (is_absolute base)) found
 
 -- Node row 8: every other target, by the walk up from the base folder
 unfoldable pub walked : NodeSettings → List ℕ → List ℕ → Plan (Result Resolution NodeRefusal)
 walked s base target = do
   folder ← base_folder (clean s.cwd base)
   found ← walk s.conventions s.target target (folder ∷ up folder)
-  told s target true (found_or_nothing found)
+  answer_found s target true (found_or_nothing found)
 
 -- Node row 8; where `node_modules` is off, nothing is found and nothing is asked
 abbrev pub by_modules : NodeSettings → List ℕ → List ℕ → Plan (Result Resolution NodeRefusal)

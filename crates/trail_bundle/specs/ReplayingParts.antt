@@ -6,7 +6,7 @@ use Rattle.resolve_stack.specs.declared.verdict.Verdict.{Verdict}
 use Rattle.trail_bundle.specs.declared.replay_error.BundleReplayError.{BundleReplayError}
 use Rattle.trail_bundle.specs.declared.replay_error.BundleReplayError.TheVariants.{NotRecorded, NoMemory}
 
--- the same result, with the number of the request in its error
+-- a result, with the number of the request in its error
 abbrev pub numbered : ℕ → Result Verdict ReplayError → Result Verdict BundleReplayError
 numbered request (Ok verdict) = Ok verdict
 numbered request (Err (one.NotRecorded question)) = Err (NotRecorded request question)

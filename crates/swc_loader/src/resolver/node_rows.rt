@@ -274,7 +274,7 @@ impl NodeModulesResolver {
             target,
             relative: false,
         };
-        self.told(alloc, tree, readings, &sought, found)
+        self.answer_found(alloc, tree, readings, &sought, found)
     }
 
     // A target behind the folder of the importer.
@@ -297,7 +297,7 @@ impl NodeModulesResolver {
         let found = place(alloc, tree, readings, &context, text.as_str(), &at)?;
         let relative = !importer.text.starts_with('/');
         let sought = Sought { target, relative };
-        self.told(alloc, tree, readings, &sought, found)
+        self.answer_found(alloc, tree, readings, &sought, found)
     }
 
     // A target in the `node_modules` of the folder of the importer, or of one above.
@@ -324,11 +324,11 @@ impl NodeModulesResolver {
             target,
             relative: true,
         };
-        self.told(alloc, tree, readings, &sought, found)
+        self.answer_found(alloc, tree, readings, &sought, found)
     }
 
     // What a search by a target comes to: a file by the rules for it.
-    fn told<R: Asker>(
+    fn answer_found<R: Asker>(
         &self,
         alloc: Global,
         tree: &mut R,
@@ -337,7 +337,7 @@ impl NodeModulesResolver {
         found: Searched,
     ) -> Result<Resolution, ResolveError<NodeRefusal>>
         ensures { Resolves (R.asking tree.old) (R.asking tree.new) result
-            (rows.told self.now sought.now.target.now sought.now.relative found) }
+            (rows.answer_found self.now sought.now.target.now sought.now.relative found) }
     {
         match placed_file(alloc, tree, readings, self, sought.target, found)? {
             Placed::File { path, rewritten } => {

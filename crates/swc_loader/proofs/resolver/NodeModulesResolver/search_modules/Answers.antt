@@ -3,7 +3,7 @@ use Rattle.sugar_path.specs.Path.{up}
 use Rattle.tree_core.specs.Resolving.{resolving}
 use Rattle.tree_core.proofs.Asking.{asks_then, asks_as, asks_fails_in}
 use Rattle.swc_loader.specs.Search.{found_or_nothing}
-use Rattle.swc_loader.specs.NodeRows.{told, walked}
+use Rattle.swc_loader.specs.NodeRows.{answer_found, walked}
 use Rattle.swc_loader.proofs.Walks.{asks_walk}
 use Rattle.swc_loader.proofs.resolver.NodeModulesResolver.search_modules.Goals as goal
 use Rattle.swc_loader.proofs.resolver.NodeModulesResolver.search_modules.Goals.{in-Some, in-None}
@@ -17,7 +17,7 @@ pub returns-in_err-walked : goal.returns-in_err-walked
 unfolding walked
 returns-in_err-walked g c =
     asks_then _ (rw c.requires at c.in_ok-folder.ensures)
-    (asks_fails_in resolving (λ found. told c.args.self.now c.args.target.now true (found_or_nothing found)) _
+    (asks_fails_in resolving (λ found. answer_found c.args.self.now c.args.target.now true (found_or_nothing found)) _
     c.from_residual-in_err-walked.ensures.1 (asks_walk c.args.target.now
     (c.in_ok-folder.folder ∷ up c.in_ok-folder.folder) c.context-context.ensures.conventions
     c.context-context.ensures.target c.in_err-walked.ensures))
@@ -27,12 +27,12 @@ unfolding walked
 returns g c =
     asks_then _ (rw c.requires at c.in_ok-folder.ensures)
     (elim c.match-walked.branch [
-      | in-Some w ↦ asks_as (λ found. told c.args.self.now c.args.target.now true (found_or_nothing found))
+      | in-Some w ↦ asks_as (λ found. answer_found c.args.self.now c.args.target.now true (found_or_nothing found))
           (asks_walk c.args.target.now (c.in_ok-folder.folder ∷ up c.in_ok-folder.folder)
           c.context-context.ensures.conventions c.context-context.ensures.target c.in_ok-walked.ensures) w.in-Some.is
-          (rw w.found-is at c.told.ensures)
-      | in-None w ↦ asks_as (λ found. told c.args.self.now c.args.target.now true (found_or_nothing found))
+          (rw w.found-is at c.answer_found.ensures)
+      | in-None w ↦ asks_as (λ found. answer_found c.args.self.now c.args.target.now true (found_or_nothing found))
           (asks_walk c.args.target.now (c.in_ok-folder.folder ∷ up c.in_ok-folder.folder)
           c.context-context.ensures.conventions c.context-context.ensures.target c.in_ok-walked.ensures) w.in-None.is
-          (rw w.found-is at c.told.ensures)
+          (rw w.found-is at c.answer_found.ensures)
     ])
