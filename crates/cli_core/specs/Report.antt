@@ -1,7 +1,5 @@
 -- What is written for a document: a line for each of its requests or steps, the lines of its audit, or the bundle of
--- its
--- requests.
--- A `do` here is over results: it goes on with what a step gives, and ends by the first error.
+-- its requests. A `do` here is over results: it goes on with what a step gives, and ends by the first error.
 use Rattle.std.specs.Prelude.{ℕ, true, false, List, flat_map, Result, Ok, Err}
 use Rattle.tree_core.specs.Tree.{Files}
 use Rattle.resolve_stack.specs.Settings.{ProjectSettings}

@@ -33,8 +33,7 @@ pub record SourceState : Type 0 where
   pub faults : ℕ
 
 -- a sink: what was written, where it tells that, and how often a write was refused or took nothing of a piece, as a
--- number
--- that never falls
+-- number that never falls
 pub record SinkState : Type 0 where
   pub written : Option (List ℕ)
   pub faults : ℕ
@@ -45,8 +44,7 @@ CountsFault true before now = (before ≤ now) × Rose before now
 CountsFault false before now = now ≡ before
 
 -- the first n of the bytes that were left stand at the front of the buffer, and the others are left; none for a buffer
--- that
--- isn't empty means the end
+-- that isn't empty means the end
 pub record Takes (n : ℕ) (buffer bytes : List ℕ) (left : Option (List ℕ)) : Type 0 where
   pub others : left ≡ Some (drop n bytes)
   pub front : take n buffer ≡ take n bytes

@@ -1,6 +1,5 @@
 // Any reader as a source and any writer as a sink, so that `run` can be given the standard streams. They tell nothing
-// of
-// content.
+// of content.
 use crate::sink::{Sink, SinkFault};
 use crate::source::{Source, SourceFault};
 use std::io::{Read, Write};

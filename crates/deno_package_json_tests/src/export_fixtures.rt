@@ -1,8 +1,7 @@
 // What packages export: a table that Node answers too, and one in which it answers otherwise.
 
 /// Packages, each with a subpath and with conditions: the file that the subpath means. Node 20.20.2 answers each of
-/// them so,
-/// asked for the subpath of such a package by `require.resolve` under these conditions beside its own.
+/// them so, asked for the subpath of such a package by `require.resolve` under these conditions beside its own.
 pub(crate) fn exports_as_node() -> &'static str {
     r##"# exact keys
 {"exports":{".":"./m.js"}} | . | default = ./m.js

@@ -11,10 +11,8 @@ use sugar_path::{Bytes, Text};
 use tree_core::{ReadError, Tree};
 
 /// The real disk, asked on absolute paths as they are written: what a link leads to stands where the link does. It
-/// tells nothing of
-/// what the files hold, so it stands for no tree. A path is absent where nothing is there, or where a name on the way
-/// is no folder; any
-/// other error of the system is a fault, and counted.
+/// tells nothing of what the files hold, so it stands for no tree. A path is absent where nothing is there, or where a
+/// name on the way is no folder; any other error of the system is a fault, and counted.
 #[derive(Drop)]
 pub struct DiskTree<'r, R: Files + AllocGlobal> {
     rt: &'r R,

@@ -18,8 +18,7 @@ pub(crate) enum Entry {
 }
 
 // What the system's answer says of a path. That nothing is there, and that a name on the way is no folder, mean that
-// the path is
-// absent; every other error is a fault, but for want of memory.
+// the path is absent; every other error is a fault, but for want of memory.
 pub(crate) fn entry_of(answer: io::Result<Metadata>) -> Result<Entry, ReadError>
     ensures { result ≡ entry_of answer }
 {

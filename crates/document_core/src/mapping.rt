@@ -1,6 +1,5 @@
 // Reads the mapping of a document. Of JSON values only those that own their texts tell numbers, so the version of a
-// mapping is
-// read apart, and handed to what reads the rest.
+// mapping is read apart, and handed to what reads the rest.
 ghost use Rattle.std.specs.Prelude.{◌≡◌, None, codes, is_some};
 ghost use Rattle.serde_json.specs.View.{view};
 ghost use Rattle.json_reading.specs.Reading.{ReadsAs, nullable_by};

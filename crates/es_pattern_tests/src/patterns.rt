@@ -456,8 +456,7 @@ fn nested(alloc: Global, open: &str, close: &str, times: u32) -> Result<String, 
 }
 
 // Whether a pattern is found in 4,000 times `a`. Each of the following isn't, and would not end where walks are tried
-// one after
-// another.
+// one after another.
 fn is_found_in_a_row(alloc: Global, pattern: &str) -> Result<bool, Fail> {
     let text = repeated(alloc, "a", 4_000)?;
     Ok(Pattern::parse(alloc, pattern)?.is_found(alloc, text.as_str())?)

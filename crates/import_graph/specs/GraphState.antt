@@ -51,8 +51,7 @@ after_asks s [] = s
 after_asks s (r ∷ requests) = after_asks (after_ask s r.0 r.1) requests
 
 -- What a call that answers a graph leaves: what is kept once its edges are asked in order. So where there is room for
--- the
--- outcomes of all its edges, all are kept, and where all were kept, no question is put.
+-- the outcomes of all its edges, all are kept, and where all were kept, no question is put.
 pub record IsAsked (g : Graph) (old new : Session) : Type 0 where
   pub same : IsSameBut old new
   pub left : new.kept ≡ (after_asks old (requests_of g)).kept

@@ -19,8 +19,8 @@ use sugar_path::CleanPath;
 use tree_core::{Asker, ReadError, Recorder, ResolveError, Tree};
 
 /// Which bindings of the rows of the manifest at a path the registry or the project's lock refuses, and which entries
-/// of the
-/// lock name no package of it. The path is a clean absolute one other than `/`. Each question is put to the tree once.
+/// of the lock name no package of it. The path is a clean absolute one other than `/`. Each question is put to the tree
+/// once.
 pub fn audit<T: Tree>(
     alloc: Global,
     tree: &mut T,

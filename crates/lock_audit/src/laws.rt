@@ -13,8 +13,7 @@ pub fn edges_are_bindings()
 {}
 
 /// A binding is found exactly where the registry row or the lock row of the order of search, asked for its owner and
-/// its name,
-/// refuses, and it is found once.
+/// its name, refuses, and it is found once.
 pub fn findings_are_refusals()
     ensures { FindingsAreRefusals }
 {}

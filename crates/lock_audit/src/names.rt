@@ -15,8 +15,7 @@ use sugar_path::{Text, after};
 use yarn_lock_parser::Entry;
 
 // The texts that entries of a manifest's packages are resolved to, and the names of those of npm's registry with their
-// versions,
-// as a lock of version 1 has them. Whether an entry names a package is looked up.
+// versions, as a lock of version 1 has them. Whether an entry names a package is looked up.
 #[derive(Drop)]
 pub(crate) struct Names<'m> {
     pub resolutions: HashSet<String>,

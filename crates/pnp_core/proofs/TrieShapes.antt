@@ -59,8 +59,7 @@ pub below_both : (x y v w : Path) → x ≡ y → v ≡ w → below y w ≡ true
 below_both x y v w e f h = ap (λ z. below z v) e ∙ ap (below y) f ∙ h
 
 -- A way from a node to a path that has no node is found below or at another node above that path. Either a node above
--- the path and
--- below that other node is given, or the way leads through the other node.
+-- the path and below that other node is given, or the way leads through the other node.
 through_other : (n : ℕ) (loc : ℕ → Path) (child : ℕ → List ℕ → Option ℕ) (at i : ℕ) (m k : List ℕ) (l : Path)
     → IsTrie n loc child → at < n → i < n → i ≢ at → below l (m ∷ loc at) ≡ true → below l (k ∷ loc i) ≡ true
     → (below (loc i) (m ∷ loc at) ≡ true) ⊎ ((c : ℕ) × (child i k ≡ Some c) × (below l (loc c) ≡ true))

@@ -45,8 +45,7 @@ split_scoped t =
     else None
 
 -- How a bare specifier falls into the name of a package and what is asked of that package. A scope and its `/` belong
--- to the name,
--- so a scoped text is cut at its second `/`, any other text at its first. A scope alone is no name: None.
+-- to the name, so a scoped text is cut at its second `/`, any other text at its first. A scope alone is no name: None.
 abbrev pub split_bare : List ℕ → Option (List ℕ × Option (List ℕ))
 split_bare t = if is_scoped t then split_scoped t else Some (split_unscoped t)
 

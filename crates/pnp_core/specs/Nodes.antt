@@ -52,8 +52,7 @@ abbrev pub stored : {T : Type 0} → List (Node T) → Locations T
 stored ns = filter_map (λ entry. entry) (map (λ n. option_map (λ v. (text_of n.location, v)) n.value) ns)
 
 -- Nodes that are a trie. The first node is that of `/`, and each location has one node at most. A name leads to a node
--- below it, and on
--- the way from a node to any node below it there is a child of the first.
+-- below it, and on the way from a node to any node below it there is a child of the first.
 pub record IsTrie (n : ℕ) (location : ℕ → Path) (child : ℕ → List ℕ → Option ℕ) : Type 0 where
   pub root : location 0 ≡ []
   pub paths : (i : ℕ) → IsPath (location i)

@@ -34,8 +34,7 @@ IsIgnored m p =
     × IsFound pattern (chars (text_from m.manifest_dir (text_of p)))
 
 -- A locator owns a path: the path isn't ignored, and it is the locator of a row that claims the path. No row that
--- claims the path has a longer location, and
--- no later one has an equal location.
+-- claims the path has a longer location, and no later one has an equal location.
 pub record Owns (m : Contents) (p : Path) (l : PackageLocator) : Type 0 where
   pub watched : ¬ IsIgnored m p
   pub earlier : List Row

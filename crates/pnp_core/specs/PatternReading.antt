@@ -19,8 +19,7 @@ HasPatternText d text = get (codes "ignorePatternData") d ≡ Some (string text)
 
 -- The manifest of a value has a pattern where a text stands under `ignorePatternData`, the one that the grammar gives
 -- for the text, in which nothing is refused; and none where no text stands there. A value is refused for its pattern
--- exactly where it holds no float, all fields
--- of a manifest can be read, and that text has a first fault.
+-- exactly where it holds no float, all fields of a manifest can be read, and that text has a first fault.
 pub record PatternRead : Type 0 where
   pub given : (d : Data) (m : Contents) (text : List ℕ) → manifest_in d ≡ Ok m → HasPatternText d text → (tree : Tree)
       × (m.ignore_pattern_data ≡ Some tree)

@@ -13,8 +13,7 @@ use Rattle.pnp_core.specs.declared.error.Error.{Error}
 use Rattle.pnp_core.specs.declared.error.Error.TheVariants as error
 
 -- A specifier that names no package; a file that is no manifest; a peer that nobody provides; a name that isn't
--- declared; a
--- package that isn't there, which no call tells; a bound locator without a row.
+-- declared; a package that isn't there, which no call tells; a bound locator without a row.
 pub data Refusal : Type 0 where
   NoIdentifier : BadSpecifier → Refusal
   NoManifest : FailedManifestHydration → Refusal

@@ -129,8 +129,7 @@ plain_parts ss = record {
 }
 
 -- The segments before `__virtual__`, and those from it on: itself, a hash and a depth, as far as they are there, and
--- then the inner
--- path, through the first archive. What the depth moves stands before them.
+-- then the inner path, through the first archive. What the depth moves stands before them.
 abbrev pub virtual_parts : Bool → Segments → Segments → PathParts
 virtual_parts rooted front marked = record {
   base = take stay front;
@@ -161,8 +160,7 @@ abbrev pub virtual_texts : Segments × Segments → List ℕ × List ℕ
 virtual_texts virtual = (text_of_segments virtual.0, text_of_segments virtual.1)
 
 -- Which path is meant, where it isn't the text itself: one inside an archive, where a segment follows the archive, if
--- only an empty
--- one; else one with a virtual part.
+-- only an empty one; else one with a virtual part.
 unfoldable pub special : Bool → PathParts → Option VPath
 special rooted path = by_archived path.archived
   where

@@ -105,8 +105,7 @@ impl<T: FromJson + Eq + Hash> FromJson for Members<T> {
 }
 
 // The map of an array's pairs: each is put in as it is read. A manifest has many maps, most of one or a few pairs, so
-// each gives back
-// the room that it doesn't use.
+// each gives back the room that it doesn't use.
 fn entries_of_items<V: FromJson, J: JsonValue>(
     alloc: Global,
     items: &[J],

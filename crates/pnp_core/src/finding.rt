@@ -12,8 +12,7 @@ use sugar_path::CleanPath;
 use tree_core::{Asker, Recorder, Tree};
 
 /// The manifest in the first `.pnp.cjs` in a path and the folders above it: a ready one, or `FailedManifestHydration`
-/// with its
-/// cause. The path is a clean absolute text. The other errors are the tree's, and want of memory.
+/// with its cause. The path is a clean absolute text. The other errors are the tree's, and want of memory.
 pub fn find_pnp_manifest<'t, T: Tree>(
     alloc: Global,
     tree: &mut Recorder<'t, T>,

@@ -31,8 +31,7 @@ pub struct ResolutionConfig<F> {
 }
 
 /// Where a specifier leads that a file asks, by the manifest that the host finds for the file's path; without one it is
-/// skipped.
-/// Each manifest that the host may answer for that path is ready.
+/// skipped. Each manifest that the host may answer for that path is ready.
 pub fn resolve_to_unqualified<F: Fn(&str) -> Result<Option<Manifest>, Error>>(
     alloc: Global,
     specifier: &str,

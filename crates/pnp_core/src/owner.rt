@@ -12,8 +12,7 @@ use std::alloc::{AllocError, Global};
 use sugar_path::CleanPath;
 
 /// The package that owns a path: of the rows that aren't discarded, the last one at the nearest location that the path
-/// is or lies below.
-/// Nothing owns a path where the ignore pattern is found in its text from the manifest's folder.
+/// is or lies below. Nothing owns a path where the ignore pattern is found in its text from the manifest's folder.
 pub fn find_locator<'a>(
     alloc: Global,
     manifest: &'a Manifest,

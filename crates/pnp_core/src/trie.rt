@@ -108,8 +108,7 @@ impl<T: Drop> Trie<T> {
     }
 
     /// How many nodes there are: one for `/`, one for each location, and one for the longest path that each two
-    /// locations share,
-    /// each path once.
+    /// locations share, each path once.
     pub fn nodes(&self) -> usize
         ensures { CountsNodes self.now result }
     {

@@ -15,8 +15,7 @@ use sugar_path::{Bytes, CleanPath, Text};
 use tree_core::{MemoryTree, Recorder};
 
 // An application with packages `foo` and `alone`, a package `hidden` that owns no path, a virtual one, and one inside
-// an
-// archive. Yarn's own pattern leaves its folder of editor tools without an owner.
+// an archive. Yarn's own pattern leaves its folder of editor tools without an owner.
 pub(crate) fn manifest_text() -> &'static str {
     r#"const RAW_RUNTIME_STATE =
 '{"dependencyTreeRoots":[{"name":"app","reference":"workspace:."}],"enableTopLevelFallback":true,"ignorePatternData":"(^(?:\\\\.yarn\\\\/sdks(?:\\\\/(?!\\\\.{1,2}(?:\\\\/|$))(?:(?:(?!(?:^|\\\\/)\\\\.{1,2}(?:\\\\/|$)).)*?)|$))$)","fallbackExclusionList":[["app",["workspace:."]],["alone",["npm:1.0.0"]]],"fallbackPool":[["pooled","npm:3.0.0"]],"packageRegistryData":[[null,[[null,{"packageLocation":"./","packageDependencies":[["foo","npm:1.0.0"],["top","npm:4.0.0"]]}]]],["app",[["workspace:.",{"packageLocation":"./","packageDependencies":[["foo","npm:1.0.0"],["other",["foo","npm:1.0.0"]]]}]]],["foo",[["npm:1.0.0",{"packageLocation":"./.yarn/foo/","packageDependencies":[["peer",null],["top",null]]}]]],["alone",[["npm:1.0.0",{"packageLocation":"./.yarn/alone/","packageDependencies":[["peer",null]]}]]],["hidden",[["npm:1.0.0",{"packageLocation":"./.yarn/foo/hidden/","discardFromLookup":true,"packageDependencies":[]}]]],["peered",[["virtual:ab#npm:1.0.0",{"packageLocation":"./.yarn/__virtual__/peered-virtual-ab/1/packages/peered/","packageDependencies":[]}]]],["zipped",[["npm:1.0.0",{"packageLocation":"./.yarn/cache/zipped.zip/node_modules/zipped/","packageDependencies":[]}]]]]}';

@@ -7,8 +7,7 @@ use sugar_path::Text;
 use tree_core::MemoryTree;
 
 // Which project asks, step by step, and the package that its manifest binds then. The manifests of two or three
-// projects
-// are kept. Those that bind one package are alike byte for byte, and say a location from their own folders.
+// projects are kept. Those that bind one package are alike byte for byte, and say a location from their own folders.
 fn steps() -> &'static str {
     "/p0 one
 /p5 one

@@ -60,8 +60,7 @@ fn note(noted: &mut String, base: &FileName, specifier: &str) -> Result<(), Allo
 }
 
 /// A table from specifiers to answers, apart by blanks, with a colon between each two: a path is answered as one, with
-/// the file,
-/// and any other text as a name.
+/// the file, and any other text as a name.
 pub fn table_of(alloc: Global, rows: &str) -> Result<Table, Fail> {
     let mut answers = IndexMap::new(alloc);
     for row in rows.split_whitespace() {

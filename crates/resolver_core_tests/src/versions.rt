@@ -7,8 +7,7 @@ use sugar_path::{List, Text};
 use swc_loader::TsVersion;
 
 // Patterns and a specifier, which pattern decides under version 1 with which rest, and which under version 2. The
-// answers
-// under version 2 are those of `matchPatternOrExact` and `matchedText` of TypeScript 4.8.4.
+// answers under version 2 are those of `matchPatternOrExact` and `matchedText` of TypeScript 4.8.4.
 fn rows() -> &'static str {
     "lib/*.js | lib/a.js = lib/*.js [a.js] | lib/*.js [a]
 lib/*.js | lib/a.ts = lib/*.js [a.ts] | -

@@ -87,8 +87,7 @@ fn remove(alloc: Global, session: &mut Session<'_>, path: &str) -> Result<String
 }
 
 /// The line of a put at a path, by what it answered: how many outcomes are dropped, or why the file is refused. Where
-/// it
-/// found no memory, there is no line.
+/// it found no memory, there is no line.
 pub fn line_of_put(
     alloc: Global,
     path: &str,

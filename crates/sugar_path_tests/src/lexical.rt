@@ -148,8 +148,7 @@ fn the_working_folder_is_asked_where_needed(rt: HostRuntime) -> Result<(), Fail>
 }
 
 // A target, a base, and the way from the base to the target, where both are read from `/w/x`, on each line, and whether
-// that
-// is borrowed.
+// that is borrowed.
 fn ways() -> &'static str {
     "/var | /var/lib | .. | made
 /bin | /var/lib | ../../bin | made
