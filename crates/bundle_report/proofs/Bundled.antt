@@ -1,17 +1,11 @@
 -- The bundle of requests, one after the other.
 use Rattle.std.specs.FinMap as finite
-use Rattle.std.specs.FinMap.{entries, entries_sorted, from_entries, get-entries, get-from_entries}
-use Rattle.std.specs.FinMap.Entries.{same_entries}
 use Rattle.std.proofs.Common.{
   ◌≡◌,
   ◌≤◌,
   ◌<◌,
   ◌+◌,
   ℕ,
-  Bool,
-  true,
-  false,
-  cond,
   drop,
   get_or,
   List,
@@ -19,7 +13,6 @@ use Rattle.std.proofs.Common.{
   ◌∷◌,
   ◌++◌,
   map,
-  Some,
   Result,
   Ok,
   Err,
@@ -32,11 +25,10 @@ use Rattle.std.proofs.Common.{
   append_assoc,
   append-nil,
 }
-use Rattle.std.specs.Bool.{passes}
 use Rattle.std.specs.Option.{option_or}
 use Rattle.std.proofs.lemmas.Grind.{flat_map-append}
 use Rattle.std.proofs.lemmas.List.{drop_more, length-drop, map-append}
-use Rattle.tree_core.specs.Question.{question_eq, reply_in}
+use Rattle.tree_core.specs.Question.{reply_in}
 use Rattle.tree_core.specs.Tree.{Files}
 use Rattle.tree_core.specs.declared.question.Question.{Question}
 use Rattle.tree_core.specs.declared.question.Reply.{Reply}
@@ -53,9 +45,9 @@ use Rattle.document_core.specs.declared.given.GivenRequest.{GivenRequest}
 use Rattle.trail_bundle.specs.Adding.{IsAdded, request_for}
 use Rattle.trail_bundle.specs.Bundle.{AreReplies, Bundle}
 use Rattle.trail_bundle.specs.BundleText.{bundle_text}
-use Rattle.trail_bundle.specs.QuestionOrder.{question_cmp, question_cmp_total}
-use Rattle.trail_bundle.proofs.Keeping.{find_is, one_question}
-use Rattle.bundle_report.specs.Bundling.{bundle_on, bundle_report, replies_in, text_by, trails_on}
+use Rattle.trail_bundle.specs.FirstReplies.{replies_in}
+use Rattle.trail_bundle.proofs.FirstReplies.{reply-append, same_replies}
+use Rattle.bundle_report.specs.Bundling.{bundle_on, bundle_report, text_by, trails_on}
 
 -- the requests so far were bundled
 pub record Bundled (b : Bundle) (t : Files) (project : ProjectSettings) (given rest : List GivenRequest) : Type 0 where
@@ -67,17 +59,6 @@ pub record Bundled (b : Bundle) (t : Files) (project : ProjectSettings) (given r
 pub none_yet : (t : Files) (project : ProjectSettings) (given : List GivenRequest)
     → Bundled (record { requests = []; replies = [] }) t project given given
 none_yet t project given = record { before = []; in_order = refl; requests = refl; replies = λ q. refl }
-
--- the first reply of two lists
-reply-append : (xs ys : List (Question × Reply)) (q : Question)
-    → reply_in (xs ++ ys) q ≡ option_or (reply_in xs q) (reply_in ys q)
-reply-append [] ys q = refl
-reply-append (x ∷ xs) ys q = by_test (question_eq x.0 q) (reply-append xs ys q)
-  where
-    by_test : (b : Bool) → reply_in (xs ++ ys) q ≡ option_or (reply_in xs q) (reply_in ys q)
-        → cond b (Some x.1) (reply_in (xs ++ ys) q) ≡ option_or (cond b (Some x.1) (reply_in xs q)) (reply_in ys q)
-    by_test true rest = refl
-    by_test false rest = rest
 
 trails-push : (t : Files) (project : ProjectSettings) (before : List GivenRequest) (r : GivenRequest)
     → trails_on t project (before ++ r ∷ []) ≡ trails_on t project before ++ (outcome_on t project r).trail
@@ -109,16 +90,6 @@ next_given given i r inside is = drop_more given i r inside ∙ ap (λ x. x ∷ 
 nothing : (rest : List GivenRequest) → length rest ≡ 0 → rest ≡ []
 nothing [] h = refl
 nothing (r ∷ rest) h = absurd (omega arith)
-
--- replies in order are those of the finite map
-same_replies : (replies trail : List (Question × Reply)) → AreReplies replies
-    → ((q : Question) → reply_in replies q ≡ reply_in trail q) → replies ≡ replies_in trail
-same_replies replies trail are same =
-    let made : finite.FinMap question_cmp Reply = from_entries trail in
-    same_entries question_cmp question_cmp_total one_question replies (entries made) (passes _ are.ascend)
-    (entries_sorted made)
-    (λ q. find_is replies q ∙ same q ∙ sym (find_is trail q) ∙ sym (get-from_entries question_cmp_total trail q)
-    ∙ get-entries made q)
 
 pub all_bundled : (b : Bundle) (t : Files) (project : ProjectSettings) (given : List GivenRequest) (i : ℕ)
     → Bundled b t project given (drop i given) → length given ≤ i → AreReplies b.replies → b ≡ bundle_on t project given

@@ -1,7 +1,6 @@
 -- What is written for a document: the bundle of its requests.
 -- A `do` here is over results: it goes on with what a step gives, and ends by the first error.
 use Rattle.std.specs.Prelude.{ℕ, List, flat_map, map, Result, Ok, Err}
-use Rattle.std.specs.FinMap.{entries, from_entries}
 use Rattle.tree_core.specs.Tree.{Files}
 use Rattle.tree_core.specs.declared.question.Question.{Question}
 use Rattle.tree_core.specs.declared.question.Reply.{Reply}
@@ -14,15 +13,11 @@ use Rattle.document_core.specs.declared.given.GivenRequest.{GivenRequest}
 use Rattle.trail_bundle.specs.Adding.{request_for}
 use Rattle.trail_bundle.specs.Bundle.{Bundle}
 use Rattle.trail_bundle.specs.BundleText.{bundle_text}
-use Rattle.trail_bundle.specs.QuestionOrder.{question_cmp}
+use Rattle.trail_bundle.specs.FirstReplies.{replies_in}
 
 -- the trails of requests, one behind the other
 abbrev pub trails_on : Files → ProjectSettings → List GivenRequest → List (Question × Reply)
 trails_on t project requests = flat_map (λ r. (outcome_on t project r).trail) requests
-
--- the finite map of replies to the questions that stand in a trail, in the order of the questions
-abbrev pub replies_in : List (Question × Reply) → List (Question × Reply)
-replies_in trail = entries (from_entries {R = question_cmp} trail)
 
 -- the bundle of a project's requests on a tree: the requests, and the replies of their trails
 abbrev pub bundle_on : Files → ProjectSettings → List GivenRequest → Bundle

@@ -18,6 +18,7 @@ use Rattle.cli_core.specs.declared.status.Status.TheVariants.{
   TooLong,
   NoMemory,
   TreeFault,
+  TwoReplies,
 }
 
 -- the source's count, where the source didn't fail
@@ -30,6 +31,7 @@ no_read_fault WriteFault n other = refl
 no_read_fault TooLong n other = refl
 no_read_fault NoMemory n other = refl
 no_read_fault TreeFault n other = refl
+no_read_fault TwoReplies n other = refl
 
 -- the disk's count, where the disk didn't fail
 pub no_disk_fault : (status : Status) (n : ℕ) → status ≢ TreeFault → CountsTreeFault (is_of_tree status) n n
@@ -41,6 +43,7 @@ no_disk_fault WriteFault n other = refl
 no_disk_fault TooLong n other = refl
 no_disk_fault NoMemory n other = refl
 no_disk_fault TreeFault n other = absurd (other refl)
+no_disk_fault TwoReplies n other = refl
 
 -- neither words that are no command nor a fault of the source
 pub record EndsUnread (status : Status) : Type 0 where
@@ -60,13 +63,15 @@ cause_ends (inr (inl is)) = record { usage = λ other. cc; source = λ other. cc
 cause_ends (inr (inr is)) = record { usage = λ other. cc; source = λ other. cc }
 
 outcome_ends : {status : Status} → (status ≡ Done)
-    ⊎ ((status ≡ WriteFault) ⊎ ((status ≡ NoMemory) ⊎ (status ≡ TreeFault))) → EndsUnread status
+    ⊎ ((status ≡ WriteFault) ⊎ ((status ≡ NoMemory) ⊎ ((status ≡ TreeFault) ⊎ (status ≡ TwoReplies))))
+    → EndsUnread status
 outcome_ends (inl is) = record { usage = λ other. cc; source = λ other. cc }
 outcome_ends (inr (inl is)) = record { usage = λ other. cc; source = λ other. cc }
 outcome_ends (inr (inr (inl is))) = record { usage = λ other. cc; source = λ other. cc }
-outcome_ends (inr (inr (inr is))) = record { usage = λ other. cc; source = λ other. cc }
+outcome_ends (inr (inr (inr (inl is)))) = record { usage = λ other. cc; source = λ other. cc }
+outcome_ends (inr (inr (inr (inr is)))) = record { usage = λ other. cc; source = λ other. cc }
 
--- of a request over the disk
+-- of requests over the disk
 pub asks_ends : {request : Asked} {status : Status} {sink_old sink_new : SinkState} {disk_old disk_new : TreeState}
     → AsksDisk request status sink_old sink_new disk_old disk_new → EndsUnread status
 asks_ends {request = request} {status = status} asks = by_project (project_of request) refl

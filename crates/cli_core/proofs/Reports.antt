@@ -10,7 +10,7 @@ use Rattle.document_core.specs.declared.cause.DocumentError.{DocumentError}
 use Rattle.document_core.specs.declared.cause.DocumentError.TheVariants.{Refused}
 use Rattle.document_core.specs.declared.cause.DocumentError.TheVariants as ended
 use Rattle.document_core.specs.declared.fields.Document.{Document}
-use Rattle.cli_core.specs.declared.report.OutcomeForm.{OutcomeForm}
+use Rattle.disk_report.specs.declared.forms.OutcomeForm.{OutcomeForm}
 use Rattle.cli_core.specs.Report.{lines_by, lines_of, report}
 
 -- the report on a document whose fields are refused, and on one of whose files is

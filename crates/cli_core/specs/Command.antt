@@ -24,15 +24,13 @@ use Rattle.std.specs.Prelude.{
 }
 use Rattle.std.specs.Str.{all_ascii_digits}
 use Rattle.std.specs.declared.alloc.Global.{Global}
-use Rattle.swc_loader.specs.declared.target.TargetEnv.{TargetEnv}
-use Rattle.swc_loader.specs.declared.target.TargetEnv.TheVariants.{Browser, Node}
-use Rattle.disk_report.specs.Asked.{Asked}
+use Rattle.disk_report.specs.declared.forms.OutcomeForm.TheVariants.{Line}
+use Rattle.cli_core.specs.DiskWords.{disk_request_in}
+use Rattle.cli_core.specs.Forms.{form_of}
 use Rattle.cli_core.specs.declared.command.Command.{Command}
 use Rattle.cli_core.specs.declared.command.Command.TheVariants.{Report, Replay, Generate, Disk}
 use Rattle.cli_core.specs.declared.document_kind.DocumentKind.TheVariants.{Requests, Steps, Graphs, Audit, Bundle}
 use Rattle.cli_core.specs.declared.command.TheConstants.{LARGEST}
-use Rattle.cli_core.specs.declared.report.OutcomeForm.{OutcomeForm}
-use Rattle.cli_core.specs.declared.report.OutcomeForm.TheVariants.{Line, LineWithTrail, Text}
 
 -- the first byte is a digit above 0
 abbrev pub begins_above_zero : List ℕ → Bool
@@ -51,13 +49,6 @@ size_of word =
     (number_after 0 word)
     else None
 
--- the target that a word names
-abbrev pub target_of : List ℕ → Option TargetEnv
-target_of word =
-    if bytes_eq word (codes "browser") then Some Browser
-    else if bytes_eq word (codes "node") then Some Node
-    else None
-
 -- one word: `resolve`, `session`, `graph`, `audit`, `bundle` or `replay`
 abbrev pub command_of_one : List ℕ → Option Command
 command_of_one word =
@@ -69,27 +60,12 @@ command_of_one word =
     else if bytes_eq word (codes "replay") then Some Replay
     else None
 
--- the form in which outcomes are told behind `resolve`
-abbrev pub form_of : List ℕ → Option OutcomeForm
-form_of word =
-    if bytes_eq word (codes "--trail") then Some LineWithTrail
-    else if bytes_eq word (codes "--explain") then Some Text
-    else None
-
 -- two words: `resolve` and a form, or `generate` and a size
 abbrev pub command_of_two : List ℕ → List ℕ → Option Command
 command_of_two word next =
     if bytes_eq word (codes "resolve") then option_map (λ form. Report (Requests form)) (form_of next)
     else if bytes_eq word (codes "generate") then option_map Generate (size_of next)
     else None
-
--- five words: `disk`, a working folder, a target, an importer and a specifier
-abbrev pub disk_request_in : List (List ℕ) → Option Asked
-disk_request_in (word ∷ cwd ∷ target ∷ importer ∷ specifier ∷ []) =
-    if bytes_eq word (codes "disk") then option_map (λ env. record
-    { cwd = cwd; target = env; importer = importer; specifier = specifier }) (target_of target)
-    else None
-disk_request_in _ = None
 
 abbrev pub command_in : List (List ℕ) → Option Command
 command_in [] = None

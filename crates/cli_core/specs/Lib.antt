@@ -1,4 +1,6 @@
 pub mod Command
+pub mod DiskWords
+pub mod Forms
 pub mod Generates
 pub mod MemoryStreams
 pub mod OnDisk

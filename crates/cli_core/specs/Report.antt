@@ -1,6 +1,6 @@
 -- What is written for a document: a line for each of its requests or steps, the lines of its audit, or the bundle of
 -- its requests. A `do` here is over results: it goes on with what a step gives, and ends by the first error.
-use Rattle.std.specs.Prelude.{ℕ, true, false, List, flat_map, Result, Ok, Err}
+use Rattle.std.specs.Prelude.{ℕ, List, flat_map, Result, Ok, Err}
 use Rattle.tree_core.specs.Tree.{Files}
 use Rattle.resolve_stack.specs.Settings.{ProjectSettings}
 use Rattle.document_core.specs.Cause.{◌>>=◌}
@@ -8,11 +8,8 @@ use Rattle.document_core.specs.Document.{document}
 use Rattle.document_core.specs.Outcomes.{outcome_on}
 use Rattle.document_core.specs.declared.cause.Cause.{Cause}
 use Rattle.document_core.specs.declared.given.GivenRequest.{GivenRequest}
-use Rattle.report_core.specs.Lines.{outcome_line}
-use Rattle.explain_report.specs.Explained.{explained}
-use Rattle.resolve_stack.specs.declared.verdict.Outcome.{Outcome}
-use Rattle.cli_core.specs.declared.report.OutcomeForm.{OutcomeForm}
-use Rattle.cli_core.specs.declared.report.OutcomeForm.TheVariants.{Line, LineWithTrail, Text}
+use Rattle.disk_report.specs.Forms.{told_as}
+use Rattle.disk_report.specs.declared.forms.OutcomeForm.{OutcomeForm}
 use Rattle.graph_report.specs.Report.{graph_report}
 use Rattle.session_report.specs.Report.{session_report}
 use Rattle.audit_report.specs.Report.{audit_report}
@@ -20,16 +17,10 @@ use Rattle.bundle_report.specs.Bundling.{bundle_report}
 use Rattle.cli_core.specs.declared.document_kind.DocumentKind.{DocumentKind}
 use Rattle.cli_core.specs.declared.document_kind.DocumentKind.TheVariants.{Requests, Steps, Graphs, Audit, Bundle}
 
--- what is told of an outcome: its line, with its trail or without, or the text for people
-abbrev pub told_as : OutcomeForm → GivenRequest → Outcome → List ℕ
-told_as Line request outcome = outcome_line false outcome
-told_as LineWithTrail request outcome = outcome_line true outcome
-told_as Text request outcome = explained request.importer request.specifier outcome
-
 -- what is told of requests, in order, in this form
 abbrev pub lines_of : OutcomeForm → Files → ProjectSettings → List GivenRequest → List ℕ
 lines_of form t project requests =
-    flat_map (λ request. told_as form request (outcome_on t project request)) requests
+    flat_map (λ request. told_as form request.importer request.specifier (outcome_on t project request)) requests
 
 -- the lines of a project's requests, or the cause against the project
 abbrev pub lines_by :

@@ -17,6 +17,7 @@ use Rattle.cli_core.specs.declared.status.Status.TheVariants.{
   TooLong,
   NoMemory,
   TreeFault,
+  TwoReplies,
 }
 
 -- the number with which the program ends
@@ -29,6 +30,7 @@ code_of WriteFault = 4
 code_of TooLong = 5
 code_of NoMemory = 6
 code_of TreeFault = 7
+code_of TwoReplies = 7
 
 -- the status and the text that a report or a cause comes to
 abbrev pub reply_as : Result (List ℕ) Cause → Status × List ℕ
@@ -59,6 +61,7 @@ is_of_source WriteFault = false
 is_of_source TooLong = false
 is_of_source NoMemory = false
 is_of_source TreeFault = false
+is_of_source TwoReplies = false
 
 -- the status is that of a sink's fault
 abbrev pub is_of_sink : Status → Bool
@@ -70,6 +73,7 @@ is_of_sink WriteFault = true
 is_of_sink TooLong = false
 is_of_sink NoMemory = false
 is_of_sink TreeFault = false
+is_of_sink TwoReplies = false
 
 -- the status is that of a tree's fault
 abbrev pub is_of_tree : Status → Bool
@@ -81,6 +85,7 @@ is_of_tree WriteFault = false
 is_of_tree TooLong = false
 is_of_tree NoMemory = false
 is_of_tree TreeFault = true
+is_of_tree TwoReplies = false
 
 -- a tree's count of faults after a call: where the tree failed it rose, or stands at its last value; else it stayed
 abbrev pub CountsTreeFault : Bool → ℕ → ℕ → Type 0
@@ -107,6 +112,7 @@ is_silent WriteFault = false
 is_silent TooLong = true
 is_silent NoMemory = true
 is_silent TreeFault = true
+is_silent TwoReplies = true
 
 -- a count of faults neither rose nor stands at its last value
 abbrev pub IsSteady : ℕ → ℕ → Type 0

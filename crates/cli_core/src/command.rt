@@ -1,20 +1,17 @@
 // The commands, by the words that ask for them.
-ghost use Rattle.std.specs.Prelude.{◌≡◌, map, string_bytes};
+ghost use Rattle.std.specs.Prelude.{◌≡◌};
 ghost use Rattle.cli_core.specs.Command.{
   asked,
   begins_above_zero,
   command_of_one,
   command_of_two,
-  disk_request_in,
-  form_of,
   size_of,
-  target_of,
 };
+ghost use Rattle.cli_core.specs.Forms.{form_of};
 
+use crate::disk_words::disk_request;
 use crate::document_kind::DocumentKind;
-use crate::report::OutcomeForm;
-use disk_report::DiskRequest;
-use resolve_stack::TargetEnv;
+use disk_report::{DiskRequest, OutcomeForm};
 
 /// What the program is asked to do, with what the words say of it.
 #[derive(Debug, Drop)]
@@ -25,7 +22,7 @@ pub enum Command<'w> {
     Replay,
     /// Resolves the generated project of so many packages, and writes the counts of its outcomes.
     Generate { size: u16 },
-    /// Resolves one request over the disk, and writes its line.
+    /// Resolves requests over the disk, and writes what is told of them.
     Disk(DiskRequest<'w>),
 }
 
@@ -71,8 +68,8 @@ fn command_of_two<'w>(word: &'w str, next: &'w str) -> Option<Command<'w>>
     }
 }
 
-// The form in which outcomes are told behind `resolve`.
-fn form_of(word: &str) -> Option<OutcomeForm>
+// The form in which outcomes are told, as a word names it.
+pub(crate) fn form_of(word: &str) -> Option<OutcomeForm>
     ensures { result ≡ form_of word.now }
 {
     match word {
@@ -99,30 +96,4 @@ fn begins_above_zero(word: &[u8]) -> bool
     ensures { result ≡ begins_above_zero word.now }
 {
     matches!(word, [b'1'..=b'9', ..])
-}
-
-// The request that the words behind the program's name ask for over the disk.
-fn disk_request(words: &[String]) -> Option<DiskRequest<'_>>
-    ensures { result ≡ disk_request_in (map string_bytes words.now) }
-{
-    match words {
-        [word, cwd, target, importer, specifier] if word.as_str() == "disk" => Some(DiskRequest {
-            cwd: cwd.as_str(),
-            target: target_of(target.as_str())?,
-            importer: importer.as_str(),
-            specifier: specifier.as_str(),
-        }),
-        _ => None,
-    }
-}
-
-// The target that a word names.
-fn target_of(word: &str) -> Option<TargetEnv>
-    ensures { result ≡ target_of word.now }
-{
-    match word {
-        "browser" => Some(TargetEnv::Browser),
-        "node" => Some(TargetEnv::Node),
-        _ => None,
-    }
 }

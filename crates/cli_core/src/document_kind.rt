@@ -4,9 +4,10 @@ ghost use Rattle.std.specs.Prelude.{string_bytes};
 ghost use Rattle.document_core.specs.Cause.{Meets};
 ghost use Rattle.cli_core.specs.Report.{report_of};
 
-use crate::report::{OutcomeForm, report_for};
+use crate::report::report_for;
 use audit_report::audit_report_for;
 use bundle_report::bundle_report_for;
+use disk_report::OutcomeForm;
 use document_core::DocumentError;
 use graph_report::graph_report_for;
 use session_report::session_report_for;

@@ -2,6 +2,7 @@
 #![tactic(auto)]
 
 mod command;
+mod disk_words;
 mod document_kind;
 mod generating;
 mod memory_sinks;
@@ -19,13 +20,13 @@ mod status;
 mod writing;
 
 pub use command::{Command, LARGEST, command_of};
-pub use disk_report::DiskRequest;
+pub use disk_report::{DiskForm, DiskRequest, OutcomeForm};
 pub use document_core::{Cause, DocumentError, Field};
 pub use document_kind::{DocumentKind, report_of};
 pub use memory_sinks::{BytesSink, PlainSink};
 pub use memory_sources::{BytesSource, PlainSource};
 pub use reading::{CHUNK, LONGEST};
-pub use report::{OutcomeForm, report_for};
+pub use report::report_for;
 pub use running::run;
 pub use sink::{Sink, SinkFault};
 pub use source::{Source, SourceFault};

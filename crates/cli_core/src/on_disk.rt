@@ -1,4 +1,4 @@
-// The command `disk`: from one request over a tree to a status and its line.
+// The command `disk`: from requests over a tree to a status and a text.
 ghost use Rattle.std.specs.Prelude.{◌≡◌, ◌⊎◌, true};
 ghost use Rattle.document_core.specs.CauseLine.{cause_line};
 ghost use Rattle.cli_core.specs.OnDisk.{AsksDisk};
@@ -9,12 +9,12 @@ ghost use Rattle.cli_core.specs.Writing.{AppendsFront};
 use crate::sink::Sink;
 use crate::status::Status;
 use crate::writing::write_all;
-use disk_report::{DiskError, DiskRequest, line_on_tree};
+use disk_report::{DiskError, DiskRequest, text_on_tree};
 use document_core::{Cause, line_of_cause};
 use std::alloc::Global;
 use tree_core::Tree;
 
-// Resolves one request over a tree, and writes its line, or the line of the cause against its project.
+// Resolves requests over a tree, and writes what is told of them, or the line of the cause against their project.
 pub(crate) fn ask_disk<K: Sink, T: Tree>(
     alloc: Global,
     request: &DiskRequest<'_>,
@@ -31,13 +31,14 @@ pub(crate) fn ask_disk<K: Sink, T: Tree>(
         (K.state sink.new).written ≡ (K.state sink.old).written }
     ensures stands { (T.state disk.new).stands_for ≡ (T.state disk.old).stands_for }
 {
-    let line = match line_on_tree(alloc, disk, request) {
-        Ok(line) => line,
+    let text = match text_on_tree(alloc, disk, request) {
+        Ok(text) => text,
         Err(DiskError::Refused(cause)) => return tell_cause(alloc, &cause, sink),
         Err(DiskError::TreeFault) => return Status::TreeFault,
+        Err(DiskError::TwoReplies) => return Status::TwoReplies,
         Err(DiskError::NoMemory) => return Status::NoMemory,
     };
-    match write_all(sink, line.as_bytes()) {
+    match write_all(sink, text.as_bytes()) {
         Ok(()) => Status::Done,
         Err(_) => Status::WriteFault,
     }

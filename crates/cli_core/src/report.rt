@@ -4,29 +4,18 @@ ghost use Rattle.std.specs.Result.{result_map_both};
 ghost use Rattle.document_core.specs.Cause.{Meets};
 ghost use Rattle.document_core.specs.Document.{project_in, settings_in};
 ghost use Rattle.document_core.specs.Outcomes.{outcome_on};
-ghost use Rattle.cli_core.specs.Report.{lines_by, lines_of, report, told_as};
+ghost use Rattle.disk_report.specs.Forms.{told_as};
+ghost use Rattle.cli_core.specs.Report.{lines_by, lines_of, report};
 
+use disk_report::{OutcomeForm, told_as};
 use document_core::{
     Document, DocumentError, GivenRequest, GivenSettings, outcome_of, project_in, read_document,
     tree_of,
 };
-use explain_report::explained;
-use report_core::line_of_outcome;
-use resolve_stack::{KnownTree, Outcome, Project};
+use resolve_stack::{KnownTree, Project};
 use std::alloc::{AllocError, Global};
 use sugar_path::Text;
 use tree_core::MemoryTree;
-
-/// In which form outcomes of requests are told.
-#[derive(Clone, Copy, Debug, PartialEq, Eq)]
-pub enum OutcomeForm {
-    /// A line of JSON.
-    Line,
-    /// A line of JSON with the trail.
-    LineWithTrail,
-    /// A text for people.
-    Text,
-}
 
 /// The report on a document's bytes: what is told of its requests, in order, in this form; or the first cause
 /// against it.
@@ -88,32 +77,16 @@ fn line_of(
     form: OutcomeForm,
 ) -> Result<String, AllocError>
     ensures line { IfOk result (λ line. string_bytes line
-        ≡ told_as form request.now (outcome_on tree.old.files project.now request.now)) }
+        ≡ told_as form request.now.importer request.now.specifier
+        (outcome_on tree.old.files project.now request.now)) }
     ensures files { tree.new.files ≡ tree.old.files }
 {
     let outcome = outcome_of(alloc, tree, project, request)?;
-    told_as(alloc, form, request, &outcome)
-}
-
-// What is told of an outcome in this form.
-fn told_as(
-    alloc: Global,
-    form: OutcomeForm,
-    request: &GivenRequest,
-    outcome: &Outcome,
-) -> Result<String, AllocError>
-    ensures { IfOk result (λ told. string_bytes told ≡ told_as form request.now outcome.now) }
-{
-    match form {
-        OutcomeForm::Line => line_of_outcome(alloc, outcome, false),
-        OutcomeForm::LineWithTrail => line_of_outcome(alloc, outcome, true),
-        OutcomeForm::Text => {
-            explained(
-                alloc,
-                &request.importer,
-                request.specifier.as_str(),
-                outcome,
-            )
-        }
-    }
+    told_as(
+        alloc,
+        form,
+        &request.importer,
+        request.specifier.as_str(),
+        &outcome,
+    )
 }

@@ -25,8 +25,8 @@ use tree_core::Tree;
 /// cause against the document. `session` does that with the steps of a session document, `graph` with those of a graph
 /// document, and `audit` with the audit that an audit document asks for. `bundle` writes the bundle of a document's
 /// requests, and `replay` the lines of a bundle's verdicts. `generate` and a number resolves the generated project of
-/// so many packages, and writes its counts. `disk`, a working folder, a target, an importer and a specifier resolves
-/// one request over the disk.
+/// so many packages, and writes its counts. `disk`, a working folder, a target, an importer and specifiers resolves
+/// requests over the disk, and tells them as `resolve` does; with `--bundle` it writes their bundle.
 pub fn run<S: Source, K: Sink, T: Tree>(
     alloc: Global,
     words: &[String],

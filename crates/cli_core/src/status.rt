@@ -21,6 +21,8 @@ pub enum Status {
     NoMemory,
     /// The tree refused a question.
     TreeFault,
+    /// The tree gave two replies to one question, in the trails of two requests of a bundle; nothing was written.
+    TwoReplies,
 }
 
 impl Status {
@@ -36,7 +38,7 @@ impl Status {
             Status::WriteFault => 4,
             Status::TooLong => 5,
             Status::NoMemory => 6,
-            Status::TreeFault => 7,
+            Status::TreeFault | Status::TwoReplies => 7,
         }
     }
 }

@@ -14,8 +14,8 @@ yuzkhatvo: which file a specifier means, asked from an importer, with the questi
   bundle               reads a document, writes the trails of its requests as one text
   replay               reads a bundle with its project, writes the line of each request
   generate N           resolves a generated project of N packages, writes its counts
-  disk CWD TARGET IMPORTER SPECIFIER
-                       resolves one request over the files of this machine
+  disk CWD TARGET IMPORTER SPECIFIER..
+                       resolves requests over the files of this machine, told as resolve does; with --bundle as one text
   help [COMMAND], --help, --version
 
 Documents are JSON, and are read from standard input.
@@ -76,10 +76,13 @@ Resolves a generated project of N packages, a number from 1 to 1000, and writes 
 ";
 
 const DISK: &str = "\
-disk CWD TARGET IMPORTER SPECIFIER
+disk [--trail | --explain | --bundle] CWD TARGET IMPORTER SPECIFIER..
 
-Resolves one request over the files of this machine, and writes its line of JSON. CWD is the working folder, a clean
-absolute path; TARGET is node or browser; IMPORTER is the file that asks.
+Resolves a request for each specifier over the files of this machine, and writes its line of JSON. CWD is the working
+folder, a clean absolute path; TARGET is node or browser; IMPORTER is the file that asks. With --trail each line has the
+questions that were put to the files, with their replies; with --explain a text for people stands in its place. With
+--bundle the trails of all requests are written as one text, for a bug report: replay gives their lines from it on any
+machine. Where the files change meanwhile, so that one question gets two replies, there is no bundle: status 7.
 ";
 
 impl Topic {
@@ -110,7 +113,9 @@ impl Topic {
             Topic::Bundle => "bundle < DOCUMENT",
             Topic::Replay => "replay < DOCUMENT",
             Topic::Generate => "generate N, a number from 1 to 1000",
-            Topic::Disk => "disk CWD TARGET IMPORTER SPECIFIER, where TARGET is node or browser",
+            Topic::Disk => {
+                "disk [--trail | --explain | --bundle] CWD TARGET IMPORTER SPECIFIER.., where TARGET is node or browser"
+            }
         }
     }
 }

@@ -17,7 +17,7 @@ help audit: audit\n\
 help bundle: bundle\n\
 help replay: replay\n\
 help generate: generate N\n\
-disk --help: disk CWD TARGET IMPORTER SPECIFIER\n\
+disk --help: disk [--trail | --explain | --bundle] CWD TARGET IMPORTER SPECIFIER..\n\
 reslove: no such command; did you mean this? resolve [--trail | --explain] < DOCUMENT\n\
 resolv x y: no such command; did you mean this? resolve [--trail | --explain] < DOCUMENT\n\
 Session: no such command; did you mean this? session < DOCUMENT\n\
@@ -26,12 +26,12 @@ audits: no such command; did you mean this? audit < DOCUMENT\n\
 bundel: no such command; did you mean this? bundle < DOCUMENT\n\
 reply: no such command; did you mean this? replay < DOCUMENT\n\
 generat 5: no such command; did you mean this? generate N, a number from 1 to 1000\n\
-help dsik: no such command; did you mean this? disk CWD TARGET IMPORTER SPECIFIER, where TARGET is node or browser\n\
+help dsik: no such command; did you mean this? disk [--trail | --explain | --bundle] CWD TARGET IMPORTER SPECIFIER.., where TARGET is node or browser\n\
 find: no such command; `help` lists the commands\n\
 --verbose: no such command; `help` lists the commands\n\
 resolve --trails: usage: resolve [--trail | --explain] < DOCUMENT\n\
 generate 0: usage: generate N, a number from 1 to 1000\n\
-disk /w deno /w/a.js ./b: usage: disk CWD TARGET IMPORTER SPECIFIER, where TARGET is node or browser\n\
+disk /w deno /w/a.js ./b: usage: disk [--trail | --explain | --bundle] CWD TARGET IMPORTER SPECIFIER.., where TARGET is node or browser\n\
 help resolve now: usage: resolve [--trail | --explain] < DOCUMENT"
 }
 

@@ -1,4 +1,6 @@
--- Definitions of a request over a tree.
+-- Definitions of requests over a tree.
 pub mod Asked
 pub mod DiskRequest
-pub mod Outcome
+pub mod Errors
+pub mod Forms
+pub mod Outcomes

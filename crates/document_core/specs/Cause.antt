@@ -19,6 +19,7 @@ use Rattle.document_core.specs.declared.cause.Field.TheVariants.{
   Capacity,
   Steps,
   Manifest,
+  Bundle,
 }
 use Rattle.document_core.specs.declared.cause.Cause.{Cause}
 use Rattle.document_core.specs.declared.cause.Cause.TheVariants.{BadProject}
@@ -41,6 +42,7 @@ name_of Entries = codes "entries"
 name_of Capacity = codes "capacity"
 name_of Steps = codes "steps"
 name_of Manifest = codes "manifest"
+name_of Bundle = codes "bundle"
 
 -- a call meets what is wanted of it: it answers that, or want of memory
 abbrev pub Meets : {A : Type 0} → Result A DocumentError → Result A Cause → Type 0

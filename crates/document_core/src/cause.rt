@@ -6,6 +6,7 @@ use pnp_core::HydrationCause;
 use resolve_stack::ProjectError;
 use std::alloc::AllocError;
 use sugar_path::Text;
+use tree_core::Question;
 
 /// A field of a document.
 #[derive(Clone, Copy, Debug, PartialEq, Eq)]
@@ -24,6 +25,7 @@ pub enum Field {
     Capacity,
     Steps,
     Manifest,
+    Bundle,
 }
 
 impl Field {
@@ -46,6 +48,7 @@ impl Field {
             Field::Capacity => "capacity",
             Field::Steps => "steps",
             Field::Manifest => "manifest",
+            Field::Bundle => "bundle",
         }
     }
 }
@@ -59,8 +62,12 @@ pub enum Cause {
     BadField(Field),
     /// The first file that the tree refuses, and the other file on a conflict.
     BadTree { path: Text, other: Option<Text> },
+    /// The line at which the text of a bundle isn't that of one.
+    BadBundle { line: usize },
     /// Why the settings make no project.
     BadProject(ProjectError),
+    /// The first request of a bundle whose order puts a question to which the bundle has no reply, and that question.
+    NotRecorded { request: usize, question: Question },
     /// The project has no lock to be audited by.
     NoLock,
     /// Why the file that is to be audited is no manifest.

@@ -1,6 +1,8 @@
 // Writes the line of a refused document.
 ghost use Rattle.std.specs.Prelude.{◌≡◌, ◌++◌, IfOk, codes, string_bytes};
 ghost use Rattle.json.specs.Print.{quoted};
+ghost use Rattle.serde_json.specs.Written.{compact_text};
+ghost use Rattle.trail_texts.specs.TrailTexts.{question_value};
 ghost use Rattle.document_core.specs.CauseLine.{cause_line, cause_text, project_cause};
 
 use crate::cause::Cause;
@@ -9,6 +11,8 @@ use resolve_stack::ProjectError;
 use serde_json::Value;
 use std::alloc::{AllocError, Global};
 use sugar_path::Text;
+use trail_texts::value_of_question;
+use tree_core::Question;
 
 /// The line of a refused document, with its line end.
 #[tactic(auto, unfolding(crate::specs::CauseLine::cause_line))]
@@ -37,7 +41,12 @@ fn text_of_cause(alloc: Global, cause: &Cause) -> Result<String, AllocError>
             let other = quoted_text(alloc, other)?;
             format!(in alloc; "bad-tree {path} {other}")
         }
+        Cause::BadBundle { line } => format!(in alloc; "bad-bundle {line}"),
         Cause::BadProject(e) => text_of_project_error(alloc, e),
+        Cause::NotRecorded { request, question } => {
+            let question = text_of_question(alloc, question)?;
+            format!(in alloc; "not-recorded {request} {question}")
+        }
         Cause::NoLock => String::from_str(alloc, "no-lock"),
         Cause::Hydration(cause) => format!(in alloc; "hydration {}", name_of_cause(*cause)),
     }
@@ -60,6 +69,13 @@ fn text_of_project_error(alloc: Global, e: &ProjectError) -> Result<String, Allo
         }
         ProjectError::NoMemory => String::from_str(alloc, "bad-project NoMemory"),
     }
+}
+
+// A question as JSON.
+fn text_of_question(alloc: Global, question: &Question) -> Result<String, AllocError>
+    ensures { IfOk result (λ text. string_bytes text ≡ compact_text (question_value question.now)) }
+{
+    value_of_question(alloc, question)?.to_string(alloc)
 }
 
 // A text as JSON.

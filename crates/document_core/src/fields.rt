@@ -129,7 +129,7 @@ fn project_of<J: JsonValue>(
     requires { version ≡ version_in (J.stands_for value.now) }
     ensures { Meets result (project_fields_of (J.stands_for value.now)) }
 {
-    let (settings, lock) = read_settings(alloc, value, version)?;
+    let (settings, lock) = settings_of(alloc, value, version)?;
     let files: List<GivenFile> = required_field(alloc, value, Field::Files)?;
     Ok(GivenProject {
         settings,
@@ -138,9 +138,19 @@ fn project_of<J: JsonValue>(
     })
 }
 
+/// The settings that a JSON value gives, and the text of the lock, or the first cause against them.
+pub fn read_settings(
+    alloc: Global,
+    value: &Value,
+) -> Result<(GivenSettings, Option<Text>), DocumentError>
+    ensures { Meets result (settings_of (view value.now)) }
+{
+    settings_of(alloc, value, version_in(value))
+}
+
 // The settings that a JSON value gives, and the text of the lock, the version of the mapping being read.
 #[tactic(auto, unfolding(crate::specs::Fields::settings_of))]
-fn read_settings<J: JsonValue>(
+fn settings_of<J: JsonValue>(
     alloc: Global,
     value: &J,
     version: Option<TsVersion>,

@@ -1,14 +1,15 @@
 // Reads the files and the requests of a document from their JSON values.
-ghost use Rattle.std.specs.Prelude.{◌≡◌, codes, option_and_then, option_map};
-ghost use Rattle.std.specs.List.{list_all};
+ghost use Rattle.std.specs.Prelude.{codes, option_map};
 ghost use Rattle.serde_json.specs.Find.{as_str};
 ghost use Rattle.json_reading.specs.Reading.{ReadsAs, field_by, present_or};
-ghost use Rattle.document_core.specs.Given.{content_of, hex_bytes, importer_of, is_lower_hex_digit};
+ghost use Rattle.trail_texts.specs.Reading.{importer_of};
+ghost use Rattle.document_core.specs.Given.{content_of};
 
 use json_reading::{FromJson, FromJsonError, JsonValue, field};
 use resolve_stack::FileName;
 use std::alloc::Global;
 use sugar_path::{Bytes, Text};
+use trail_texts::{bytes_of_hex, read_importer};
 
 /// A file as a document gives it.
 #[derive(Drop)]
@@ -85,36 +86,6 @@ fn bytes_of_text(alloc: Global, text: Option<&str>) -> Result<Bytes, FromJsonErr
     }
 }
 
-// The bytes of a hex text in lower case.
-fn bytes_of_hex(alloc: Global, text: Option<&str>) -> Result<Bytes, FromJsonError>
-    ensures { ReadsAs result (option_and_then hex_bytes (option_map (λ t. t.now) text.entry)) }
-{
-    let Some(text) = text else {
-        return Err(FromJsonError::OtherKind);
-    };
-    if !is_lower_hex(text.as_bytes()) {
-        return Err(FromJsonError::OtherKind);
-    }
-    match hex::decode(alloc, text) {
-        Ok(bytes) => Ok(Bytes::from_vec(bytes)?),
-        Err(hex::FromHexError::OutOfMemory) => Err(FromJsonError::NoMemory),
-        Err(_) => Err(FromJsonError::OtherKind),
-    }
-}
-
-// Whether a text has digits of hex in lower case alone.
-fn is_lower_hex(text: &[u8]) -> bool
-    ensures { result ≡ list_all is_lower_hex_digit text.now }
-{
-    text.iter().all(|c| is_lower_hex_digit(*c))
-}
-
-fn is_lower_hex_digit(c: u8) -> bool
-    ensures { result ≡ is_lower_hex_digit c }
-{
-    matches!(c, b'0'..=b'9' | b'a'..=b'f')
-}
-
 impl FromJson for GivenRequest {
     ghost use Rattle.document_core.specs.Given.{request_of};
 
@@ -136,19 +107,7 @@ fn importer_in<J: JsonValue>(alloc: Global, request: &J) -> Result<FileName, Fro
         (field_by (codes "from") importer_of (J.stands_for request.now)) }
 {
     match request.member("from") {
-        Some(from) => importer(alloc, from),
+        Some(from) => read_importer(alloc, from),
         None => Err(FromJsonError::OtherKind),
     }
-}
-
-fn importer<J: JsonValue>(alloc: Global, value: &J) -> Result<FileName, FromJsonError>
-    ensures { ReadsAs result (importer_of (J.stands_for value.now)) }
-{
-    if value.is_null() {
-        return Ok(FileName::Anon);
-    }
-    if let Some(name) = value.as_str() {
-        return Ok(FileName::Real(Text::of(alloc, name)?));
-    }
-    Ok(FileName::Custom(field(alloc, value, "custom")?))
 }

@@ -63,6 +63,40 @@ fn a_tree_in_memory_is_a_disk(rt: HostRuntime) -> Result<(), Fail> {
     Ok(())
 }
 
+// Each form tells the specifiers in order; words that name two forms, or no specifier, are no command.
+#[test]
+fn requests_are_told_in_a_form(rt: HostRuntime) -> Result<(), Fail> {
+    let alloc = rt.alloc();
+    let trailed = "disk --trail /w node /w/a.js foo foo";
+    assert_eq!(rt; lines_told(alloc, "disk /w node /w/a.js foo foo")?, 2);
+    assert_eq!(rt; lines_told(alloc, trailed)?, 2);
+    assert!(rt; begins(alloc, trailed, "0 {\"answer\":{\"real\":\"/w/.yarn/foo/index.js\"},")?);
+    assert!(rt; begins(alloc, "disk --explain /w node /w/a.js foo", "0 foo from /w/a.js\n")?);
+    assert!(rt; is_told(alloc, "disk --trail --bundle /w node /w/a.js foo", "2 ")?);
+    assert!(rt; is_told(alloc, "disk --bundle /w node /w/a.js", "2 ")?);
+    Ok(())
+}
+
+// A request that is asked twice stands twice in the bundle, and its replies once.
+#[test]
+fn requests_are_bundled(rt: HostRuntime) -> Result<(), Fail> {
+    let alloc = rt.alloc();
+    let request = "{\"from\":\"/w/a.js\",\"specifier\":\"foo\"}\n";
+    let front = format!(in alloc; "0 trail-bundle 1 2 9\n{request}{request}[\"exists\",\"/.pnp.cjs\",")?;
+    assert!(rt; begins(alloc, "disk --bundle /w node /w/a.js foo foo", front.as_str())?);
+    Ok(())
+}
+
+fn begins(alloc: Global, words: &str, front: &str) -> Result<bool, Fail> {
+    let mut disk = bound(alloc)?;
+    Ok(told_by(alloc, words, &mut disk)?.as_str().starts_with(front))
+}
+
+fn lines_told(alloc: Global, words: &str) -> Result<usize, Fail> {
+    let mut disk = bound(alloc)?;
+    Ok(told_by(alloc, words, &mut disk)?.as_str().lines().count())
+}
+
 #[test]
 fn a_disk_that_fails_has_no_answer(rt: HostRuntime) -> Result<(), Fail> {
     let mut disk = bound(rt.alloc())?.fail_at(List::from(vec![in rt.alloc(); 3u64]?));

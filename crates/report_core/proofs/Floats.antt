@@ -6,8 +6,8 @@ use Rattle.serde_json.specs.Data.{Members}
 use Rattle.serde_json.specs.Written.{has_float, items_have_float, members_have_float}
 use Rattle.tree_core.specs.declared.question.Question.{Question}
 use Rattle.tree_core.specs.declared.question.Reply.{Reply}
-use Rattle.tree_core.specs.declared.question.Reply.TheVariants.{Flag, Bytes, Name}
-use Rattle.report_core.specs.Trails.{bytes_value, reply_value, step_value}
+use Rattle.trail_texts.specs.TrailTexts.{step_value}
+use Rattle.trail_texts.proofs.WithoutFloats.{step_without}
 use Rattle.report_core.specs.Lines.{trail_member}
 use Rattle.swc_loader.specs.declared.resolution.FileName.{FileName}
 use Rattle.swc_loader.specs.declared.resolution.FileName.TheVariants.{Real, Custom, Anon}
@@ -78,18 +78,9 @@ pub verdict_without : (last : Members) (verdict : Verdict) → members_have_floa
 verdict_without last (Answered answer) without = answer_without last answer without
 verdict_without last (Refused refusal) without = rw (refused_without refusal) without
 
-bytes_without : (o : Option (List ℕ)) → has_float (bytes_value o) ≡ false
-bytes_without None = refl
-bytes_without (Some bytes) = refl
-
-reply_without : (r : Reply) → has_float (reply_value r) ≡ false
-reply_without (Flag b) = refl
-reply_without (Bytes o) = bytes_without o
-reply_without (Name o) = text_without o
-
 steps_without : (steps : List (Question × Reply)) → items_have_float (items_of (map step_value steps)) ≡ false
 steps_without [] = refl
-steps_without (step ∷ steps) = rw (reply_without step.1) (steps_without steps)
+steps_without (step ∷ steps) = rw (step_without step) (steps_without steps)
 
 pub trail_without : (steps : List (Question × Reply)) → members_have_float (trail_member steps) ≡ false
 trail_without steps = rw (steps_without steps) refl

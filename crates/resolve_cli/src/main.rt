@@ -67,6 +67,9 @@ fn fault_line(status: Status) -> Option<&'static str> {
         Status::TooLong => Some("the document has more than 67,108,864 bytes"),
         Status::NoMemory => Some("no memory was found"),
         Status::TreeFault => Some("a question to the files of this machine failed"),
+        Status::TwoReplies => {
+            Some("the files of this machine changed: one question got two replies, so there is no bundle")
+        }
     }
 }
 

@@ -13,5 +13,6 @@ pub mod LineCauses
 pub mod Decodings
 pub mod Sorted
 pub mod Keeping
+pub mod FirstReplies
 pub mod TrailLaws
 pub mod Replays

@@ -11,6 +11,7 @@ pub mod Steps
 pub mod BundleView
 pub mod Keeping
 pub mod Adding
+pub mod FirstReplies
 pub mod Replaying
 pub mod ReplayingParts
 pub mod Laws

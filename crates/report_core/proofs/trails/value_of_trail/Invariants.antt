@@ -2,7 +2,7 @@ use Rattle.std.proofs.Common.{◌≡◌, ◌++◌}
 use Rattle.std.specs.Prelude.{map}
 use Rattle.std.specs.Slice.Iter.{iter_rest}
 use Rattle.serde_json.specs.View.{view}
-use Rattle.report_core.specs.Trails.{step_value}
+use Rattle.trail_texts.specs.TrailTexts.{step_value}
 use Rattle.report_core.proofs.trails.value_of_trail.Given as goal
 
 -- the values so far stand in front of those of the questions that are left

@@ -1,7 +1,7 @@
 use Rattle.std.proofs.Common.{refl}
 use Rattle.document_core.specs.Fields.{settings_of}
 use Rattle.document_core.proofs.Causes.{meets_raised, meets_stops, meets_then, ok_then}
-use Rattle.document_core.proofs.fields.read_settings.Goals as goal
+use Rattle.document_core.proofs.fields.settings_of.Goals as goal
 
 pub returns-in_err-cwd : goal.returns-in_err-cwd
 unfolding settings_of
