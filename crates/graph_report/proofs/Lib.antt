@@ -1,3 +1,3 @@
-pub mod Floats
+pub mod Items
 pub mod Steps
 pub mod Reports

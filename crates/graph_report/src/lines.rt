@@ -1,7 +1,8 @@
 // The lines of the steps over an import graph.
 ghost use Rattle.std.specs.Prelude.{◌≡◌, IfOk, OnOk, map, string_bytes};
 ghost use Rattle.serde_json.specs.Data.{array, string};
-ghost use Rattle.serde_json.specs.View.{items_of, view};
+ghost use Rattle.serde_json.specs.View.{items_of};
+ghost use Rattle.report_core.specs.Puts.{IsPut};
 ghost use Rattle.session_report.specs.Lines.{line_of};
 ghost use Rattle.import_graph.specs.GraphView.{graph_state};
 ghost use Rattle.graph_report.specs.Lines.{LeavesAfter, edge_value, graph_value, node_value, step_line, step_lines};
@@ -10,9 +11,8 @@ ghost use Rattle.graph_report.specs.declared.step.GraphStep.TheVariants as step;
 use crate::step::GraphStep;
 use document_core::GivenFile;
 use import_graph::{Edge, Graph, GraphSession, LineScan, Node};
-use report_core::value_of_verdict;
-use serde_json::{Value, json};
-use session_report::{line_of_put, line_of_removal, line_of_value};
+use report_core::{put_comma, put_member, put_text, put_verdict};
+use session_report::{line_of_put, line_of_removal};
 use std::alloc::{AllocError, Global};
 use sugar_path::Text;
 
@@ -93,62 +93,84 @@ fn remove(
 }
 
 // The line of a graph.
+#[tactic(auto, unfolding(session_report::specs::Lines::line_of))]
 fn line_of_graph(alloc: Global, graph: &Graph) -> Result<String, AllocError>
     ensures { IfOk result (λ line. string_bytes line ≡ line_of (graph_value graph.now)) }
 {
-    line_of_value(alloc, value_of_graph(alloc, graph)?)
+    let mut line = String::new(alloc);
+    put_graph(&mut line, graph)?;
+    line.push_str("\n")?;
+    Ok(line)
 }
 
-fn value_of_graph(alloc: Global, graph: &Graph) -> Result<Value, AllocError>
-    ensures { IfOk result (λ value. view value ≡ graph_value graph.now) }
+// Puts a graph.
+fn put_graph(out: &mut String, graph: &Graph) -> Result<(), AllocError>
+    ensures { OnOk result (IsPut (string_bytes out.old) (string_bytes out.new) (graph_value graph.now)) }
 {
-    let missing = value_of_texts(alloc, graph.missing.as_slice())?;
-    let nodes = value_of_nodes(alloc, graph.nodes.as_slice())?;
-    json!(in alloc; {"missing": missing, "nodes": nodes})
+    out.push_str("{")?;
+    put_member(out, false, "missing")?;
+    put_texts(out, graph.missing.as_slice())?;
+    put_member(out, true, "nodes")?;
+    put_nodes(out, graph.nodes.as_slice())?;
+    out.push_str("}")
 }
 
-fn value_of_texts(alloc: Global, texts: &[Text]) -> Result<Value, AllocError>
-    ensures { IfOk result (λ value. view value ≡ array (items_of (map string texts.now))) }
+fn put_texts(out: &mut String, texts: &[Text]) -> Result<(), AllocError>
+    ensures { OnOk result (IsPut (string_bytes out.old) (string_bytes out.new)
+        (array (items_of (map string texts.now)))) }
 {
-    let mut values = Vec::new(alloc);
-    for text in texts {
-        values.push(Value::try_from_str(alloc, text.as_str())?)?;
+    out.push_str("[")?;
+    for (i, text) in texts.iter().enumerate() {
+        put_comma(out, 0 < i)?;
+        put_text(out, text.as_str())?;
     }
-    Ok(Value::Array(values))
+    out.push_str("]")
 }
 
-fn value_of_nodes(alloc: Global, nodes: &[Node]) -> Result<Value, AllocError>
-    ensures { IfOk result (λ value. view value ≡ array (items_of (map node_value nodes.now))) }
+fn put_nodes(out: &mut String, nodes: &[Node]) -> Result<(), AllocError>
+    ensures { OnOk result (IsPut (string_bytes out.old) (string_bytes out.new)
+        (array (items_of (map node_value nodes.now)))) }
 {
-    let mut values = Vec::new(alloc);
-    for node in nodes {
-        values.push(value_of_node(alloc, node)?)?;
+    out.push_str("[")?;
+    for (i, node) in nodes.iter().enumerate() {
+        put_comma(out, 0 < i)?;
+        put_node(out, node)?;
     }
-    Ok(Value::Array(values))
+    out.push_str("]")
 }
 
-// A file with its imports.
-fn value_of_node(alloc: Global, node: &Node) -> Result<Value, AllocError>
-    ensures { IfOk result (λ value. view value ≡ node_value node.now) }
+// Puts a file with its imports.
+fn put_node(out: &mut String, node: &Node) -> Result<(), AllocError>
+    ensures { OnOk result (IsPut (string_bytes out.old) (string_bytes out.new) (node_value node.now)) }
 {
-    let edges = value_of_edges(alloc, node.edges.as_slice())?;
-    json!(in alloc; {"edges": edges, "file": node.file.as_str()})
+    out.push_str("{")?;
+    put_member(out, false, "edges")?;
+    put_edges(out, node.edges.as_slice())?;
+    put_member(out, true, "file")?;
+    put_text(out, node.file.as_str())?;
+    out.push_str("}")
 }
 
-fn value_of_edges(alloc: Global, edges: &[Edge]) -> Result<Value, AllocError>
-    ensures { IfOk result (λ value. view value ≡ array (items_of (map edge_value edges.now))) }
+fn put_edges(out: &mut String, edges: &[Edge]) -> Result<(), AllocError>
+    ensures { OnOk result (IsPut (string_bytes out.old) (string_bytes out.new)
+        (array (items_of (map edge_value edges.now)))) }
 {
-    let mut values = Vec::new(alloc);
-    for edge in edges {
-        values.push(value_of_edge(alloc, edge)?)?;
+    out.push_str("[")?;
+    for (i, edge) in edges.iter().enumerate() {
+        put_comma(out, 0 < i)?;
+        put_edge(out, edge)?;
     }
-    Ok(Value::Array(values))
+    out.push_str("]")
 }
 
-// An import with its verdict.
-fn value_of_edge(alloc: Global, edge: &Edge) -> Result<Value, AllocError>
-    ensures { IfOk result (λ value. view value ≡ edge_value edge.now) }
+// Puts an import with its verdict.
+fn put_edge(out: &mut String, edge: &Edge) -> Result<(), AllocError>
+    ensures { OnOk result (IsPut (string_bytes out.old) (string_bytes out.new) (edge_value edge.now)) }
 {
-    let verdict = value_of_verdict(alloc, &edge.verdict)?;
-    json!(in alloc; {"specifier": edge.specifier.as_str(), "verdict": verdict})
+    out.push_str("{")?;
+    put_member(out, false, "specifier")?;
+    put_text(out, edge.specifier.as_str())?;
+    put_member(out, true, "verdict")?;
+    put_verdict(out, &edge.verdict)?;
+    out.push_str("}")
 }

@@ -33,6 +33,8 @@ pub(crate) struct Sources<'l, S: Scan + Drop> {
     scanner: S,
     // what was scanned, by path, of files that are as they were then
     scans: HashMap<String, Imports>,
+    // the numbers that the outcomes of a file's imports had when they were asked last: hints, of which nothing is known
+    hints: HashMap<String, Vec<u64>>,
 }
 
 impl<'l, S: Scan + Drop> Model for Sources<'l, S> {
@@ -62,6 +64,7 @@ impl<'l, S: Scan + Drop> Sources<'l, S> {
             session,
             scanner,
             scans: HashMap::new(alloc),
+            hints: HashMap::new(alloc),
         }
     }
 
@@ -96,6 +99,7 @@ impl<'l, S: Scan + Drop> Sources<'l, S> {
     {
         let dropped = self.session.remove(path)?;
         self.scans.remove(path);
+        self.hints.remove(path);
         Some(dropped)
     }
 
@@ -145,8 +149,34 @@ impl<'l, S: Scan + Drop> Sources<'l, S> {
             file,
         )?;
         let texts = texts_of(&self.scans, file);
-        edges_by(self.alloc, &mut self.session, &importer, texts)
+        let hints = hints_of(&self.hints, file);
+        let asked = edges_by(self.alloc, &mut self.session, &importer, texts, hints)?;
+        keep_hints(self.alloc, &mut self.hints, file, asked.numbers)?;
+        Ok(List::from(asked.edges))
     }
+}
+
+// The numbers that the outcomes of a file's imports had when they were asked last.
+fn hints_of<'s>(hints: &'s HashMap<String, Vec<u64>>, file: &Text) -> &'s [u64] {
+    match hints.get(file.as_str()) {
+        Some(numbers) => numbers.as_slice(),
+        None => &[],
+    }
+}
+
+// Keeps the numbers of a file's imports.
+fn keep_hints(
+    alloc: Global,
+    hints: &mut HashMap<String, Vec<u64>>,
+    file: &Text,
+    numbers: Vec<u64>,
+) -> Result<(), AllocError> {
+    if let Some(kept) = hints.get_mut(file.as_str()) {
+        *kept = numbers;
+        return Ok(());
+    }
+    hints.insert(String::from_str(alloc, file.as_str())?, numbers)?;
+    Ok(())
 }
 
 // Keeps what a file imports. A file that was scanned is scanned no more.
@@ -196,23 +226,35 @@ fn texts_of<'s>(scans: &'s HashMap<String, Imports>, file: &Text) -> &'s [Text]
     }
 }
 
-// The edges of an importer, by its imports.
+// Edges that were asked, and the numbers of their outcomes.
+#[derive(Drop)]
+struct Asked {
+    edges: Vec<Edge>,
+    numbers: Vec<u64>,
+}
+
+// The edges of an importer, by its imports. The numbers that their outcomes had before are hints.
 fn edges_by(
     alloc: Global,
     session: &mut Session<'_>,
     importer: &FileName,
     texts: &[Text],
-) -> Result<List<Edge>, AllocError>
+    hints: &[u64],
+) -> Result<Asked, AllocError>
     ensures asked { OnOk result (state_of session.new ≡ after_asks (state_of session.old)
         (map (λ text. (importer.now, text)) texts.now)) }
-    ensures edges { IfOk result (λ edges. edges ≡ map (edge_by (state_of session.old) importer.now) texts.now) }
+    ensures edges { IfOk result (λ asked.
+        asked.edges.items ≡ map (edge_by (state_of session.old) importer.now) texts.now) }
     ensures same { IsSameBut (state_of session.old) (state_of session.new) }
 {
-    let mut edges = Vec::new(alloc);
+    let mut edges = Vec::with_capacity(alloc, texts.len())?;
+    let mut numbers = Vec::with_capacity(alloc, texts.len())?;
     for text in texts {
-        edges.push(edge_by(alloc, session, importer, text)?)?;
+        let hint = hints.get(edges.len()).copied();
+        edges.push(edge_by(alloc, session, importer, text, hint)?)?;
+        numbers.push(session.latest_number().unwrap_or(0))?;
     }
-    Ok(List::from(edges))
+    Ok(Asked { edges, numbers })
 }
 
 // An edge of an importer.
@@ -221,6 +263,7 @@ fn edge_by(
     session: &mut Session<'_>,
     importer: &FileName,
     text: &Text,
+    hint: Option<u64>,
 ) -> Result<Edge, AllocError>
     ensures asked { OnOk result
         (state_of session.new ≡ after_ask (state_of session.old) importer.now text.now) }
@@ -228,7 +271,7 @@ fn edge_by(
     ensures err { OnErr result (IsSameBut (state_of session.old) (state_of session.new)) }
 {
     let specifier = text.try_clone(alloc)?;
-    let outcome = session.ask(importer, text.as_str())?;
+    let outcome = session.ask_at(hint, importer, text.as_str())?;
     let verdict = outcome.verdict.try_clone(alloc)?;
     Ok(Edge { specifier, verdict })
 }

@@ -1,5 +1,5 @@
 // The walk from entries over all files that they lead to.
-ghost use Rattle.std.specs.Prelude.{◌≡◌, IfOk, OnOk, bytes_eq, flat_map};
+ghost use Rattle.std.specs.Prelude.{◌≡◌, ◌∷◌, [], IfOk, OnOk, bytes_eq, flat_map};
 ghost use Rattle.std.specs.List.{IsDistinct};
 ghost use Rattle.std.specs.Option.{option_copied};
 ghost use Rattle.indexmap.specs.IndexSet.{insert_all};
@@ -111,8 +111,18 @@ fn see(alloc: Global, seen: &mut IndexSet<Text>, node: &Node) -> Result<(), Allo
 {
     for edge in node.edges.as_slice() {
         if let Some(file) = found_file(&edge.verdict) {
-            seen.insert(file.try_clone(alloc)?)?;
+            note_seen(alloc, seen, file)?;
         }
+    }
+    Ok(())
+}
+
+// A file is seen. One that was seen before takes no memory.
+fn note_seen(alloc: Global, seen: &mut IndexSet<Text>, file: &Text) -> Result<(), AllocError>
+    ensures { OnOk result (seen.new.keys ≡ insert_all bytes_eq seen.old.keys (file.now ∷ [])) }
+{
+    if !seen.contains(file) {
+        seen.insert(file.try_clone(alloc)?)?;
     }
     Ok(())
 }

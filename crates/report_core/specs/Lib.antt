@@ -1,3 +1,4 @@
 pub mod Verdicts
 pub mod Trails
 pub mod Lines
+pub mod Puts

@@ -2,8 +2,7 @@
 ghost use Rattle.std.specs.Prelude.{◌≡◌, IfOk, string_bytes};
 ghost use Rattle.report_core.specs.Lines.{line_with_trail, outcome_line, verdict_line};
 
-use crate::trails::value_of_trail;
-use crate::verdicts::{value_of_verdict, value_with_trail};
+use crate::put_verdicts::{put_outcome, put_verdict};
 use resolve_stack::{Outcome, Verdict};
 use std::alloc::{AllocError, Global};
 
@@ -12,8 +11,8 @@ use std::alloc::{AllocError, Global};
 pub fn line_of_verdict(alloc: Global, verdict: &Verdict) -> Result<String, AllocError>
     ensures { IfOk result (λ line. string_bytes line ≡ verdict_line verdict.now) }
 {
-    let value = value_of_verdict(alloc, verdict)?;
-    let mut line = value.to_string(alloc)?;
+    let mut line = String::new(alloc);
+    put_verdict(&mut line, verdict)?;
     line.push_str("\n")?;
     Ok(line)
 }
@@ -23,9 +22,8 @@ pub fn line_of_verdict(alloc: Global, verdict: &Verdict) -> Result<String, Alloc
 pub fn line_with_trail(alloc: Global, outcome: &Outcome) -> Result<String, AllocError>
     ensures { IfOk result (λ line. string_bytes line ≡ line_with_trail outcome.now) }
 {
-    let trail = value_of_trail(alloc, &outcome.trail)?;
-    let value = value_with_trail(alloc, &outcome.verdict, trail)?;
-    let mut line = value.to_string(alloc)?;
+    let mut line = String::new(alloc);
+    put_outcome(&mut line, outcome)?;
     line.push_str("\n")?;
     Ok(line)
 }

@@ -1,77 +1,16 @@
-// Writes verdicts as values of JSON.
-ghost use Rattle.std.specs.Prelude.{◌≡◌, IfOk, codes, map};
-ghost use Rattle.serde_json.specs.Data.{array, member, no_members};
+// Writes refusals as values of JSON.
+ghost use Rattle.std.specs.Prelude.{◌≡◌, IfOk, map};
+ghost use Rattle.serde_json.specs.Data.{array};
 ghost use Rattle.serde_json.specs.View.{items_of, view};
-ghost use Rattle.report_core.specs.Verdicts.{answer_value, cause_name, found_value, locator_value, name_value};
-ghost use Rattle.report_core.specs.Verdicts.{package_value, refusal_value, refused_value, text_or_null};
-ghost use Rattle.report_core.specs.Verdicts.{verdict_value, via_value};
+ghost use Rattle.report_core.specs.Verdicts.{cause_name, locator_value, package_value};
+ghost use Rattle.report_core.specs.Verdicts.{refusal_value, refused_value, text_or_null};
 ghost use Rattle.resolve_stack.specs.declared.verdict.JoinRefusal.TheVariants as refusal;
 
 use pnp_core::{HydrationCause, MissingPeerDependency, PackageLocator, UndeclaredDependency};
-use resolve_stack::{FileName, Found, JoinRefusal, Refusal, Resolution, TsRefusal, Verdict, Via};
+use resolve_stack::{JoinRefusal, Refusal, TsRefusal};
 use serde_json::{Value, json};
 use std::alloc::{AllocError, Global};
 use sugar_path::Text;
-
-/// The object of a verdict, without a trail.
-pub fn value_of_verdict(alloc: Global, verdict: &Verdict) -> Result<Value, AllocError>
-    ensures { IfOk result (λ value. view value ≡ verdict_value no_members verdict.now) }
-{
-    match verdict {
-        Verdict::Answered(answer) => value_of_answer(alloc, answer),
-        Verdict::Refused(refusal) => {
-            let refused = value_of_refused(alloc, refusal)?;
-            json!(in alloc; {"refused": refused})
-        }
-    }
-}
-
-// A verdict with the value of its trail.
-pub(crate) fn value_with_trail(
-    alloc: Global,
-    verdict: &Verdict,
-    trail: Value,
-) -> Result<Value, AllocError>
-    ensures { IfOk result (λ value. view value ≡
-        verdict_value (member (codes "trail") (view trail) no_members) verdict.now) }
-{
-    match verdict {
-        Verdict::Answered(answer) => answer_with_trail(alloc, answer, trail),
-        Verdict::Refused(refusal) => {
-            let refused = value_of_refused(alloc, refusal)?;
-            json!(in alloc; {"refused": refused, "trail": trail})
-        }
-    }
-}
-
-fn value_of_answer(alloc: Global, answer: &Resolution) -> Result<Value, AllocError>
-    ensures { IfOk result (λ value. view value ≡ answer_value no_members answer.now) }
-{
-    let name = value_of_name(alloc, &answer.filename)?;
-    let found = value_of_found(alloc, &answer.found)?;
-    let slug = value_of_text(alloc, &answer.slug)?;
-    json!(in alloc; {"answer": name, "found": found, "slug": slug})
-}
-
-fn answer_with_trail(alloc: Global, answer: &Resolution, trail: Value) -> Result<Value, AllocError>
-    ensures { IfOk result (λ value. view value ≡
-        answer_value (member (codes "trail") (view trail) no_members) answer.now) }
-{
-    let name = value_of_name(alloc, &answer.filename)?;
-    let found = value_of_found(alloc, &answer.found)?;
-    let slug = value_of_text(alloc, &answer.slug)?;
-    json!(in alloc; {"answer": name, "found": found, "slug": slug, "trail": trail})
-}
-
-fn value_of_name(alloc: Global, name: &FileName) -> Result<Value, AllocError>
-    ensures { IfOk result (λ value. view value ≡ name_value name.now) }
-{
-    match name {
-        FileName::Real(text) => json!(in alloc; {"real": text.as_str()}),
-        FileName::Custom(text) => json!(in alloc; {"custom": text.as_str()}),
-        FileName::Anon => Ok(Value::Null),
-    }
-}
 
 pub(crate) fn value_of_text(alloc: Global, text: &Option<Text>) -> Result<Value, AllocError>
     ensures { IfOk result (λ value. view value ≡ text_or_null text.now) }
@@ -82,33 +21,8 @@ pub(crate) fn value_of_text(alloc: Global, text: &Option<Text>) -> Result<Value,
     }
 }
 
-fn value_of_found(alloc: Global, found: &Option<Found>) -> Result<Value, AllocError>
-    ensures { IfOk result (λ value. view value ≡ found_value found.now) }
-{
-    match found {
-        None => Ok(Value::Null),
-        Some(found) => {
-            let via = value_of_via(alloc, &found.via)?;
-            json!(in alloc; {"file": found.file.as_str(), "via": via})
-        }
-    }
-}
-
-fn value_of_via(alloc: Global, via: &Option<Via>) -> Result<Value, AllocError>
-    ensures { IfOk result (λ value. view value ≡ via_value via.now) }
-{
-    match via {
-        None => Ok(Value::Null),
-        Some(via) => json!(in alloc; {
-            "location": via.location.as_str(),
-            "name": via.name.as_str(),
-            "reference": via.reference.as_str()
-        }),
-    }
-}
-
 // The refusal of a request.
-fn value_of_refused(alloc: Global, refusal: &Refusal) -> Result<Value, AllocError>
+pub(crate) fn value_of_refused(alloc: Global, refusal: &Refusal) -> Result<Value, AllocError>
     ensures { IfOk result (λ value. view value ≡ refused_value refusal.now) }
 {
     match refusal {

@@ -149,8 +149,8 @@ fn fits(sought: &Sought<'_>, entry: &Entry) -> bool
     }
 }
 
-// Whether an entry is that of a request.
-fn is_for(entry: &Entry, importer: &FileName, specifier: &str) -> bool
+/// Whether an entry is that of a request.
+pub(crate) fn is_for(entry: &Entry, importer: &FileName, specifier: &str) -> bool
     ensures { result ≡ is_for importer.now specifier.now entry.now }
 {
     entry.importer == *importer && entry.specifier.as_str() == specifier

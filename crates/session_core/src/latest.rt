@@ -10,7 +10,7 @@ ghost use Rattle.session_core.specs.Numbered.{kept_in, IsNumberOf};
 ghost use Rattle.session_core.specs.Index.{IsNotedEntry};
 ghost use Rattle.session_core.specs.declared.latest.Entry.{Entry as TheEntry};
 
-use crate::index::{EntryIndex, Sought};
+use crate::index::{EntryIndex, Sought, is_for};
 use lru::LruCache;
 use resolve_stack::{FileName, Outcome};
 use std::alloc::{AllocError, Global};
@@ -86,6 +86,45 @@ impl Latest {
         match self.index.first_of(&self.entries, &sought) {
             None => false,
             Some(number) => self.entries.promote(&number),
+        }
+    }
+
+    /// Moves the entry of a request to the front, as `recall` does. It is looked for at a number first, which needs no
+    /// search where the entry has it.
+    pub(crate) fn recall_at(
+        &mut self,
+        hint: Option<u64>,
+        importer: &FileName,
+        specifier: &str,
+    ) -> bool
+        ensures there { result ≡ is_some (kept_for importer.now specifier.now (kept_in self.old)) }
+        ensures moved { kept_in self.new ≡ moved_first importer.now specifier.now (kept_in self.old)
+            (kept_for importer.now specifier.now (kept_in self.old)) }
+        ensures capacity { self.new.capacity ≡ self.old.capacity }
+    {
+        match self.number_at(hint, importer, specifier) {
+            None => self.recall(importer, specifier),
+            Some(number) => self.entries.promote(&number),
+        }
+    }
+
+    // A number, where the entry with it is that of a request.
+    fn number_at(&self, hint: Option<u64>, importer: &FileName, specifier: &str) -> Option<u64>
+        ensures { IfSome result (λ n. IsNumberOf (is_for importer.now specifier.now) self.now.entries n) }
+    {
+        let number = hint?;
+        let entry = self.entries.peek(&number)?;
+        if is_for(entry, importer, specifier) {
+            return Some(number);
+        }
+        None
+    }
+
+    /// The number of the entry in front. It is a hint: no promise reads it.
+    pub(crate) fn front(&self) -> Option<u64> {
+        match self.entries.iter().next() {
+            None => None,
+            Some((number, _)) => Some(*number),
         }
     }
 

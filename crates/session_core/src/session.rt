@@ -93,12 +93,42 @@ impl<'l> Session<'l> {
         ensures kept { IsSome (kept_for importer.now specifier.now (state_of self.old).kept)
             → IsOk result }
     {
-        self.bring_first(importer, specifier)?;
+        self.bring_first(None, importer, specifier)?;
         Ok(self.first())
     }
 
+    /// The outcome of a request, as `ask` gives it. What `latest_number` told when the request was asked before is a
+    /// hint by which its outcome is found without a search, where it is still kept.
+    pub fn ask_at(
+        &mut self,
+        hint: Option<u64>,
+        importer: &FileName,
+        specifier: &str,
+    ) -> Result<&Outcome, AllocError>
+        ensures* ends { sem 𝓛 (AfterLoan self.entry (λ then. MatchResult result
+            (λ _. state_of then ≡ after_ask (state_of self.old) importer.now specifier.now)
+            (λ _. IsStarved importer.now specifier.now (state_of self.old) (state_of then)))) }
+        ensures outcome { IfOk result (λ o. o.now ≡ outcome_on (state_of self.old).tree.files
+            (state_of self.old).project importer.now specifier.now) }
+        ensures kept { IsSome (kept_for importer.now specifier.now (state_of self.old).kept)
+            → IsOk result }
+    {
+        self.bring_first(hint, importer, specifier)?;
+        Ok(self.first())
+    }
+
+    /// The number of the outcome that was asked for last, as a hint for `ask_at`. No promise reads it.
+    pub fn latest_number(&self) -> Option<u64> {
+        self.latest.front()
+    }
+
     // Puts the outcome of a request in front: the one that is kept, or else a new one.
-    fn bring_first(&mut self, importer: &FileName, specifier: &str) -> Result<(), AllocError>
+    fn bring_first(
+        &mut self,
+        hint: Option<u64>,
+        importer: &FileName,
+        specifier: &str,
+    ) -> Result<(), AllocError>
         ensures ok { OnOk result
             (state_of self.new ≡ after_ask (state_of self.old) importer.now specifier.now) }
         ensures err { OnErr result (IsStarved importer.now specifier.now
@@ -106,7 +136,7 @@ impl<'l> Session<'l> {
         ensures kept { IsSome (kept_for importer.now specifier.now (state_of self.old).kept)
             → IsOk result }
     {
-        if self.latest.recall(importer, specifier) {
+        if self.latest.recall_at(hint, importer, specifier) {
             return Ok(());
         }
         let outcome = outcome_of(

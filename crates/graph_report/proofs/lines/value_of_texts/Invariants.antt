@@ -1,9 +1,0 @@
-use Rattle.std.proofs.Common.{◌≡◌, take}
-use Rattle.std.specs.Prelude.{map}
-use Rattle.serde_json.specs.Data.{string}
-use Rattle.serde_json.specs.View.{view}
-use Rattle.graph_report.proofs.lines.value_of_texts.Given as goal
-
--- the values so far are those of the texts so far
-abbrev pub invariant-loop-text : goal.invariant-loop-text
-invariant-loop-text l = map view l.values.items ≡ map string (take l.text-index l.texts)
