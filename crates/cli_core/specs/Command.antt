@@ -5,6 +5,7 @@ use Rattle.std.specs.Prelude.{
   ◌-◌,
   ◌*◌,
   Bool,
+  true,
   false,
   ◌&&◌,
   nat_le,
@@ -28,7 +29,7 @@ use Rattle.swc_loader.specs.declared.target.TargetEnv.{TargetEnv}
 use Rattle.swc_loader.specs.declared.target.TargetEnv.TheVariants.{Browser, Node}
 use Rattle.disk_report.specs.Asked.{Asked}
 use Rattle.cli_core.specs.declared.command.Command.{Command}
-use Rattle.cli_core.specs.declared.command.Command.TheVariants.{Report, Replay, Generate, Disk}
+use Rattle.cli_core.specs.declared.command.Command.TheVariants.{Report, Replay, Imports, Generate, Disk}
 use Rattle.cli_core.specs.declared.document_kind.DocumentKind.TheVariants.{Requests, Steps, Graphs, Audit, Bundle}
 use Rattle.cli_core.specs.declared.command.TheConstants.{LARGEST}
 use Rattle.cli_core.specs.declared.report.OutcomeForm.{OutcomeForm}
@@ -58,7 +59,7 @@ target_of word =
     else if bytes_eq word (codes "node") then Some Node
     else None
 
--- one word: `resolve`, `session`, `graph`, `audit`, `bundle` or `replay`
+-- one word: `resolve`, `session`, `graph`, `audit`, `bundle`, `replay` or `imports`
 abbrev pub command_of_one : List ℕ → Option Command
 command_of_one word =
     if bytes_eq word (codes "resolve") then Some (Report (Requests Line))
@@ -67,6 +68,7 @@ command_of_one word =
     else if bytes_eq word (codes "audit") then Some (Report Audit)
     else if bytes_eq word (codes "bundle") then Some (Report Bundle)
     else if bytes_eq word (codes "replay") then Some Replay
+    else if bytes_eq word (codes "imports") then Some (Imports false)
     else None
 
 -- the form in which outcomes are told behind `resolve`
@@ -76,11 +78,16 @@ form_of word =
     else if bytes_eq word (codes "--explain") then Some Text
     else None
 
--- two words: `resolve` and a form, or `generate` and a size
+-- the command that reads elements of JSX behind `imports`
+abbrev pub imports_with : List ℕ → Option Command
+imports_with word = if bytes_eq word (codes "--jsx") then Some (Imports true) else None
+
+-- two words: `resolve` and a form, `generate` and a size, or `imports` and `--jsx`
 abbrev pub command_of_two : List ℕ → List ℕ → Option Command
 command_of_two word next =
     if bytes_eq word (codes "resolve") then option_map (λ form. Report (Requests form)) (form_of next)
     else if bytes_eq word (codes "generate") then option_map Generate (size_of next)
+    else if bytes_eq word (codes "imports") then imports_with next
     else None
 
 -- five words: `disk`, a working folder, a target, an importer and a specifier

@@ -4,6 +4,7 @@
 mod command;
 mod document_kind;
 mod generating;
+mod importing;
 mod memory_sinks;
 mod memory_sources;
 mod on_disk;

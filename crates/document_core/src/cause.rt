@@ -23,6 +23,7 @@ pub enum Field {
     Entries,
     Capacity,
     Steps,
+    Scanner,
     Manifest,
 }
 
@@ -45,6 +46,7 @@ impl Field {
             Field::Entries => "entries",
             Field::Capacity => "capacity",
             Field::Steps => "steps",
+            Field::Scanner => "scanner",
             Field::Manifest => "manifest",
         }
     }
