@@ -24,12 +24,11 @@ use tree_core::Tree;
 
 /// Runs a command. `resolve` reads one document from the source, and writes a line for each of its requests to the
 /// sink, with its trail behind the word `--trail`, or a text for people behind `--explain`; or the line of the first
-/// cause against the document. `session` does
-/// that with the steps of a session document, `graph` with those of a graph document, and `audit` with the audit that
-/// an
-/// audit document asks for. `bundle` writes the bundle of a document's requests, and `replay` the lines of a bundle's
-/// verdicts. `imports` reads a source text, and writes a line for each of its imports. `generate` and a number resolves the generated project of so many packages, and writes its counts. `disk`,
-/// a working folder, a target, an importer and a specifier resolves one request over the disk.
+/// cause against the document. `session` does that with the steps of a session document, `graph` with those of a graph
+/// document, and `audit` with the audit that an audit document asks for. `bundle` writes the bundle of a document's
+/// requests, and `replay` the lines of a bundle's verdicts. `imports` reads a source text, and writes a line for each
+/// of its imports. `generate` and a number resolves the generated project of so many packages, and writes its counts.
+/// `disk`, a working folder, a target, an importer and a specifier resolves one request over the disk.
 pub fn run<S: Source, K: Sink, T: Tree>(
     alloc: Global,
     words: &[String],

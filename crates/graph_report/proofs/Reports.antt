@@ -63,7 +63,8 @@ report_by bytes fields t result read filed lines =
     by_project (Err cause) told = told
 
 -- the lines in a project that is refused
-pub lines_refused : (imports : List ℕ → List (List ℕ)) (t : Files) (entries : List (List ℕ)) (capacity : ℕ) (steps : List GraphStep)
+pub lines_refused : (imports : List ℕ → List (List ℕ)) (t : Files) (entries : List (List ℕ)) (capacity : ℕ)
+    (steps : List GraphStep)
     (made : Result ProjectSettings Cause) (e : DocumentError) → Meets {A = ProjectSettings} (Err e) made
     → Meets {A = List ℕ} (Err e) (lines_by imports t entries capacity steps made)
 lines_refused imports t entries capacity steps made (Refused cause) found = rw found refl

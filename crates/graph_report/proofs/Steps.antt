@@ -72,7 +72,8 @@ pub lines-counted : (imports : List ℕ → List (List ℕ)) (steps : List Graph
 lines-counted imports [] s n = refl
 lines-counted imports (step ∷ steps) s n =
     let next = step-counted imports s n step in
-    ap (λ line. line ++ step_lines imports (after_step imports (counted s n) step) steps) (line-counted imports s n step)
+    ap (λ line. line ++ step_lines imports (after_step imports (counted s n) step) steps)
+    (line-counted imports s n step)
     ∙ ap (λ u. step_line imports s step ++ step_lines imports u steps) next.1
     ∙ ap (λ rest. step_line imports s step ++ rest) (lines-counted imports steps (after_step imports s step) next.0)
 
@@ -159,7 +160,8 @@ left s u path (Some n) false was gone absent = cc
 left s u path None true was gone absent = cc
 left s u path None false was gone absent = same-counted s u absent
 
-pub removal-leaves : {A E : Type 0} (imports : List ℕ → List (List ℕ)) (r : Result A E) (s u : GraphState) (path : List ℕ) (dropped : Option ℕ)
+pub removal-leaves : {A E : Type 0} (imports : List ℕ → List (List ℕ)) (r : Result A E) (s u : GraphState)
+    (path : List ℕ) (dropped : Option ℕ)
     → is_some dropped ≡ is_file s.session.tree.files path
     → OnSome dropped (u ≡ with_session s (after_remove s.session path)) → IfNone dropped (u ≡ s)
     → OnOk r (LeavesAfter imports (Remove path) s u)

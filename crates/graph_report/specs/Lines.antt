@@ -32,7 +32,8 @@ graph_value g = object
     (member (codes "missing") (array (items_of (map string g.missing)))
     (member (codes "nodes") (array (items_of (map node_value g.nodes))) no_members))
 
--- the line of a step, by what the bytes of files import and the graph session before it: of a graph that on the tree as it is then, and of an edit that of
+-- the line of a step, by what the bytes of files import and the graph session before it: of a graph that on the tree as
+-- it is then, and of an edit that of
 -- the session
 abbrev pub step_line : (List ℕ → List (List ℕ)) → GraphState → GraphStep → List ℕ
 step_line imports s Graph = line_of (graph_value (graph_of imports s))

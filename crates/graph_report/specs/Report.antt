@@ -9,7 +9,8 @@ use Rattle.graph_report.specs.declared.step.GraphStep.{GraphStep}
 use Rattle.graph_report.specs.Given.{graph_document, imports_by}
 use Rattle.graph_report.specs.Lines.{step_lines}
 
--- the lines of steps over the graph of a tree from entries, by what the bytes of files import; or the cause against the project
+-- the lines of steps over the graph of a tree from entries, by what the bytes of files import; or the cause against the
+-- project
 abbrev pub lines_by :
     (List ℕ → List (List ℕ)) → Files → List (List ℕ) → ℕ → List GraphStep → Result ProjectSettings Cause
     → Result (List ℕ) Cause

@@ -10,7 +10,8 @@ use Rattle.graph_report.proofs.Steps.{lines-counted}
 use Rattle.graph_report.proofs.report.lines_by.Goals as goal
 
 pub returns-in_err-made : goal.returns-in_err-made
-returns-in_err-made c = raised_text _ _ _ _ c.from_residual.ensures.1 (lines_refused _ _ _ _ _ _ _ c.in_err-made.ensures)
+returns-in_err-made c =
+    raised_text _ _ _ _ c.from_residual.ensures.1 (lines_refused _ _ _ _ _ _ _ c.in_err-made.ensures)
 
 pub returns-in_err-lines_told : goal.returns-in_err-lines_told
 returns-in_err-lines_told c = raised_text _ _ _ _ c.from_residual-in_err-lines_told.ensures.1 tt
