@@ -5,6 +5,7 @@ use Rattle.std.specs.Prelude.{
   ◌-◌,
   ◌*◌,
   Bool,
+  true,
   false,
   ◌&&◌,
   nat_le,
@@ -28,7 +29,7 @@ use Rattle.disk_report.specs.declared.forms.OutcomeForm.TheVariants.{Line}
 use Rattle.cli_core.specs.DiskWords.{disk_request_in}
 use Rattle.cli_core.specs.Forms.{form_of}
 use Rattle.cli_core.specs.declared.command.Command.{Command}
-use Rattle.cli_core.specs.declared.command.Command.TheVariants.{Report, Replay, Generate, Disk}
+use Rattle.cli_core.specs.declared.command.Command.TheVariants.{Report, Replay, Imports, Generate, Disk}
 use Rattle.cli_core.specs.declared.document_kind.DocumentKind.TheVariants.{Requests, Steps, Graphs, Audit, Bundle}
 use Rattle.cli_core.specs.declared.command.TheConstants.{LARGEST}
 
@@ -49,7 +50,7 @@ size_of word =
     (number_after 0 word)
     else None
 
--- one word: `resolve`, `session`, `graph`, `audit`, `bundle` or `replay`
+-- one word: `resolve`, `session`, `graph`, `audit`, `bundle`, `replay` or `imports`
 abbrev pub command_of_one : List ℕ → Option Command
 command_of_one word =
     if bytes_eq word (codes "resolve") then Some (Report (Requests Line))
@@ -58,13 +59,19 @@ command_of_one word =
     else if bytes_eq word (codes "audit") then Some (Report Audit)
     else if bytes_eq word (codes "bundle") then Some (Report Bundle)
     else if bytes_eq word (codes "replay") then Some Replay
+    else if bytes_eq word (codes "imports") then Some (Imports false)
     else None
 
--- two words: `resolve` and a form, or `generate` and a size
+-- the command that reads elements of JSX behind `imports`
+abbrev pub imports_with : List ℕ → Option Command
+imports_with word = if bytes_eq word (codes "--jsx") then Some (Imports true) else None
+
+-- two words: `resolve` and a form, `generate` and a size, or `imports` and `--jsx`
 abbrev pub command_of_two : List ℕ → List ℕ → Option Command
 command_of_two word next =
     if bytes_eq word (codes "resolve") then option_map (λ form. Report (Requests form)) (form_of next)
     else if bytes_eq word (codes "generate") then option_map Generate (size_of next)
+    else if bytes_eq word (codes "imports") then imports_with next
     else None
 
 abbrev pub command_in : List (List ℕ) → Option Command

@@ -7,6 +7,7 @@ pub mod OnDisk
 pub mod Reading
 pub mod Report
 pub mod Replays
+pub mod ListsImports
 pub mod Reports
 pub mod Run
 pub mod Streams

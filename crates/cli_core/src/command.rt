@@ -20,6 +20,8 @@ pub enum Command<'w> {
     Report(DocumentKind),
     /// Reads a replay document, and writes the lines of its bundle's verdicts.
     Replay,
+    /// Reads a source text, and writes a line for each of its imports; elements of JSX are read, or not.
+    Imports { jsx: bool },
     /// Resolves the generated project of so many packages, and writes the counts of its outcomes.
     Generate { size: u16 },
     /// Resolves requests over the disk, and writes what is told of them.
@@ -51,6 +53,7 @@ fn command_of_one(word: &str) -> Option<Command<'_>>
         "audit" => Some(Command::Report(DocumentKind::Audit)),
         "bundle" => Some(Command::Report(DocumentKind::Bundle)),
         "replay" => Some(Command::Replay),
+        "imports" => Some(Command::Imports { jsx: false }),
         _ => None,
     }
 }
@@ -64,6 +67,7 @@ fn command_of_two<'w>(word: &'w str, next: &'w str) -> Option<Command<'w>>
         "generate" => Some(Command::Generate {
             size: size_in(next)?,
         }),
+        "imports" if next == "--jsx" => Some(Command::Imports { jsx: true }),
         _ => None,
     }
 }

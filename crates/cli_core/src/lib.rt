@@ -5,6 +5,7 @@ mod command;
 mod disk_words;
 mod document_kind;
 mod generating;
+mod importing;
 mod memory_sinks;
 mod memory_sources;
 mod on_disk;

@@ -1,8 +1,9 @@
 // From words and a document to a status and a text.
-ghost use Rattle.std.specs.Prelude.{ℕ, ◌≡◌, ◌↔◌, true, None, Some};
+ghost use Rattle.std.specs.Prelude.{ℕ, Bool, ◌≡◌, ◌↔◌, true, None, Some};
 ghost use Rattle.disk_report.specs.Asked.{Asked};
 ghost use Rattle.cli_core.specs.Command.{asked};
 ghost use Rattle.cli_core.specs.Generates.{Generates};
+ghost use Rattle.cli_core.specs.ListsImports.{ListsImports};
 ghost use Rattle.cli_core.specs.OnDisk.{AsksDisk};
 ghost use Rattle.cli_core.specs.Replays.{Replays};
 ghost use Rattle.cli_core.specs.Reports.{Reports};
@@ -11,6 +12,7 @@ ghost use Rattle.cli_core.specs.declared.document_kind.DocumentKind.{DocumentKin
 
 use crate::command::{Command, command_of};
 use crate::generating::generate;
+use crate::importing::list_imports;
 use crate::on_disk::ask_disk;
 use crate::replaying::replay;
 use crate::resolving::resolve;
@@ -24,9 +26,10 @@ use tree_core::Tree;
 /// sink, with its trail behind the word `--trail`, or a text for people behind `--explain`; or the line of the first
 /// cause against the document. `session` does that with the steps of a session document, `graph` with those of a graph
 /// document, and `audit` with the audit that an audit document asks for. `bundle` writes the bundle of a document's
-/// requests, and `replay` the lines of a bundle's verdicts. `generate` and a number resolves the generated project of
-/// so many packages, and writes its counts. `disk`, a working folder, a target, an importer and specifiers resolves
-/// requests over the disk, and tells them as `resolve` does; with `--bundle` it writes their bundle.
+/// requests, and `replay` the lines of a bundle's verdicts. `imports` reads a source text, and writes a line for each
+/// of its imports. `generate` and a number resolves the generated project of so many packages, and writes its counts.
+/// `disk`, a working folder, a target, an importer and specifiers resolves requests over the disk, and tells them as
+/// `resolve` does; with `--bundle` it writes their bundle.
 pub fn run<S: Source, K: Sink, T: Tree>(
     alloc: Global,
     words: &[String],
@@ -45,6 +48,9 @@ pub fn run<S: Source, K: Sink, T: Tree>(
         (K.state sink.old) (K.state sink.new) }
     ensures replays { asked words.now ≡ Some Command.Replay →
         (disk.new ≡ disk.old) × Replays result (S.state source.old) (S.state source.new)
+        (K.state sink.old) (K.state sink.new) }
+    ensures imports { (jsx : Bool) → asked words.now ≡ Some (Command.Imports jsx) →
+        (disk.new ≡ disk.old) × ListsImports jsx result (S.state source.old) (S.state source.new)
         (K.state sink.old) (K.state sink.new) }
     ensures generates { (size : ℕ) → asked words.now ≡ Some (Command.Generate size) →
         (source.new ≡ source.old) × (disk.new ≡ disk.old)
@@ -66,6 +72,7 @@ pub fn run<S: Source, K: Sink, T: Tree>(
     match command {
         Command::Report(kind) => resolve(alloc, kind, source, sink),
         Command::Replay => replay(alloc, source, sink),
+        Command::Imports { jsx } => list_imports(alloc, jsx, source, sink),
         Command::Generate { size } => generate(alloc, size, sink),
         Command::Disk(request) => ask_disk(alloc, &request, sink, disk),
     }

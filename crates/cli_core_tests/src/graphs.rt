@@ -28,6 +28,10 @@ fn refused() -> &'static str {
 {"cwd":"/w","files":[],"entries":[],"capacity":1,"steps":[{"graph":null,"put":null}]}|refused: bad-field steps
 {"cwd":"/w","files":[],"entries":[],"capacity":1,"steps":[{"graph":null},{"ask":{"from":"/a","specifier":"b"}}]}|refused: bad-field steps
 {"cwd":"/w","files":[],"entries":[],"capacity":1,"steps":[{}]}|refused: bad-field steps
+# what tells imports is one of two
+{"cwd":"/w","files":[],"entries":[],"capacity":1,"steps":1,"scanner":1}|refused: bad-field steps
+{"cwd":"/w","files":[],"entries":[],"capacity":1,"steps":[],"scanner":null}|refused: bad-field scanner
+{"cwd":"/w","files":[{"path":"a","text":""}],"entries":[],"capacity":1,"steps":[],"scanner":"ES"}|refused: bad-field scanner
 # then the tree, and last the project
 {"cwd":"w","files":[{"path":"a","text":""}],"entries":[],"capacity":1,"steps":[]}|refused: bad-tree "a"
 {"cwd":"w","files":[],"entries":[],"capacity":1,"steps":[]}|refused: bad-project SettingsFault cwd"#
@@ -47,6 +51,9 @@ fn steps() -> &'static str {
 {"cwd":"/w","files":[{"path":"/w/b.js","text":"import './b'"}],"entries":["/w/b.js"],"capacity":1,"steps":[{"graph":null}]}|{"missing":[],"nodes":[{"edges":[{"specifier":"./b","verdict":{"answer":{"real":"/w/b.js"},"found":{"file":"/w/b.js","via":null},"slug":null}}],"file":"/w/b.js"}]}
 # an answer without a file isn't followed
 {"cwd":"/w","target":"node","files":[{"path":"/w/b.js","text":"import 'fs'"}],"entries":["/w/b.js"],"capacity":1,"steps":[{"graph":null}]}|{"missing":[],"nodes":[{"edges":[{"specifier":"fs","verdict":{"answer":{"custom":"node:fs"},"found":null,"slug":null}}],"file":"/w/b.js"}]}
+# by lines or by tokens
+{"cwd":"/w","target":"node","files":[{"path":"/w/b.js","text":"a; import 'fs'"}],"entries":["/w/b.js"],"capacity":1,"steps":[{"graph":null}],"scanner":"lines"}|{"missing":[],"nodes":[{"edges":[],"file":"/w/b.js"}]}
+{"cwd":"/w","target":"node","files":[{"path":"/w/b.js","text":"a; import 'fs'"}],"entries":["/w/b.js"],"capacity":1,"steps":[{"graph":null}],"scanner":"es"}|{"missing":[],"nodes":[{"edges":[{"specifier":"fs","verdict":{"answer":{"custom":"node:fs"},"found":null,"slug":null}}],"file":"/w/b.js"}]}
 # a put and a removal
 {"cwd":"/w","files":[],"entries":[],"capacity":1,"steps":[{"put":{"path":"/w/a.js","hex":"0a"}}]}|{"dropped":0}
 {"cwd":"/w","files":[],"entries":[],"capacity":1,"steps":[{"put":{"path":"a","text":""}}]}|{"refused":{"kind":"Unclean","path":"a"}}
@@ -57,12 +64,12 @@ fn steps() -> &'static str {
 
 #[test]
 fn each_cause_against_a_graph_has_its_line(rt: HostRuntime) -> Result<(), Fail> {
-    assert_eq!(rt; documents_that_come(rt.alloc(), "graph", refused())?, 19);
+    assert_eq!(rt; documents_that_come(rt.alloc(), "graph", refused())?, 22);
     Ok(())
 }
 
 #[test]
 fn each_step_over_a_graph_has_its_line(rt: HostRuntime) -> Result<(), Fail> {
-    assert_eq!(rt; documents_that_come(rt.alloc(), "graph", steps())?, 11);
+    assert_eq!(rt; documents_that_come(rt.alloc(), "graph", steps())?, 13);
     Ok(())
 }

@@ -12,6 +12,8 @@ mod example;
 #[cfg(test)]
 mod graphs;
 #[cfg(test)]
+mod imports;
+#[cfg(test)]
 mod mappings;
 #[cfg(test)]
 mod node_search;

@@ -22,6 +22,8 @@ graph --trail
 graph graph
 audit --trail
 audits
+imports --tsx
+imports --jsx --jsx
 generate
 generate 0
 generate 07

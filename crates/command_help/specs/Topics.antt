@@ -12,6 +12,7 @@ command_named word =
     else if bytes_eq word (codes "audit") then Some topic.Audit
     else if bytes_eq word (codes "bundle") then Some topic.Bundle
     else if bytes_eq word (codes "replay") then Some topic.Replay
+    else if bytes_eq word (codes "imports") then Some topic.Imports
     else if bytes_eq word (codes "generate") then Some topic.Generate
     else if bytes_eq word (codes "disk") then Some topic.Disk
     else None

@@ -13,7 +13,7 @@ use Rattle.command_help.specs.declared.wrong.WrongWords.TheVariants as wrong
 abbrev pub command_names : List (List ℕ)
 command_names =
     codes "resolve" ∷ codes "session" ∷ codes "graph" ∷ codes "audit" ∷ codes "bundle" ∷
-    codes "replay" ∷ codes "generate" ∷ codes "disk" ∷ []
+    codes "replay" ∷ codes "imports" ∷ codes "generate" ∷ codes "disk" ∷ []
 
 -- the least number of characters that are inserted, deleted or replaced on the way from one text to the other
 abbrev pub edits_between : List ℕ → List ℕ → ℕ

@@ -13,12 +13,13 @@ yuzkhatvo: which file a specifier means, asked from an importer, with the questi
   audit                reads an audit document, writes each binding that the registry or the lock refuses
   bundle               reads a document, writes the trails of its requests as one text
   replay               reads a bundle with its project, writes the line of each request
+  imports              reads a source text, writes a line for each of its imports
   generate N           resolves a generated project of N packages, writes its counts
   disk CWD TARGET IMPORTER SPECIFIER..
                        resolves requests over the files of this machine, told as resolve does; with --bundle as one text
   help [COMMAND], --help, --version
 
-Documents are JSON, and are read from standard input.
+Documents are JSON; they and source texts are read from standard input.
 Status: 0 written, 1 refused (a line says why), 2 wrong words, 3 not read, 4 not written, 5 too long, 6 no memory,
 7 a question to the files failed.
 ";
@@ -69,6 +70,14 @@ Reads an object with a project and a bundle from standard input. Writes the line
 replies alone.
 ";
 
+const IMPORTS: &str = "\
+imports [--jsx]
+
+Reads a source text of JavaScript or TypeScript from standard input. Writes a line of JSON for each of its imports: the
+form, how many bytes stand before its literal, the specifier, and whether it imports types alone. Elements of JSX are
+read with --jsx. A text that isn't one of the language gets one line, `refused: CAUSE PLACE`.
+";
+
 const GENERATE: &str = "\
 generate N
 
@@ -97,6 +106,7 @@ impl Topic {
             Topic::Audit => AUDIT,
             Topic::Bundle => BUNDLE,
             Topic::Replay => REPLAY,
+            Topic::Imports => IMPORTS,
             Topic::Generate => GENERATE,
             Topic::Disk => DISK,
         }
@@ -112,6 +122,7 @@ impl Topic {
             Topic::Audit => "audit < DOCUMENT",
             Topic::Bundle => "bundle < DOCUMENT",
             Topic::Replay => "replay < DOCUMENT",
+            Topic::Imports => "imports [--jsx] < TEXT",
             Topic::Generate => "generate N, a number from 1 to 1000",
             Topic::Disk => {
                 "disk [--trail | --explain | --bundle] CWD TARGET IMPORTER SPECIFIER.., where TARGET is node or browser"

@@ -13,6 +13,7 @@ pub enum Topic {
     Audit,
     Bundle,
     Replay,
+    Imports,
     Generate,
     Disk,
 }
@@ -64,6 +65,7 @@ pub(crate) fn command_named(word: &str) -> Option<Topic>
         "audit" => Some(Topic::Audit),
         "bundle" => Some(Topic::Bundle),
         "replay" => Some(Topic::Replay),
+        "imports" => Some(Topic::Imports),
         "generate" => Some(Topic::Generate),
         "disk" => Some(Topic::Disk),
         _ => None,

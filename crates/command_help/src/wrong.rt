@@ -9,7 +9,7 @@ use strsim::levenshtein;
 
 /// The names of the commands, in the order in which help tells them.
 pub(crate) const COMMANDS: &[&str] = &[
-    "resolve", "session", "graph", "audit", "bundle", "replay", "generate", "disk",
+    "resolve", "session", "graph", "audit", "bundle", "replay", "imports", "generate", "disk",
 ];
 
 /// What is wrong with words that are no command.

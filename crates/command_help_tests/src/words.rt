@@ -16,6 +16,7 @@ help graph: graph\n\
 help audit: audit\n\
 help bundle: bundle\n\
 help replay: replay\n\
+help imports: imports [--jsx]\n\
 help generate: generate N\n\
 disk --help: disk [--trail | --explain | --bundle] CWD TARGET IMPORTER SPECIFIER..\n\
 reslove: no such command; did you mean this? resolve [--trail | --explain] < DOCUMENT\n\
@@ -25,6 +26,8 @@ grph: no such command; did you mean this? graph < DOCUMENT\n\
 audits: no such command; did you mean this? audit < DOCUMENT\n\
 bundel: no such command; did you mean this? bundle < DOCUMENT\n\
 reply: no such command; did you mean this? replay < DOCUMENT\n\
+import: no such command; did you mean this? imports [--jsx] < TEXT\n\
+imports --tsx: usage: imports [--jsx] < TEXT\n\
 generat 5: no such command; did you mean this? generate N, a number from 1 to 1000\n\
 help dsik: no such command; did you mean this? disk [--trail | --explain | --bundle] CWD TARGET IMPORTER SPECIFIER.., where TARGET is node or browser\n\
 find: no such command; `help` lists the commands\n\

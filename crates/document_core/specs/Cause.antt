@@ -18,6 +18,7 @@ use Rattle.document_core.specs.declared.cause.Field.TheVariants.{
   Entries,
   Capacity,
   Steps,
+  Scanner,
   Manifest,
   Bundle,
 }
@@ -41,6 +42,7 @@ name_of Requests = codes "requests"
 name_of Entries = codes "entries"
 name_of Capacity = codes "capacity"
 name_of Steps = codes "steps"
+name_of Scanner = codes "scanner"
 name_of Manifest = codes "manifest"
 name_of Bundle = codes "bundle"
 

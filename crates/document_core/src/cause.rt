@@ -24,6 +24,7 @@ pub enum Field {
     Entries,
     Capacity,
     Steps,
+    Scanner,
     Manifest,
     Bundle,
 }
@@ -47,6 +48,7 @@ impl Field {
             Field::Entries => "entries",
             Field::Capacity => "capacity",
             Field::Steps => "steps",
+            Field::Scanner => "scanner",
             Field::Manifest => "manifest",
             Field::Bundle => "bundle",
         }

@@ -38,8 +38,6 @@ use Rattle.es_imports.specs.declared.part.Part.{Part}
 use Rattle.es_imports.specs.declared.part.Part.TheVariants as parts
 use Rattle.es_imports.specs.declared.refusal.Cause.{Cause}
 use Rattle.es_imports.specs.declared.refusal.Cause.TheVariants as causes
-use Rattle.es_imports.specs.declared.refusal.ScanError.{ScanError}
-use Rattle.es_imports.specs.declared.refusal.ScanError.TheVariants.{Refused}
 use Rattle.es_imports.specs.Parts.{child_part, line_part, name_part, part_len, tag_name_part, template_part}
 use Rattle.es_imports.specs.Space.{space_part}
 use Rattle.es_imports.specs.Runs.{run}
@@ -58,7 +56,7 @@ use Rattle.es_imports.specs.Tokens.{
   punctuator,
   slash_at,
 }
-use Rattle.es_imports.specs.Imports.{Placed, followed, hash_bang_len, pieces_from, pieces_of}
+use Rattle.es_imports.specs.Imports.{Fault, Placed, fault_at, followed, hash_bang_len, pieces_from, pieces_of}
 use Rattle.es_imports.specs.declared.piece.Within.{Within}
 use Rattle.es_imports.specs.declared.piece.Within.TheVariants as within
 use Rattle.es_imports.specs.Elements.{
@@ -206,7 +204,7 @@ piece_some goal t = within_some goal.within goal t
 abbrev joined : List Placed → List ℕ
 joined pieces = flat_map (λ p. p.text) pieces
 
-behind_first : (first : Placed) (r : Result (List Placed) ScanError) (ps : List Placed) → followed first r ≡ Ok ps
+behind_first : (first : Placed) (r : Result (List Placed) Fault) (ps : List Placed) → followed first r ≡ Ok ps
     → (rest : List Placed) × (r ≡ Ok rest) × (ps ≡ first ∷ rest)
 behind_first first (Ok rest) ps e = (rest, refl, cc)
 behind_first first (Err fault) ps e = absurd (cc)
@@ -224,7 +222,7 @@ join_read jsx (suc n) context at (c ∷ cs) ps h e =
         → (r : Result Piece Cause) → piece_at (goal_at context) (c ∷ cs) ≡ r → joined ps ≡ c ∷ cs
     by_piece joins_rest (Err cause) read =
         let fault = one_fault jsx n context at (c ∷ cs) cause (omega arith) read in
-        let both : Err (Refused at cause) ≡ Ok ps = sym fault ∙ e in absurd (cc)
+        let both : Err (fault_at at cause) ≡ Ok ps = sym fault ∙ e in absurd (cc)
     by_piece joins_rest (Ok p) read =
         let one = one_piece jsx n context at (c ∷ cs) p (omega arith) read in
         let found = behind_first (placed p at (c ∷ cs))

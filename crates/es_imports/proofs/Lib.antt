@@ -1,3 +1,4 @@
+pub mod Alone
 pub mod Running
 pub mod Unitings
 pub mod Quoting

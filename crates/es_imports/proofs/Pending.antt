@@ -61,9 +61,9 @@ word_plain name =
     (bytes_eq name (codes "type"))
 
 mark_cases : (b0 b1 b2 b3 b4 b5 b6 b7 b8 : Bool)
-    → literal_sign (if b0 then signs.Open else if b1 then signs.Close else if b2 then signs.OpenBrace else if b3
-    then signs.CloseBrace else if b4 then signs.Comma else if b5 then signs.Star else if b6 then signs.Equals
-    else if b7 then signs.Dot else if b8 then signs.Dot else signs.Other) ≡ false
+    → literal_sign (if b0 then signs.Dot else if b1 then signs.Dot else if b2 then signs.Open else if b3 then signs.Close
+    else if b4 then signs.OpenBrace else if b5 then signs.CloseBrace else if b6 then signs.Comma else if b7 then signs.Star
+    else if b8 then signs.Equals else signs.Other) ≡ false
 mark_cases true b1 b2 b3 b4 b5 b6 b7 b8 = refl
 mark_cases false true b2 b3 b4 b5 b6 b7 b8 = refl
 mark_cases false false true b3 b4 b5 b6 b7 b8 = refl
@@ -77,10 +77,9 @@ mark_cases false false false false false false false false false = refl
 
 mark_plain : (mark : List ℕ) → literal_sign (mark_sign mark) ≡ false
 mark_plain mark =
-    mark_cases (bytes_eq mark (codes "(")) (bytes_eq mark (codes ")"))
-    (bytes_eq mark (codes "{")) (bytes_eq mark (codes "}")) (bytes_eq mark (codes ","))
-    (bytes_eq mark (codes "*")) (bytes_eq mark (codes "=")) (bytes_eq mark (codes "."))
-    (bytes_eq mark (codes "?."))
+    mark_cases (bytes_eq mark (codes ".")) (bytes_eq mark (codes "?.")) (bytes_eq mark (codes "("))
+    (bytes_eq mark (codes ")")) (bytes_eq mark (codes "{")) (bytes_eq mark (codes "}")) (bytes_eq mark (codes ","))
+    (bytes_eq mark (codes "*")) (bytes_eq mark (codes "="))
 
 not_literal : (b : Bool) → b ≡ false → b ≡ true → ⊥
 not_literal b h k = cc

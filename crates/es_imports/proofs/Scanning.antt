@@ -30,8 +30,6 @@ use Rattle.std.proofs.lemmas.List.{drop-drop, length-drop, length-take-le, map-a
 use Rattle.es_imports.specs.declared.imports.Import.{Import}
 use Rattle.es_imports.specs.declared.piece.Piece.{Piece}
 use Rattle.es_imports.specs.declared.refusal.Cause.{Cause}
-use Rattle.es_imports.specs.declared.refusal.ScanError.{ScanError}
-use Rattle.es_imports.specs.declared.refusal.ScanError.TheVariants.{Refused}
 use Rattle.es_imports.specs.declared.expected.Expected.{Expected}
 use Rattle.es_imports.specs.declared.expected.Expected.TheVariants.{Nothing}
 use Rattle.es_imports.specs.Tokens.{piece_at}
@@ -40,8 +38,10 @@ use Rattle.es_imports.specs.Signs.{sign_of}
 use Rattle.es_imports.specs.Forms.{found, next}
 use Rattle.es_imports.specs.Quoted.{IsQuoted}
 use Rattle.es_imports.specs.Imports.{
+  Fault,
   Placed,
   behind_token,
+  fault_at,
   followed,
   found_at,
   found_in,
@@ -56,7 +56,7 @@ use Rattle.es_imports.proofs.Quoting.{piece_quotes, quoted_behind}
 use Rattle.es_imports.proofs.Pending.{IsFound, IsPending, found_quoted, literal_sign, next_pending, sign_literal}
 
 -- these imports, and then those that are told
-abbrev pub with_front : List Import → Result (List Import) ScanError → Result (List Import) ScanError
+abbrev pub with_front : List Import → Result (List Import) Fault → Result (List Import) Fault
 with_front imports (Ok more) = Ok (imports ++ more)
 with_front imports (Err fault) = Err fault
 
@@ -70,7 +70,7 @@ pub record Scanning (jsx : Bool) (text : List ℕ) (at : ℕ) (context : Context
       (imports_by text state (pieces_from jsx left context at (drop at text))) ≡ imports_of jsx text
   pub pending : IsPending text state
 
-with_none : (r : Result (List Import) ScanError) → with_front [] r ≡ r
+with_none : (r : Result (List Import) Fault) → with_front [] r ≡ r
 with_none (Ok imports) = refl
 with_none (Err fault) = refl
 
@@ -95,11 +95,11 @@ pub scanning_end : (jsx : Bool) (text : List ℕ) (at : ℕ) (context : Context)
     → Scanning jsx text at context state imports → length text ≤ at → imports_of jsx text ≡ Ok imports
 scanning_end jsx text at context state imports s h =
     let none = none_left jsx s.left context at (drop at text) (omega (arith, length-drop at text)) in
-    sym s.is ∙ ap (λ (r : Result (List Placed) ScanError). with_front imports (imports_by text state r)) none
+    sym s.is ∙ ap (λ (r : Result (List Placed) Fault). with_front imports (imports_by text state r)) none
     ∙ ap (λ (xs : List Import). Ok xs) (append-nil imports)
 
 pub one_fault : (jsx : Bool) (n : ℕ) (context : Context) (at : ℕ) (t : List ℕ) (cause : Cause) → 0 < length t
-    → piece_at (goal_at context) t ≡ Err cause → pieces_from jsx (suc n) context at t ≡ Err (Refused at cause)
+    → piece_at (goal_at context) t ≡ Err cause → pieces_from jsx (suc n) context at t ≡ Err (fault_at at cause)
 one_fault jsx n context at [] cause h e = absurd (omega arith)
 one_fault jsx n context at (c ∷ cs) cause h e = rw (e, pieces_from) refl
 
@@ -107,16 +107,16 @@ pub scanning_fault : (jsx : Bool) (text : List ℕ) (at : ℕ) (context : Contex
     (imports : List Import)
     (cause : Cause)
     → Scanning jsx text at context state imports → at < length text
-    → piece_at (goal_at context) (drop at text) ≡ Err cause → imports_of jsx text ≡ Err (Refused at cause)
+    → piece_at (goal_at context) (drop at text) ≡ Err cause → imports_of jsx text ≡ Err (fault_at at cause)
 scanning_fault jsx text at context state imports cause s h e = from s.left s.enough s.is
   where
     from : (left : ℕ) → length (drop at text) ≤ left
         → with_front imports (imports_by text state
         (pieces_from jsx left context at (drop at text))) ≡ imports_of jsx text
-        → imports_of jsx text ≡ Err (Refused at cause)
+        → imports_of jsx text ≡ Err (fault_at at cause)
     from zero enough is = absurd (omega (arith, length-drop at text))
     from (suc n) enough is =
-        sym is ∙ ap (λ (r : Result (List Placed) ScanError). with_front imports (imports_by text state r))
+        sym is ∙ ap (λ (r : Result (List Placed) Fault). with_front imports (imports_by text state r))
         (one_fault jsx n context at (drop at text) cause (omega (arith, length-drop at text)) e)
 
 -- the piece at a place
@@ -132,7 +132,7 @@ one_piece jsx n context at (c ∷ cs) p h e = rw (e, pieces_from) refl
 
 -- what a piece is found to import goes in front
 front_grows : (text : List ℕ) (state : Expected) (imports : List Import) (p : Placed)
-    (r : Result (List Placed) ScanError)
+    (r : Result (List Placed) Fault)
     → with_front imports (imports_by text state (followed p r)) ≡ with_front (imports
     ++ map (import_of text) (option_to_list (found_at state p))) (imports_by text (behind_token state p) r)
 front_grows text state imports p (Err fault) = refl
@@ -182,7 +182,7 @@ scanning_next jsx text at context state imports p s h e some within = from s.lef
         let there = drop-drop p.len at text in
         let size = length-take-le p.len (drop at text) within in
         let one = one_piece jsx n context at (drop at text) p (omega arith) e in
-        let told = ap (λ (r : Result (List Placed) ScanError). with_front imports (imports_by text state r)) one in
+        let told = ap (λ (r : Result (List Placed) Fault). with_front imports (imports_by text state r)) one in
         let grown = front_grows text state imports (placed p at (drop at text))
         (pieces_from jsx n (behind jsx context p.kind (take p.len (drop at text))) (at + p.len)
         (drop p.len (drop at text))) in

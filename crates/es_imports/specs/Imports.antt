@@ -29,6 +29,7 @@ use Rattle.std.specs.List.{starts_with}
 use Rattle.std.specs.Option.{option_to_list}
 use Rattle.es_imports.specs.declared.imports.Import.{Import}
 use Rattle.es_imports.specs.declared.piece.Kind.{Kind}
+use Rattle.es_imports.specs.declared.refusal.Cause.{Cause}
 use Rattle.es_imports.specs.declared.refusal.ScanError.{ScanError}
 use Rattle.es_imports.specs.declared.refusal.ScanError.TheVariants.{Refused, NoMemory}
 use Rattle.es_imports.specs.declared.expected.Expected.{Expected}
@@ -42,6 +43,14 @@ use Rattle.es_imports.specs.Signs.{sign_of}
 use Rattle.es_imports.specs.Forms.{found, next}
 use Rattle.es_imports.specs.Values.{value_of}
 
+-- what is wrong with a text, and how many bytes stand before it
+pub record Fault : Type 0 where
+  pub place : ℕ
+  pub cause : Cause
+
+abbrev pub fault_at : ℕ → Cause → Fault
+fault_at place cause = record { place = place; cause = cause }
+
 -- a piece of a text: its kind, where it begins, and its text
 pub record Placed : Type 0 where
   pub kind : Kind
@@ -49,17 +58,17 @@ pub record Placed : Type 0 where
   pub text : List ℕ
 
 -- the pieces behind the first, or the first fault
-abbrev pub followed : Placed → Result (List Placed) ScanError → Result (List Placed) ScanError
+abbrev pub followed : Placed → Result (List Placed) Fault → Result (List Placed) Fault
 followed first (Ok pieces) = Ok (first ∷ pieces)
 followed first (Err fault) = Err fault
 
 -- At most so many pieces of a text that begins at that place, by what stands before it, or the first fault; elements
 -- of JSX are read, or not.
-abbrev pub pieces_from : Bool → ℕ → Context → ℕ → List ℕ → Result (List Placed) ScanError
+abbrev pub pieces_from : Bool → ℕ → Context → ℕ → List ℕ → Result (List Placed) Fault
 pieces_from jsx zero context place text = Ok []
 pieces_from jsx (suc n) context place [] = Ok []
 pieces_from jsx (suc n) context place (c ∷ cs) = elim (piece_at (goal_at context) (c ∷ cs)) [
-  | Err cause ↦ Err (Refused place cause)
+  | Err cause ↦ Err (fault_at place cause)
   | Ok piece ↦
       followed (record { kind = piece.kind; place = place; text = take piece.len (c ∷ cs) })
       (pieces_from jsx n (behind jsx context piece.kind (take piece.len (c ∷ cs))) (place + piece.len)
@@ -72,7 +81,7 @@ hash_bang_len text = if starts_with nat_eq text (codes "#!") then run line_part 
 
 -- The pieces of a text, but for a line in front that names an interpreter; or the first fault. Each takes a
 -- byte or more, so there are no more of them than bytes.
-unfoldable pub pieces_of : Bool → List ℕ → Result (List Placed) ScanError
+unfoldable pub pieces_of : Bool → List ℕ → Result (List Placed) Fault
 pieces_of jsx text = pieces_from jsx (length text) start (hash_bang_len text) (drop (hash_bang_len text) text)
 
 -- what a token imports, by what is expected
@@ -103,16 +112,16 @@ import_of text found =
     }
 
 -- what the pieces import, by what is expected, or the fault
-abbrev pub imports_by : List ℕ → Expected → Result (List Placed) ScanError → Result (List Import) ScanError
+abbrev pub imports_by : List ℕ → Expected → Result (List Placed) Fault → Result (List Import) Fault
 imports_by text expected (Ok pieces) = Ok (map (import_of text) (found_in expected pieces))
 imports_by text expected (Err fault) = Err fault
 
 -- what a text imports, or the first fault; elements of JSX are read, or not
-unfoldable pub imports_of : Bool → List ℕ → Result (List Import) ScanError
+unfoldable pub imports_of : Bool → List ℕ → Result (List Import) Fault
 imports_of jsx text = imports_by text Nothing (pieces_of jsx text)
 
 -- it is told, unless memory runs out
-abbrev pub Tells : Result (List Import) ScanError → Result (List Import) ScanError → Type 0
+abbrev pub Tells : Result (List Import) Fault → Result (List Import) ScanError → Type 0
 Tells told (Ok imports) = told ≡ Ok imports
-Tells told (Err (Refused place cause)) = told ≡ Err (Refused place cause)
+Tells told (Err (Refused place cause)) = told ≡ Err (fault_at place cause)
 Tells told (Err NoMemory) = Unit {0}

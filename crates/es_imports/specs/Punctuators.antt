@@ -9,6 +9,11 @@ use Rattle.std.specs.List.{starts_with}
 abbrev pub is_single : ℕ → Bool
 is_single c = char_set_contains (codes "(){}[],;:~@") c
 
+-- one of the marks that begin nothing longer in code, and go on with nothing
+abbrev pub stands_alone : ℕ → Bool
+stands_alone c = c == code "(" || c == code ")" || c == code "{" || c == code "[" || c == code "]" || c == code ","
+    || c == code ";" || c == code ":"
+
 -- so many bytes, and one more if `=` follows
 abbrev pub assigned_len : ℕ → List ℕ → ℕ
 assigned_len len rest = if starts_with nat_eq rest (codes "=") then len + 1 else len

@@ -20,15 +20,15 @@ word_sign name =
 -- a punctuator that a form of import knows, or another
 abbrev pub mark_sign : List ℕ → Sign
 mark_sign mark =
-    if bytes_eq mark (codes "(") then signs.Open
+    if bytes_eq mark (codes ".") then signs.Dot
+    else if bytes_eq mark (codes "?.") then signs.Dot
+    else if bytes_eq mark (codes "(") then signs.Open
     else if bytes_eq mark (codes ")") then signs.Close
     else if bytes_eq mark (codes "{") then signs.OpenBrace
     else if bytes_eq mark (codes "}") then signs.CloseBrace
     else if bytes_eq mark (codes ",") then signs.Comma
     else if bytes_eq mark (codes "*") then signs.Star
     else if bytes_eq mark (codes "=") then signs.Equals
-    else if bytes_eq mark (codes ".") then signs.Dot
-    else if bytes_eq mark (codes "?.") then signs.Dot
     else signs.Other
 
 -- what a piece of that kind with that text is

@@ -1,5 +1,6 @@
 // The forms of imports: what may come next in a form that has begun, and what it imports.
 ghost use Rattle.std.specs.Prelude.{◌≡◌};
+ghost use Rattle.es_imports.specs.Signs.{mark_sign, sign_of, word_sign};
 ghost use Rattle.es_imports.specs.Forms.{
   alias,
   argument,
@@ -20,6 +21,8 @@ ghost use Rattle.es_imports.specs.Forms.{
 };
 
 use crate::imports::ImportKind;
+use crate::piece::Kind;
+use crate::scanner::is;
 use crate::sign::{Sign, is_binding, is_word};
 
 // Which import a form makes.
@@ -102,6 +105,41 @@ fn begun(sign: Sign) -> Expected
         Sign::Export => Expected::Export,
         Sign::Require => Expected::Call(Form::new(ImportKind::Require, false)),
         Sign::Dot => Expected::Property,
+        _ => Expected::Nothing,
+    }
+}
+
+// What may come behind a piece where no form has begun. Few pieces begin one, so that each is told by little.
+pub(crate) fn begun_by(kind: Kind, text: &[u8]) -> Expected
+    ensures { result ≡ begun (sign_of kind text.now) }
+{
+    match kind {
+        Kind::Name => begun_by_name(text),
+        Kind::Punctuator => begun_by_mark(text),
+        _ => Expected::Nothing,
+    }
+}
+
+fn begun_by_name(name: &[u8]) -> Expected
+    ensures { result ≡ begun (word_sign name.now) }
+{
+    if is(name, "import") {
+        Expected::Import
+    } else if is(name, "export") {
+        Expected::Export
+    } else if is(name, "require") {
+        Expected::Call(Form::new(ImportKind::Require, false))
+    } else {
+        Expected::Nothing
+    }
+}
+
+fn begun_by_mark(mark: &[u8]) -> Expected
+    ensures { result ≡ begun (mark_sign mark.now) }
+{
+    match mark {
+        [b'.'] => Expected::Property,
+        [b'?', b'.'] => Expected::Property,
         _ => Expected::Nothing,
     }
 }

@@ -11,6 +11,7 @@ ghost use Rattle.es_imports.specs.Punctuators.{
   punctuator_len,
   question_len,
   repeated_len,
+  stands_alone,
 };
 
 // How many bytes the longest punctuator at the front takes, and 0 where none is.
@@ -44,6 +45,14 @@ fn is_single(c: u8) -> bool
         c,
         b'(' | b')' | b'{' | b'}' | b'[' | b']' | b',' | b';' | b':' | b'~' | b'@'
     )
+}
+
+// Marks that begin nothing longer in code, and go on with nothing.
+#[inline(always)]
+pub(crate) fn stands_alone(c: u8) -> bool
+    ensures { result ≡ stands_alone c }
+{
+    matches!(c, b'(' | b')' | b'{' | b'[' | b']' | b',' | b';' | b':')
 }
 
 // So many bytes, and one more if `=` follows.

@@ -1,12 +1,15 @@
 // The imports of a text, in one pass.
 ghost use Rattle.std.specs.Prelude.{◌≡◌, true, false, ◌≤◌, ◌++◌, IfOk, IfSome, OnOk, length, map};
+ghost use Rattle.es_imports.specs.Forms.{found, next};
+ghost use Rattle.es_imports.specs.Signs.{sign_of};
 ghost use Rattle.es_imports.specs.Imports.{Tells, body_of, import_of, hash_bang_len, imports_of};
 ghost use Rattle.std.specs.Option.{option_to_list};
 ghost use Rattle.es_imports.specs.Quoted.{IsQuoted};
 
-use crate::expected::{Expected, Found, find, next};
+use crate::expected::{Expected, Found, begun_by, find, next};
 use crate::imports::Import;
 use crate::part::Part;
+use crate::piece::Kind;
 use crate::reading::piece_at;
 use crate::refusal::ScanError;
 use crate::run::run_len;
@@ -45,18 +48,56 @@ fn scan(alloc: Global, text: &str, jsx: bool) -> Result<List<Import>, ScanError>
             Err(cause) => return Err(ScanError::Refused { place: at, cause }),
         };
         let token = &rest[..piece.len];
-        let sign = sign_of(piece.kind, token);
-        keep_found(
-            alloc,
-            text,
-            &mut imports,
-            find(expected, sign, at, piece.len),
-        )?;
-        expected = next(expected, sign, at, piece.len);
+        expected = follow(alloc, text, &mut imports, expected, piece.kind, at, token)?;
         scanner.pass(piece.kind, token)?;
         at += piece.len;
     }
     Ok(List::from(imports))
+}
+
+// What may come behind a piece that begins at that place; what it is found to import is kept.
+fn follow(
+    alloc: Global,
+    text: &str,
+    imports: &mut Vec<Import>,
+    expected: Expected,
+    kind: Kind,
+    place: usize,
+    token: &[u8],
+) -> Result<Expected, AllocError>
+    requires { IfSome (found expected (sign_of kind token.now) place (length token.now))
+        (λ f. IsQuoted text.now f.place f.len) }
+    ensures behind { IfOk result (λ behind.
+        behind ≡ next expected (sign_of kind token.now) place (length token.now)) }
+    ensures kept { OnOk result (imports.new.items ≡ imports.old.items ++ map (import_of text.now)
+        (option_to_list (found expected (sign_of kind token.now) place (length token.now)))) }
+{
+    match expected {
+        Expected::Nothing => Ok(begun_by(kind, token)),
+        _ => follow_form(alloc, text, imports, expected, kind, place, token),
+    }
+}
+
+fn follow_form(
+    alloc: Global,
+    text: &str,
+    imports: &mut Vec<Import>,
+    expected: Expected,
+    kind: Kind,
+    place: usize,
+    token: &[u8],
+) -> Result<Expected, AllocError>
+    requires { IfSome (found expected (sign_of kind token.now) place (length token.now))
+        (λ f. IsQuoted text.now f.place f.len) }
+    ensures behind { IfOk result (λ behind.
+        behind ≡ next expected (sign_of kind token.now) place (length token.now)) }
+    ensures kept { OnOk result (imports.new.items ≡ imports.old.items ++ map (import_of text.now)
+        (option_to_list (found expected (sign_of kind token.now) place (length token.now)))) }
+{
+    let sign = sign_of(kind, token);
+    let found = find(expected, sign, place, token.len());
+    keep_found(alloc, text, imports, found)?;
+    Ok(next(expected, sign, place, token.len()))
 }
 
 // How many bytes a line at the text's front takes that names an interpreter.

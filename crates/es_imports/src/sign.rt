@@ -72,6 +72,8 @@ fn mark_sign(mark: &[u8]) -> Sign
     ensures { result ≡ mark_sign mark.now }
 {
     match mark {
+        [b'.'] => Sign::Dot,
+        [b'?', b'.'] => Sign::Dot,
         [b'('] => Sign::Open,
         [b')'] => Sign::Close,
         [b'{'] => Sign::OpenBrace,
@@ -79,8 +81,6 @@ fn mark_sign(mark: &[u8]) -> Sign
         [b','] => Sign::Comma,
         [b'*'] => Sign::Star,
         [b'='] => Sign::Equals,
-        [b'.'] => Sign::Dot,
-        [b'?', b'.'] => Sign::Dot,
         _ => Sign::Other,
     }
 }

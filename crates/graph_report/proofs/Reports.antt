@@ -11,7 +11,7 @@ use Rattle.document_core.specs.declared.cause.DocumentError.TheVariants.{Refused
 use Rattle.document_core.specs.declared.cause.DocumentError.TheVariants as ended
 use Rattle.graph_report.specs.declared.document.GraphDocument.{GraphDocument}
 use Rattle.graph_report.specs.declared.step.GraphStep.{GraphStep}
-use Rattle.graph_report.specs.Given.{Given, fields_in, graph_document}
+use Rattle.graph_report.specs.Given.{Given, fields_in, graph_document, imports_by}
 use Rattle.graph_report.specs.Lines.{step_lines}
 use Rattle.graph_report.specs.Report.{graph_report, lines_by}
 
@@ -32,7 +32,7 @@ report_untreed bytes fields ended.NoMemory read found = tt
 -- the report by a document's settings, on the tree of its files
 pub report_by : (bytes : List ℕ) (fields : GraphDocument) (t : Files) (result : Result (List ℕ) DocumentError)
     → fields_in bytes ≡ Ok fields → put_files finite.empty fields.project.files ≡ Ok t
-    → Meets result (lines_by t fields.entries fields.capacity fields.steps
+    → Meets result (lines_by (imports_by fields.scanner) t fields.entries fields.capacity fields.steps
     (project_in (settings_in fields.project.settings fields.project.lock))) → Meets result (graph_report bytes)
 unfolding graph_report graph_document
 report_by bytes fields t result read filed lines =
@@ -50,20 +50,22 @@ report_by bytes fields t result read filed lines =
         entries = fields.entries;
       };
       steps = fields.steps;
+      scanner = fields.scanner;
     })
 
     lines_given : Given → Result (List ℕ) Cause
-    lines_given given = Ok (step_lines given.session given.steps)
+    lines_given given = Ok (step_lines (imports_by given.scanner) given.session given.steps)
 
     by_project : (made : Result ProjectSettings Cause)
-        → Meets result (lines_by t fields.entries fields.capacity fields.steps made)
+        → Meets result (lines_by (imports_by fields.scanner) t fields.entries fields.capacity fields.steps made)
         → Meets result ((made >>= given_by) >>= lines_given)
     by_project (Ok project) told = told
     by_project (Err cause) told = told
 
 -- the lines in a project that is refused
-pub lines_refused : (t : Files) (entries : List (List ℕ)) (capacity : ℕ) (steps : List GraphStep)
+pub lines_refused : (imports : List ℕ → List (List ℕ)) (t : Files) (entries : List (List ℕ)) (capacity : ℕ)
+    (steps : List GraphStep)
     (made : Result ProjectSettings Cause) (e : DocumentError) → Meets {A = ProjectSettings} (Err e) made
-    → Meets {A = List ℕ} (Err e) (lines_by t entries capacity steps made)
-lines_refused t entries capacity steps made (Refused cause) found = rw found refl
-lines_refused t entries capacity steps made ended.NoMemory found = tt
+    → Meets {A = List ℕ} (Err e) (lines_by imports t entries capacity steps made)
+lines_refused imports t entries capacity steps made (Refused cause) found = rw found refl
+lines_refused imports t entries capacity steps made ended.NoMemory found = tt

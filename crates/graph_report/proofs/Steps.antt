@@ -39,7 +39,6 @@ use Rattle.import_graph.specs.GraphState.{
   requests_of,
   with_session,
 }
-use Rattle.import_graph.specs.Lines.{imports_of}
 use Rattle.import_graph.proofs.Asked.{same-asks}
 use Rattle.graph_report.specs.declared.step.GraphStep.{GraphStep}
 use Rattle.graph_report.specs.declared.step.GraphStep.TheVariants.{Graph, Put, Remove}
@@ -53,34 +52,37 @@ asked (r ∷ requests) s n =
     let rest = asked requests (after_ask s r.0 r.1) first.0 in
     (rest.0, ap (λ u. after_asks u requests) first.1 ∙ rest.1)
 
-step-counted : (s : GraphState) (n : ℕ) (step : GraphStep) → (m : ℕ)
-    × (after_step (counted s n) step ≡ counted (after_step s step) m)
-step-counted s n Graph =
-    let all = asked (requests_of (graph_of imports_of s)) s.session n in (all.0, ap (with_session s) all.1)
-step-counted s n (Put file) =
+step-counted : (imports : List ℕ → List (List ℕ)) (s : GraphState) (n : ℕ) (step : GraphStep) → (m : ℕ)
+    × (after_step imports (counted s n) step ≡ counted (after_step imports s step) m)
+step-counted imports s n Graph =
+    let all = asked (requests_of (graph_of imports s)) s.session n in (all.0, ap (with_session s) all.1)
+step-counted imports s n (Put file) =
     let one = stepped s.session n (taken (edit.Put file)) in (one.0, ap (with_session s) one.1)
-step-counted s n (Remove path) =
+step-counted imports s n (Remove path) =
     let one = stepped s.session n (taken (edit.Remove path)) in (one.0, ap (with_session s) one.1)
 
-line-counted : (s : GraphState) (n : ℕ) (step : GraphStep) → step_line (counted s n) step ≡ step_line s step
-line-counted s n Graph = refl
-line-counted s n (Put file) = line-counting s.session n (edit.Put file)
-line-counted s n (Remove path) = line-counting s.session n (edit.Remove path)
+line-counted : (imports : List ℕ → List (List ℕ)) (s : GraphState) (n : ℕ) (step : GraphStep)
+    → step_line imports (counted s n) step ≡ step_line imports s step
+line-counted imports s n Graph = refl
+line-counted imports s n (Put file) = line-counting s.session n (edit.Put file)
+line-counted imports s n (Remove path) = line-counting s.session n (edit.Remove path)
 
-pub lines-counted : (steps : List GraphStep) (s : GraphState) (n : ℕ)
-    → step_lines (counted s n) steps ≡ step_lines s steps
-lines-counted [] s n = refl
-lines-counted (step ∷ steps) s n =
-    let next = step-counted s n step in
-    ap (λ line. line ++ step_lines (after_step (counted s n) step) steps) (line-counted s n step)
-    ∙ ap (λ u. step_line s step ++ step_lines u steps) next.1
-    ∙ ap (λ rest. step_line s step ++ rest) (lines-counted steps (after_step s step) next.0)
+pub lines-counted : (imports : List ℕ → List (List ℕ)) (steps : List GraphStep) (s : GraphState) (n : ℕ)
+    → step_lines imports (counted s n) steps ≡ step_lines imports s steps
+lines-counted imports [] s n = refl
+lines-counted imports (step ∷ steps) s n =
+    let next = step-counted imports s n step in
+    ap (λ line. line ++ step_lines imports (after_step imports (counted s n) step) steps)
+    (line-counted imports s n step)
+    ∙ ap (λ u. step_line imports s step ++ step_lines imports u steps) next.1
+    ∙ ap (λ rest. step_line imports s step ++ rest) (lines-counted imports steps (after_step imports s step) next.0)
 
 -- the lines of the steps behind one
-pub lines-left : (s u : GraphState) (step : GraphStep) (steps : List GraphStep) → LeavesAfter step s u
-    → step_lines u steps ≡ step_lines (after_step s step) steps
-lines-left s u step steps left =
-    ap (λ v. step_lines v steps) left ∙ lines-counted steps (after_step s step) u.session.tree.questions
+pub lines-left : (imports : List ℕ → List (List ℕ)) (s u : GraphState) (step : GraphStep) (steps : List GraphStep)
+    → LeavesAfter imports step s u → step_lines imports u steps ≡ step_lines imports (after_step imports s step) steps
+lines-left imports s u step steps left =
+    ap (λ v. step_lines imports v steps) left
+    ∙ lines-counted imports steps (after_step imports s step) u.session.tree.questions
 
 -- ---- what each step leaves
 session-by : (u v : Session) → u.project ≡ v.project → u.tree.files ≡ v.tree.files → u.capacity ≡ v.capacity
@@ -101,9 +103,10 @@ session-by u v project files capacity kept =
       kept = es;
     }) kept
 
-pub graph-left : (s u : GraphState) → LeavesAsked imports_of s u → LeavesAfter Graph s u
-graph-left s u left =
-    let requests = requests_of (graph_of imports_of s) in
+pub graph-left : (imports : List ℕ → List (List ℕ)) (s u : GraphState) → LeavesAsked imports s u
+    → LeavesAfter imports Graph s u
+graph-left imports s u left =
+    let requests = requests_of (graph_of imports s) in
     let same = same-asks s.session requests in
     ap (λ e. record { session = u.session; entries = e }) left.entries
     ∙ ap (with_session s) (session-by u.session (after_asks s.session requests)
@@ -111,11 +114,12 @@ graph-left s u left =
     (left.asked.same.capacity ∙ sym same.capacity) left.asked.left)
 
 -- what asking for the graph leaves, where a line is made of it
-pub asked-left : {A B E F : Type 0} (r : Result A E) (asked : Result B F) (b : B) (s u : GraphState) → asked ≡ Ok b
-    → MatchResult asked (λ _. LeavesAsked imports_of s u) (λ _. LeavesSame s u) → OnOk r (LeavesAfter Graph s u)
-asked-left (Ok a) (Ok other) b s u was held = graph-left s u held
-asked-left (Ok a) (Err e) b s u was held = cc
-asked-left (Err e) asked b s u was held = tt
+pub asked-left : {A B E F : Type 0} (imports : List ℕ → List (List ℕ)) (r : Result A E) (asked : Result B F) (b : B)
+    (s u : GraphState) → asked ≡ Ok b → MatchResult asked (λ _. LeavesAsked imports s u) (λ _. LeavesSame s u)
+    → OnOk r (LeavesAfter imports Graph s u)
+asked-left imports (Ok a) (Ok other) b s u was held = graph-left imports s u held
+asked-left imports (Ok a) (Err e) b s u was held = cc
+asked-left imports (Err e) asked b s u was held = tt
 
 same-counted : (s u : GraphState) → u ≡ s → u ≡ counted s u.session.tree.questions
 same-counted s u is = is ∙ ap (counted s) (sym (ap (λ v. v.session.tree.questions) is))
@@ -156,10 +160,11 @@ left s u path (Some n) false was gone absent = cc
 left s u path None true was gone absent = cc
 left s u path None false was gone absent = same-counted s u absent
 
-pub removal-leaves : {A E : Type 0} (r : Result A E) (s u : GraphState) (path : List ℕ) (dropped : Option ℕ)
+pub removal-leaves : {A E : Type 0} (imports : List ℕ → List (List ℕ)) (r : Result A E) (s u : GraphState)
+    (path : List ℕ) (dropped : Option ℕ)
     → is_some dropped ≡ is_file s.session.tree.files path
     → OnSome dropped (u ≡ with_session s (after_remove s.session path)) → IfNone dropped (u ≡ s)
-    → OnOk r (LeavesAfter (Remove path) s u)
-removal-leaves (Ok a) s u path dropped was gone absent =
+    → OnOk r (LeavesAfter imports (Remove path) s u)
+removal-leaves imports (Ok a) s u path dropped was gone absent =
     left s u path dropped (is_file s.session.tree.files path) was gone absent
-removal-leaves (Err e) s u path dropped was gone absent = tt
+removal-leaves imports (Err e) s u path dropped was gone absent = tt

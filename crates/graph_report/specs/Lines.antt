@@ -11,7 +11,6 @@ use Rattle.import_graph.specs.declared.graph.Node.{Node}
 use Rattle.import_graph.specs.declared.graph.Graph.{Graph as ImportGraph}
 use Rattle.import_graph.specs.GraphState.{GraphState, graph_of, with_session}
 use Rattle.import_graph.specs.GraphSteps as graphs
-use Rattle.import_graph.specs.Lines.{imports_of}
 use Rattle.graph_report.specs.declared.step.GraphStep.{GraphStep}
 use Rattle.graph_report.specs.declared.step.GraphStep.TheVariants.{Graph, Put, Remove}
 
@@ -33,12 +32,13 @@ graph_value g = object
     (member (codes "missing") (array (items_of (map string g.missing)))
     (member (codes "nodes") (array (items_of (map node_value g.nodes))) no_members))
 
--- the line of a step, by the graph session before it: of a graph that on the tree as it is then, and of an edit that of
+-- the line of a step, by what the bytes of files import and the graph session before it: of a graph that on the tree as
+-- it is then, and of an edit that of
 -- the session
-abbrev pub step_line : GraphState → GraphStep → List ℕ
-step_line s Graph = line_of (graph_value (graph_of imports_of s))
-step_line s (Put file) = edits.step_line s.session (edit.Put file)
-step_line s (Remove path) = edits.step_line s.session (edit.Remove path)
+abbrev pub step_line : (List ℕ → List (List ℕ)) → GraphState → GraphStep → List ℕ
+step_line imports s Graph = line_of (graph_value (graph_of imports s))
+step_line imports s (Put file) = edits.step_line s.session (edit.Put file)
+step_line imports s (Remove path) = edits.step_line s.session (edit.Remove path)
 
 -- the step that is taken over the graph session
 abbrev pub taken : GraphStep → graphs.Step
@@ -47,18 +47,18 @@ taken (Put file) =
     graphs.Put file.path (record { content = file.content; canonical = file.canonical })
 taken (Remove path) = graphs.Remove path
 
-abbrev pub after_step : GraphState → GraphStep → GraphState
-after_step s step = graphs.after_step imports_of s (taken step)
+abbrev pub after_step : (List ℕ → List (List ℕ)) → GraphState → GraphStep → GraphState
+after_step imports s step = graphs.after_step imports s (taken step)
 
 -- the lines of steps in order
-abbrev pub step_lines : GraphState → List GraphStep → List ℕ
-step_lines s [] = []
-step_lines s (step ∷ steps) = step_line s step ++ step_lines (after_step s step) steps
+abbrev pub step_lines : (List ℕ → List (List ℕ)) → GraphState → List GraphStep → List ℕ
+step_lines imports s [] = []
+step_lines imports s (step ∷ steps) = step_line imports s step ++ step_lines imports (after_step imports s step) steps
 
 -- a graph session with another count of the questions that its tree was asked
 abbrev pub counted : GraphState → ℕ → GraphState
 counted s n = with_session s (counting s.session n)
 
 -- what a step leaves, but for the count of questions
-abbrev pub LeavesAfter : GraphStep → GraphState → GraphState → Type 0
-LeavesAfter step old new = new ≡ counted (after_step old step) new.session.tree.questions
+abbrev pub LeavesAfter : (List ℕ → List (List ℕ)) → GraphStep → GraphState → GraphState → Type 0
+LeavesAfter imports step old new = new ≡ counted (after_step imports old step) new.session.tree.questions

@@ -8,6 +8,7 @@ ghost use Rattle.document_core.specs.declared.cause.Field.TheVariants.{Entries};
 ghost use Rattle.import_graph.specs.GraphState.{entry_refusal};
 ghost use Rattle.graph_report.specs.Given.{entries_of, fields_in, fields_of};
 
+use crate::scanner::{Scanner, scanner_in};
 use crate::step::GraphStep;
 use document_core::{
     Cause, DocumentError, Field, GivenProject, read_json, read_project, required_field,
@@ -27,6 +28,8 @@ pub struct GraphDocument {
     /// How many outcomes are kept.
     pub capacity: usize,
     pub steps: List<GraphStep>,
+    /// What tells the imports of files.
+    pub scanner: Scanner,
 }
 
 /// The fields of a graph document's bytes, or the first cause against them.
@@ -50,11 +53,13 @@ fn read_fields(alloc: Global, value: &Value) -> Result<GraphDocument, DocumentEr
     let entries = entries_in(alloc, value)?;
     let capacity = capacity_in(value)?;
     let steps: List<GraphStep> = required_field(alloc, value, Field::Steps)?;
+    let scanner = scanner_in(value)?;
     Ok(GraphDocument {
         project,
         entries,
         capacity,
         steps,
+        scanner,
     })
 }
 

@@ -4,8 +4,10 @@
 mod document;
 mod lines;
 mod report;
+mod scanner;
 mod step;
 
 pub use document::{GraphDocument, read_graph_document};
 pub use report::graph_report_for;
+pub use scanner::Scanner;
 pub use step::GraphStep;

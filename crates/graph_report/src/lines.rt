@@ -10,20 +10,20 @@ ghost use Rattle.graph_report.specs.declared.step.GraphStep.TheVariants as step;
 
 use crate::step::GraphStep;
 use document_core::GivenFile;
-use import_graph::{Edge, Graph, GraphSession, LineScan, Node};
+use import_graph::{Edge, Graph, GraphSession, Node, Scan};
 use report_core::{put_comma, put_member, put_text, put_verdict};
 use session_report::{line_of_put, line_of_removal};
 use std::alloc::{AllocError, Global};
 use sugar_path::Text;
 
 /// Takes steps in order, and gives their lines.
-pub(crate) fn lines_of(
+pub(crate) fn lines_of<S: Scan + Drop>(
     alloc: Global,
-    session: &mut GraphSession<'_, LineScan>,
+    session: &mut GraphSession<'_, S>,
     steps: &[GraphStep],
 ) -> Result<String, AllocError>
     ensures { IfOk result (λ lines.
-        string_bytes lines ≡ step_lines (graph_state session.old) steps.now) }
+        string_bytes lines ≡ step_lines S.imports (graph_state session.old) steps.now) }
 {
     let mut lines = String::new(alloc);
     for step in steps {
@@ -34,15 +34,15 @@ pub(crate) fn lines_of(
 }
 
 // Takes one step, and gives its line.
-fn line_of(
+fn line_of<S: Scan + Drop>(
     alloc: Global,
-    session: &mut GraphSession<'_, LineScan>,
+    session: &mut GraphSession<'_, S>,
     step: &GraphStep,
 ) -> Result<String, AllocError>
     ensures line { IfOk result (λ line.
-        string_bytes line ≡ step_line (graph_state session.old) step.now) }
+        string_bytes line ≡ step_line S.imports (graph_state session.old) step.now) }
     ensures taken { OnOk result
-        (LeavesAfter step.now (graph_state session.old) (graph_state session.new)) }
+        (LeavesAfter S.imports step.now (graph_state session.old) (graph_state session.new)) }
 {
     match step {
         GraphStep::Graph => ask(alloc, session),
@@ -52,25 +52,28 @@ fn line_of(
 }
 
 // Asks for the graph: the line is that of the graph.
-fn ask(alloc: Global, session: &mut GraphSession<'_, LineScan>) -> Result<String, AllocError>
+fn ask<S: Scan + Drop>(
+    alloc: Global,
+    session: &mut GraphSession<'_, S>,
+) -> Result<String, AllocError>
     ensures line { IfOk result (λ line.
-        string_bytes line ≡ step_line (graph_state session.old) step.Graph) }
+        string_bytes line ≡ step_line S.imports (graph_state session.old) step.Graph) }
     ensures taken { OnOk result
-        (LeavesAfter step.Graph (graph_state session.old) (graph_state session.new)) }
+        (LeavesAfter S.imports step.Graph (graph_state session.old) (graph_state session.new)) }
 {
     line_of_graph(alloc, session.graph()?)
 }
 
 // Puts a file: the line tells how many outcomes are dropped, or why the file is refused.
-fn put(
+fn put<S: Scan + Drop>(
     alloc: Global,
-    session: &mut GraphSession<'_, LineScan>,
+    session: &mut GraphSession<'_, S>,
     file: &GivenFile,
 ) -> Result<String, AllocError>
     ensures line { IfOk result (λ line.
-        string_bytes line ≡ step_line (graph_state session.old) (step.Put file.now)) }
+        string_bytes line ≡ step_line S.imports (graph_state session.old) (step.Put file.now)) }
     ensures taken { OnOk result
-        (LeavesAfter (step.Put file.now) (graph_state session.old) (graph_state session.new)) }
+        (LeavesAfter S.imports (step.Put file.now) (graph_state session.old) (graph_state session.new)) }
 {
     let path = file.path.as_str();
     let put = session.put(path, file.content.as_slice(), file.canonical.as_str());
@@ -78,15 +81,15 @@ fn put(
 }
 
 // Takes a file out: the line tells how many outcomes are dropped, or that there is no such file.
-fn remove(
+fn remove<S: Scan + Drop>(
     alloc: Global,
-    session: &mut GraphSession<'_, LineScan>,
+    session: &mut GraphSession<'_, S>,
     path: &str,
 ) -> Result<String, AllocError>
     ensures line { IfOk result (λ line.
-        string_bytes line ≡ step_line (graph_state session.old) (step.Remove path.now)) }
+        string_bytes line ≡ step_line S.imports (graph_state session.old) (step.Remove path.now)) }
     ensures taken { OnOk result
-        (LeavesAfter (step.Remove path.now) (graph_state session.old) (graph_state session.new)) }
+        (LeavesAfter S.imports (step.Remove path.now) (graph_state session.old) (graph_state session.new)) }
 {
     let dropped = session.remove(path);
     line_of_removal(alloc, dropped)

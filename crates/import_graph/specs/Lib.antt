@@ -1,3 +1,4 @@
+pub mod EsScan
 pub mod Lines
 pub mod Laws
 pub mod Levels

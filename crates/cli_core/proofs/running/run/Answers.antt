@@ -1,6 +1,6 @@
 use Rattle.std.proofs.Common.{refl}
 use Rattle.cli_core.proofs.Ends.{asks_ends, generates_ends, no_disk_fault, no_read_fault}
-use Rattle.cli_core.proofs.Words.{same_kind, same_size, same_request}
+use Rattle.cli_core.proofs.Words.{same_jsx, same_kind, same_size, same_request}
 use Rattle.cli_core.proofs.running.run.Goals as goal
 
 -- a command that reads a document
@@ -35,6 +35,24 @@ returns-in-Replay-clause-faults g c = record {
   source = c.replay.ensures.source_faults;
   sink = c.replay.ensures.sink_faults;
   disk = no_disk_fault _ _ c.replay.ensures.replays.ends.1;
+}
+
+-- the imports of a source text
+
+pub returns-in-Imports-clause-usage : goal.returns-in-Imports-clause-usage
+returns-in-Imports-clause-usage g c =
+    (λ usage. absurd (c.list_imports.ensures.imports.ends.0 usage), λ none. cc c.in-Some.ensures)
+
+pub returns-in-Imports-clause-imports : goal.returns-in-Imports-clause-imports
+returns-in-Imports-clause-imports g c = λ jsx named.
+    let same = same_jsx _ jsx c.in-Imports.jsx named c.in-Some.ensures c.in-Imports.is in
+    rw (← same) (refl, c.list_imports.ensures.imports)
+
+pub returns-in-Imports-clause-faults : goal.returns-in-Imports-clause-faults
+returns-in-Imports-clause-faults g c = record {
+  source = c.list_imports.ensures.source_faults;
+  sink = c.list_imports.ensures.sink_faults;
+  disk = no_disk_fault _ _ c.list_imports.ensures.imports.ends.1;
 }
 
 -- a generated project

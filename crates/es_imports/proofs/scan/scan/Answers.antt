@@ -1,5 +1,5 @@
-use Rattle.std.proofs.Common.{◌+◌, List, Ok, take, drop, arith, refl, sym, ap, ◌∙◌}
-use Rattle.std.proofs.lemmas.List.{take_rest}
+use Rattle.std.proofs.Common.{◌≡◌, ◌≤◌, ◌+◌, ℕ, List, Ok, length, take, drop, arith, refl, sym, ap, ◌∙◌}
+use Rattle.std.proofs.lemmas.List.{length-take-le, take_rest}
 use Rattle.es_imports.specs.declared.imports.Import.{Import}
 use Rattle.es_imports.specs.ScannerView.{context}
 use Rattle.es_imports.proofs.Scanning.{
@@ -33,19 +33,26 @@ returns-in-Err c =
     (context c.loop-at.scanner) c.loop-at.expected c.loop-at.imports.items c.in-Err.cause
     c.loop-at.invariant.0 (omega arith) (sym read)
 
-pub keep_found-requires : goal.keep_found-requires
-keep_found-requires c =
-    let read = rw (
+-- the length of a token is that of its piece
+token_len : (rest : List ℕ) (n : ℕ) → n ≤ length rest → length (take n rest) ≡ n
+token_len rest n within = length-take-le n rest within
+
+pub follow-requires : goal.follow-requires
+follow-requires c =
+    let piece = rw (
       take_rest c.as_bytes-bytes.result.now c.loop-at.at,
       c.goal.ensures,
       c.as_bytes-bytes.ensures.value,
-    ) at c.in-Ok.ensures.value in
-    let sign = rw (take_rest c.as_bytes-bytes.result.now c.loop-at.at, c.as_bytes-bytes.ensures.value) at
-    c.sign_of-sign.ensures in
+    ) at c.in-Ok.ensures in
+    let token = take c.in-Ok.piece.len (drop c.loop-at.at c.args.text.now) in
     let finds = scanning_finds c.args.jsx c.args.text.now c.loop-at.at
     (context c.loop-at.scanner) c.loop-at.expected c.loop-at.imports.items c.in-Ok.piece
-    (take c.in-Ok.piece.len (drop c.loop-at.at c.args.text.now)) c.loop-at.invariant.0 (sym read) in
-    rw (c.find.ensures, sign) finds
+    token c.loop-at.invariant.0 (sym piece.value) in
+    rw (
+      take_rest c.as_bytes-bytes.result.now c.loop-at.at,
+      c.as_bytes-bytes.ensures.value,
+      token_len (drop c.loop-at.at c.args.text.now) c.in-Ok.piece.len piece.within,
+    ) finds
 
 pub loop-at-preserved : goal.loop-at-preserved
 loop-at-preserved c =
@@ -54,18 +61,19 @@ loop-at-preserved c =
       c.goal.ensures,
       c.as_bytes-bytes.ensures.value,
     ) at c.in-Ok.ensures in
-    let sign = rw (take_rest c.as_bytes-bytes.result.now c.loop-at.at, c.as_bytes-bytes.ensures.value) at
-    c.sign_of-sign.ensures in
     let passed = rw (
       take_rest c.as_bytes-bytes.result.now c.loop-at.at,
       c.as_bytes-bytes.ensures.value,
       c.loop-at.invariant.1,
     ) at c.in_ok-pass.ensures.behind in
-    let find = rw sign at c.find.ensures in
-    let next = rw sign at c.next-expected.ensures in
-    let kept = rw find at c.in_ok-keep_found.ensures in
+    let followed = rw (
+      take_rest c.as_bytes-bytes.result.now c.loop-at.at,
+      c.as_bytes-bytes.ensures.value,
+      token_len (drop c.loop-at.at c.args.text.now) c.in-Ok.piece.len piece.within,
+    ) at c.in_ok-expected.ensures in
     let len = c.as_bytes-bytes.ensures.len in (
-      scanning_same c.args.jsx c.args.text.now (c.loop-at.at + c.in-Ok.piece.len) _ _ _ _ _ _ passed next kept
+      scanning_same c.args.jsx c.args.text.now (c.loop-at.at + c.in-Ok.piece.len) _ _ _ _ _ _ passed followed.behind
+          followed.kept
           (scanning_next c.args.jsx c.args.text.now c.loop-at.at
           (context c.loop-at.scanner) c.loop-at.expected c.loop-at.imports.items c.in-Ok.piece c.loop-at.invariant.0
           (omega arith) (sym piece.value) piece.some piece.within),

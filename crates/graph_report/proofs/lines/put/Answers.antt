@@ -7,7 +7,7 @@ use Rattle.graph_report.proofs.Steps.{entries-kept, put-leaves, session-err, ses
 use Rattle.graph_report.proofs.lines.put.Goals as goal
 
 pub returns-clause-line : goal.returns-clause-line
-returns-clause-line c =
+returns-clause-line g c =
     let s = (graph_state c.args.session.now).session in
     let path = c.as_str-path.result.now in
     let told = put-line s path (refusal s.tree.files path c.as_str.result.now) c.put-put.result c.line_of_put.result
@@ -16,7 +16,7 @@ returns-clause-line c =
     rw (c.as_str-path.ensures, c.as_str.ensures) at told
 
 pub returns-clause-taken : goal.returns-clause-taken
-returns-clause-taken c =
+returns-clause-taken g c =
     let s = graph_state c.args.session.now in
     let u = graph_state c.put-put.new.self in
     let path = c.as_str-path.result.now in

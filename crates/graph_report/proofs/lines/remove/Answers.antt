@@ -3,7 +3,8 @@ use Rattle.graph_report.proofs.Steps.{removal-leaves}
 use Rattle.graph_report.proofs.lines.remove.Goals as goal
 
 pub returns-clause-taken : goal.returns-clause-taken
-returns-clause-taken c =
-    removal-leaves c.line_of_removal.result (graph_state c.args.session.now) (graph_state c.remove-dropped.new.self)
+returns-clause-taken g c =
+    removal-leaves g.S.Scan.imports c.line_of_removal.result (graph_state c.args.session.now)
+    (graph_state c.remove-dropped.new.self)
     c.args.path.now c.remove-dropped.result c.remove-dropped.ensures.was c.remove-dropped.ensures.gone
     c.remove-dropped.ensures.absent
