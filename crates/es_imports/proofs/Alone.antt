@@ -1,5 +1,23 @@
 -- The marks that begin nothing longer in code are pieces of their own.
-use Rattle.std.proofs.Common.{◌≡◌, ◌<◌, ◌==◌, ℕ, true, List, [], ◌∷◌, length, get_or, inl, inr, refl, subst, sym, eqb-true, arith}
+use Rattle.std.proofs.Common.{
+  ◌≡◌,
+  ◌<◌,
+  ◌==◌,
+  ℕ,
+  true,
+  List,
+  [],
+  ◌∷◌,
+  length,
+  get_or,
+  inl,
+  inr,
+  refl,
+  subst,
+  sym,
+  eqb-true,
+  arith,
+}
 use Rattle.std.specs.Prelude.{◌||◌, Ok}
 use Rattle.std.proofs.Math.Bool.{and-false}
 use Rattle.std.proofs.lemmas.Bool.{or_cases}
@@ -88,7 +106,8 @@ alone goal cs c = at7
     at6 h = elim (or_cases (c == 40 || c == 41 || c == 123 || c == 91 || c == 93 || c == 44) (c == 59) h)
         [ inl before ↦ at5 before | inr same ↦ one 59 (alone_semicolon goal cs) same ]
 
-    at7 : (c == 40 || c == 41 || c == 123 || c == 91 || c == 93 || c == 44 || c == 59 || c == 58) ≡ true → IsAlone goal cs c
+    at7 : (c == 40 || c == 41 || c == 123 || c == 91 || c == 93 || c == 44 || c == 59 || c == 58) ≡ true
+        → IsAlone goal cs c
     at7 h = elim (or_cases (c == 40 || c == 41 || c == 123 || c == 91 || c == 93 || c == 44 || c == 59) (c == 58) h)
         [ inl before ↦ at6 before | inr same ↦ one 58 (alone_colon goal cs) same ]
 

@@ -61,8 +61,10 @@ word_plain name =
     (bytes_eq name (codes "type"))
 
 mark_cases : (b0 b1 b2 b3 b4 b5 b6 b7 b8 : Bool)
-    → literal_sign (if b0 then signs.Dot else if b1 then signs.Dot else if b2 then signs.Open else if b3 then signs.Close
-    else if b4 then signs.OpenBrace else if b5 then signs.CloseBrace else if b6 then signs.Comma else if b7 then signs.Star
+    → literal_sign (if b0 then signs.Dot else if b1 then signs.Dot else if b2 then signs.Open else if b3 then
+    signs.Close
+    else if b4 then signs.OpenBrace else if b5 then signs.CloseBrace else if b6 then signs.Comma else if b7 then
+    signs.Star
     else if b8 then signs.Equals else signs.Other) ≡ false
 mark_cases true b1 b2 b3 b4 b5 b6 b7 b8 = refl
 mark_cases false true b2 b3 b4 b5 b6 b7 b8 = refl
