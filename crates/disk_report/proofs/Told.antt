@@ -186,7 +186,7 @@ told_by request project Fact accepted a bundled =
       fact = a.fact;
       on = λ t stands. subst (λ xs. Fact (text_by request.form (Real request.importer) xs))
           (all_on_tree _ project (Real request.importer) a.answered t a.decided stands
-              ∙ ap (outcomes_on t project (Real request.importer)) all) a.fact;
+          ∙ ap (outcomes_on t project (Real request.importer)) all) a.fact;
       bundled = bundled;
     }
 
@@ -201,7 +201,7 @@ lines_told {stands_for} request project importer specifiers each text accepted a
     let Lines : FileName → List Answered → Type 0 =
     λ importer answered. text ≡ flat_map (λ a. told_as each importer a.specifier a.outcome) answered in
     let b : AreAnswered stands_for project (Real request.importer) request.specifiers []
-        (Lines (Real request.importer)) =
+    (Lines (Real request.importer)) =
     subst (λ s. AreAnswered stands_for project (Real request.importer) s [] (Lines (Real request.importer))) wanted
     (subst (λ n. AreAnswered stands_for project n specifiers [] (Lines n)) asks a) in
     told_by request project (λ told. text ≡ told) accepted (record {
@@ -273,7 +273,7 @@ bundle_told {stands_for} request project importer specifiers b text accepted ask
     let c : AreAnswered stands_for project (Real request.importer) request.specifiers []
     (IsBundleBy b (Real request.importer)) =
     subst (λ s. AreAnswered stands_for project (Real request.importer) s [] (IsBundleBy b (Real request.importer)))
-        wanted
+    wanted
     (subst (λ n. AreAnswered stands_for project n specifiers [] (IsBundleBy b n)) asks a) in
     let among = subst (λ (x : Bundle). AllByRecursion (λ a. AreAmong a.outcome.trail x.replies) c.answered)
     c.fact.is c.fact.among in

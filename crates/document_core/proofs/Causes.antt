@@ -17,7 +17,7 @@ pub meets_stops : {A B : Type 0} (next : A → Result B Cause) (o : Result A Cau
 meets_stops next o (Refused cause) found = rw found refl
 meets_stops next o NoMemory found = tt
 
--- the same of a step that leads on
+-- a step that leads on goes on with what it found
 pub meets_then : {A B : Type 0} (next : A → Result B Cause) (o : Result A Cause) (a : A)
     (result : Result B DocumentError) → o ≡ Ok a → Meets result (next a) → Meets result (o >>= next)
 meets_then next o a result found rest = rw found rest

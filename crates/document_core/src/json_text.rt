@@ -22,7 +22,7 @@ pub fn read_json(alloc: Global, bytes: &[u8]) -> Result<Value, DocumentError>
     }
 }
 
-/// The same, where the value borrows its texts if no number stands in it.
+/// The value that bytes are as JSON, which borrows its texts from the bytes if no number stands in it.
 pub(crate) fn read_bytes<'a>(
     alloc: Global,
     bytes: &'a [u8],

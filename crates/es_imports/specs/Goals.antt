@@ -219,7 +219,7 @@ abbrev pub behind_element : Context → Kind → List ℕ → Context
 behind_element c kinds.Punctuator text = behind_tag_mark c text
 behind_element c _ text = leaving c.before c.openings
 
--- the same in code or within an element
+-- behind a piece of that kind with that text, in code or within an element
 abbrev pub behind_within : Within → Bool → Context → Kind → List ℕ → Context
 behind_within within.Code jsx c kind text = behind_code jsx c kind text
 behind_within within.Tag jsx c kind text = behind_element c kind text

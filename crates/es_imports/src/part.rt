@@ -105,7 +105,7 @@ fn name_escape_len(text: &[u8]) -> usize
     }
 }
 
-// The same for an escape with braces, if `text` stands behind the opening one.
+// How long an escape with braces is, if `text` stands behind the opening one.
 fn braced_escape_len(text: &[u8]) -> usize
     ensures value { result ≡ braced_escape_len text.now }
     ensures within { result ≤ length text.now + 3 }

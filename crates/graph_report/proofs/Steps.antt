@@ -145,7 +145,7 @@ pub entries-kept : {A E : Type 0} (s u : GraphState) (after : Session) (r : Resu
 entries-kept s u after (Ok a) is same = ap (λ v. v.entries) is
 entries-kept s u after (Err e) is same = ap (λ v. v.entries) same
 
--- the same where it may come to nothing
+-- what a put leaves, where it may come to nothing
 pub put-leaves : {A E : Type 0} (s u : GraphState) (after : Session) (r : Result A E) → u.entries ≡ s.entries
     → OnOk r (u.session ≡ after) → OnOk r (u ≡ counted (with_session s after) u.session.tree.questions)
 put-leaves s u after (Ok a) entries is = edit-left s u after entries is

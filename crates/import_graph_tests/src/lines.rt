@@ -52,7 +52,7 @@ fn imported(alloc: Global, bytes: &[u8]) -> Result<String, AllocError> {
     told(alloc, scan_lines(alloc, bytes)?.as_slice())
 }
 
-// The same by any scan.
+// What bytes import by any scan, as told.
 fn scanned<S: Scan>(alloc: Global, scan: &S, bytes: &[u8]) -> Result<String, AllocError> {
     told(alloc, scan.scan(alloc, bytes)?.as_slice())
 }
