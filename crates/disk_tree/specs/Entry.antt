@@ -1,9 +1,7 @@
 -- What stands at a path of the disk, by what the system says of it.
-use Rattle.std.specs.Prelude.{◌≡◌, ℕ, ◌==◌, if◌then◌else◌, Option, Some, None, Result, Ok, Err, List}
+use Rattle.std.specs.Prelude.{◌==◌, if◌then◌else◌, Option, Some, None, Result, Ok, Err}
 use Rattle.std.specs.Fs.{file_type}
-use Rattle.std.specs.IoError.{error_kind}
 use Rattle.std.specs.declared.fs.Metadata.{Metadata}
-use Rattle.std.specs.declared.io.Error.{Error}
 use Rattle.std.specs.declared.io.ErrorKind.{ErrorKind}
 use Rattle.std.specs.declared.io.ErrorKind.TheVariants.{NotFound, NotADirectory, OutOfMemory}
 use Rattle.tree_core.specs.declared.tree.ReadError.{ReadError}
@@ -24,10 +22,6 @@ failed NotFound = Ok Absent
 failed NotADirectory = Ok Absent
 failed OutOfMemory = Err NoMemory
 failed _ = Err Fault
-
-abbrev pub entry_of : Result Metadata Error → Result Entry ReadError
-entry_of (Ok m) = Ok (kind_of m)
-entry_of (Err e) = failed (error_kind e)
 
 -- what is told of a file alone
 abbrev pub of_file : {A : Type 0} → Entry → A → Option A

@@ -1,9 +1,8 @@
 // What stands at a path of the disk, by what the system says of it.
 ghost use Rattle.std.specs.Prelude.{◌≡◌};
-ghost use Rattle.disk_tree.specs.Entry.{entry_of, failed, kind_of};
+ghost use Rattle.disk_tree.specs.Entry.{failed, kind_of};
 
 use std::fs::Metadata;
-use std::io;
 use std::io::ErrorKind;
 use tree_core::ReadError;
 
@@ -17,18 +16,8 @@ pub(crate) enum Entry {
     Other,
 }
 
-// What the system's answer says of a path. That nothing is there, and that a name on the way is no folder, mean that
+// What an error of the system says of a path. That nothing is there, and that a name on the way is no folder, mean that
 // the path is absent; every other error is a fault, but for want of memory.
-pub(crate) fn entry_of(answer: io::Result<Metadata>) -> Result<Entry, ReadError>
-    ensures { result ≡ entry_of answer }
-{
-    match answer {
-        Ok(metadata) => Ok(kind_of(&metadata)),
-        Err(e) => failed(e.kind()),
-    }
-}
-
-// What an error of the system says of a path.
 pub(crate) fn failed(kind: ErrorKind) -> Result<Entry, ReadError>
     ensures { result ≡ failed kind }
 {
@@ -40,7 +29,8 @@ pub(crate) fn failed(kind: ErrorKind) -> Result<Entry, ReadError>
     }
 }
 
-fn kind_of(metadata: &Metadata) -> Entry
+// What stands where the system has this to say.
+pub(crate) fn kind_of(metadata: &Metadata) -> Entry
     ensures { result ≡ kind_of metadata.now }
 {
     let file_type = metadata.file_type();
