@@ -70,8 +70,20 @@ fn requests_are_told_in_a_form(rt: HostRuntime) -> Result<(), Fail> {
     let trailed = "disk --trail /w node /w/a.js foo foo";
     assert_eq!(rt; lines_told(alloc, "disk /w node /w/a.js foo foo")?, 2);
     assert_eq!(rt; lines_told(alloc, trailed)?, 2);
-    assert!(rt; begins(alloc, trailed, "0 {\"answer\":{\"real\":\"/w/.yarn/foo/index.js\"},")?);
-    assert!(rt; begins(alloc, "disk --explain /w node /w/a.js foo", "0 foo from /w/a.js\n")?);
+    assert!(rt;
+        begins(
+            alloc,
+            trailed,
+            "0 {\"answer\":{\"real\":\"/w/.yarn/foo/index.js\"},"
+        )?
+    );
+    assert!(rt;
+        begins(
+            alloc,
+            "disk --explain /w node /w/a.js foo",
+            "0 foo from /w/a.js\n"
+        )?
+    );
     assert!(rt; is_told(alloc, "disk --trail --bundle /w node /w/a.js foo", "2 ")?);
     assert!(rt; is_told(alloc, "disk --bundle /w node /w/a.js", "2 ")?);
     Ok(())
@@ -81,15 +93,20 @@ fn requests_are_told_in_a_form(rt: HostRuntime) -> Result<(), Fail> {
 #[test]
 fn requests_are_bundled(rt: HostRuntime) -> Result<(), Fail> {
     let alloc = rt.alloc();
-    let request = "{\"from\":\"/w/a.js\",\"specifier\":\"foo\"}\n";
-    let front = format!(in alloc; "0 trail-bundle 1 2 9\n{request}{request}[\"exists\",\"/.pnp.cjs\",")?;
-    assert!(rt; begins(alloc, "disk --bundle /w node /w/a.js foo foo", front.as_str())?);
+    let once = lines_told(alloc, "disk --bundle /w node /w/a.js foo")?;
+    let twice = "disk --bundle /w node /w/a.js foo foo";
+    assert_eq!(rt; lines_told(alloc, twice)?, once.saturating_add(1));
+    assert!(rt; begins(alloc, twice, "0 trail-bundle 1 2 ")?);
     Ok(())
 }
 
 fn begins(alloc: Global, words: &str, front: &str) -> Result<bool, Fail> {
     let mut disk = bound(alloc)?;
-    Ok(told_by(alloc, words, &mut disk)?.as_str().starts_with(front))
+    Ok(
+        told_by(alloc, words, &mut disk)?
+            .as_str()
+            .starts_with(front),
+    )
 }
 
 fn lines_told(alloc: Global, words: &str) -> Result<usize, Fail> {

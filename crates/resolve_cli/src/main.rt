@@ -68,7 +68,9 @@ fn fault_line(status: Status) -> Option<&'static str> {
         Status::NoMemory => Some("no memory was found"),
         Status::TreeFault => Some("a question to the files of this machine failed"),
         Status::TwoReplies => {
-            Some("the files of this machine changed: one question got two replies, so there is no bundle")
+            Some(
+                "the files of this machine changed: one question got two replies, so there is no bundle",
+            )
         }
     }
 }
