@@ -1,4 +1,3 @@
 pub mod Causes
-pub mod Settings
 pub mod Bundled
 pub mod Replayed

@@ -1,6 +1,5 @@
 pub mod Cause
 pub mod Given
-pub mod WithoutFiles
 pub mod Bundling
 pub mod Replaying
 pub mod ReplayingParts

@@ -1,19 +1,18 @@
 // Reads a replay document from its bytes.
-ghost use Rattle.std.specs.Prelude.{◌≡◌, IfOk, [], codes, ok_or};
+ghost use Rattle.std.specs.Prelude.{codes, ok_or};
 ghost use Rattle.serde_json.specs.Find.{as_str};
 ghost use Rattle.serde_json.specs.View.{view};
 ghost use Rattle.json_reading.specs.Reading.{ReadsAs, field_by};
 ghost use Rattle.document_core.specs.Fields.{settings_of};
 ghost use Rattle.bundle_report.specs.Cause.{Meets, of_document};
 ghost use Rattle.bundle_report.specs.Given.{fields_in, fields_of};
-ghost use Rattle.bundle_report.specs.WithoutFiles.{without_files};
 ghost use Rattle.bundle_report.specs.declared.cause.ReplayCause.TheVariants.{NoBundle};
 
 use crate::cause::{ReplayCause, ReplayDocumentError};
-use document_core::{GivenProject, GivenSettings, read_json, read_project};
+use document_core::{GivenSettings, read_json, read_settings};
 use json_reading::{FromJsonError, field};
-use serde_json::{Value, put};
-use std::alloc::{AllocError, Global};
+use serde_json::Value;
+use std::alloc::Global;
 use sugar_path::Text;
 
 /// A replay document whose fields are read.
@@ -42,7 +41,7 @@ fn read_fields(alloc: Global, value: Value) -> Result<ReplayDocument, ReplayDocu
     ensures { Meets result (fields_of (view value)) }
 {
     let bundle = bundle_in(alloc, &value);
-    let (settings, lock) = settings_in(alloc, value)?;
+    let (settings, lock) = settings_in(alloc, &value)?;
     let bundle = bundle?;
     Ok(ReplayDocument {
         settings,
@@ -62,33 +61,13 @@ fn bundle_in(alloc: Global, value: &Value) -> Result<Text, ReplayDocumentError>
     }
 }
 
-// The settings that a JSON value gives, and the text of the lock: those of the value without files, since a replay
-// reads none, whatever stands there.
+// The settings that a JSON value gives, and the text of the lock. Files and requests that stand there aren't read.
 fn settings_in(
     alloc: Global,
-    value: Value,
+    value: &Value,
 ) -> Result<(GivenSettings, Option<Text>), ReplayDocumentError>
-    ensures { Meets result (of_document (settings_of (view value))) }
+    ensures { Meets result (of_document (settings_of (view value.now))) }
 {
-    let value = without_files(alloc, value)?;
-    let GivenProject {
-        settings,
-        lock,
-        files: _,
-    } = read_project(alloc, &value)?;
-    Ok((settings, lock))
-}
-
-// A value with a list of no files in place of its own.
-fn without_files(alloc: Global, value: Value) -> Result<Value, AllocError>
-    ensures { IfOk result (λ changed. view changed ≡ without_files (view value)) }
-{
-    match value {
-        Value::Object(members) => {
-            let mut members = members;
-            put(&mut members, alloc, "files", Value::Array(Vec::new(alloc)))?;
-            Ok(Value::Object(members))
-        }
-        value => Ok(value),
-    }
+    let given = read_settings(alloc, value)?;
+    Ok(given)
 }

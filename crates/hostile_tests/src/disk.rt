@@ -93,17 +93,10 @@ fn requests_are_told_in_a_form(rt: HostRuntime) -> Result<(), Fail> {
 #[test]
 fn requests_are_bundled(rt: HostRuntime) -> Result<(), Fail> {
     let alloc = rt.alloc();
-    let request = "{\"from\":\"/w/a.js\",\"specifier\":\"foo\"}\n";
-    let front = format!(in alloc;
-        "0 trail-bundle 1 2 9\n{request}{request}[\"exists\",\"/.pnp.cjs\","
-    )?;
-    assert!(rt;
-        begins(
-            alloc,
-            "disk --bundle /w node /w/a.js foo foo",
-            front.as_str()
-        )?
-    );
+    let once = lines_told(alloc, "disk --bundle /w node /w/a.js foo")?;
+    let twice = "disk --bundle /w node /w/a.js foo foo";
+    assert_eq!(rt; lines_told(alloc, twice)?, once.saturating_add(1));
+    assert!(rt; begins(alloc, twice, "0 trail-bundle 1 2 ")?);
     Ok(())
 }
 

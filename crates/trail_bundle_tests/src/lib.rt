@@ -4,6 +4,8 @@
 #[cfg(test)]
 mod adding;
 #[cfg(test)]
+mod random;
+#[cfg(test)]
 mod replaying;
 #[cfg(test)]
 mod texts;
