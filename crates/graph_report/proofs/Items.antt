@@ -1,6 +1,22 @@
 -- Arrays and objects that are put piece by piece.
 use Rattle.std.proofs.Common.{
-  ◌≡◌, ℕ, true, false, cond, is_ok, nat_lt, List, [], ◌∷◌, ◌++◌, drop, Result, Ok, Err, sym, ◌∙◌,
+  ◌≡◌,
+  ℕ,
+  true,
+  false,
+  cond,
+  is_ok,
+  nat_lt,
+  List,
+  [],
+  ◌∷◌,
+  ◌++◌,
+  drop,
+  Result,
+  Ok,
+  Err,
+  sym,
+  ◌∙◌,
 }
 use Rattle.std.specs.Prelude.{OnOk, map}
 use Rattle.serde_json.specs.Data.{Data, member, no_members, object}

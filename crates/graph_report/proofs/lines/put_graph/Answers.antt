@@ -9,9 +9,9 @@ use Rattle.graph_report.proofs.lines.put_graph.Goals as goal
 pub returns : goal.returns
 returns c =
     let told = two-whole c.push_str-2.result (codes "missing") (codes "nodes")
-        (array (items_of (map string c.as_slice.result.now)))
+    (array (items_of (map string c.as_slice.result.now)))
     (array (items_of (map node_value c.as_slice-2.result.now))) (string_bytes c.args.out.now)
-        (string_bytes c.push_str.new.self)
+    (string_bytes c.push_str.new.self)
     (string_bytes c.put_member.new.out) (string_bytes c.put_texts.new.out) (string_bytes c.put_member-2.new.out)
     (string_bytes c.put_nodes.new.out) (string_bytes c.push_str-2.new.self) c.in_ok-push_str.ensures.bytes
     c.in_ok-put_member.ensures c.in_ok-put_texts.ensures c.in_ok-put_member-2.ensures c.in_ok-put_nodes.ensures

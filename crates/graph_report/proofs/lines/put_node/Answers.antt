@@ -9,7 +9,7 @@ use Rattle.graph_report.proofs.lines.put_node.Goals as goal
 pub returns : goal.returns
 returns c =
     let told = two-whole c.push_str-2.result (codes "edges") (codes "file")
-        (array (items_of (map edge_value c.as_slice.result.now)))
+    (array (items_of (map edge_value c.as_slice.result.now)))
     (string c.as_str.result.now) (string_bytes c.args.out.now) (string_bytes c.push_str.new.self)
     (string_bytes c.put_member.new.out) (string_bytes c.put_edges.new.out) (string_bytes c.put_member-2.new.out)
     (string_bytes c.put_text.new.out) (string_bytes c.push_str-2.new.self) c.in_ok-push_str.ensures.bytes
