@@ -15,12 +15,12 @@ use crate::search::{joined, place, place_without_entry};
 use crate::specifier::is_relative;
 use crate::walk::walk;
 use crate::{
-    Before, FileName, Importer, ModuleRule, NodeModulesResolver, NodeRefusal, Placed, Readings,
-    Resolution, Searched, TargetEnv,
+    Before, Conventions, FileName, Importer, ModuleRule, NodeModulesResolver, NodeRefusal, Placed,
+    Readings, Resolution, Searched, TargetEnv,
 };
 use std::alloc::{AllocError, Global};
 use sugar_path::{CleanPath, Text};
-use tree_core::{Asker, ReadError, ResolveError, is_node_builtin};
+use tree_core::{Asker, ReadError, ResolveError};
 
 // What a row searches: its target, and whether a file that is found is told from the working folder.
 #[derive(Clone, Copy)]
@@ -195,10 +195,10 @@ impl NodeModulesResolver {
     // What a specifier comes to where no rule decides it.
     fn core_module_or_target(&self, alloc: Global, specifier: &str) -> Result<Before, AllocError>
         ensures { IfOk result (λ b. b ≡ rows.decided_or_target self.now specifier.now
-            (rows.core_module_for self.now.target specifier.now)) }
+            (rows.core_module_for self.now.target self.now.conventions specifier.now)) }
     {
         if self.target == TargetEnv::Node {
-            if let Some(name) = core_module(alloc, specifier)? {
+            if let Some(name) = core_module(alloc, &self.conventions, specifier)? {
                 return Ok(Before::Decided(Resolution::custom(name)));
             }
         }
@@ -274,7 +274,7 @@ impl NodeModulesResolver {
             target,
             relative: false,
         };
-        self.told(alloc, tree, readings, &sought, found)
+        self.answer_found(alloc, tree, readings, &sought, found)
     }
 
     // A target behind the folder of the importer.
@@ -297,7 +297,7 @@ impl NodeModulesResolver {
         let found = place(alloc, tree, readings, &context, text.as_str(), &at)?;
         let relative = !importer.text.starts_with('/');
         let sought = Sought { target, relative };
-        self.told(alloc, tree, readings, &sought, found)
+        self.answer_found(alloc, tree, readings, &sought, found)
     }
 
     // A target in the `node_modules` of the folder of the importer, or of one above.
@@ -315,20 +315,16 @@ impl NodeModulesResolver {
     {
         let folder = base_folder(alloc, tree, importer.path)?;
         let context = self.context();
-        let walked = walk(alloc, tree, readings, &context, target, &folder)?;
-        let found = match walked {
-            Some(file) => Searched::File(file),
-            None => Searched::Nothing,
-        };
+        let found = walk(alloc, tree, readings, &context, target, &folder)?;
         let sought = Sought {
             target,
             relative: true,
         };
-        self.told(alloc, tree, readings, &sought, found)
+        self.answer_found(alloc, tree, readings, &sought, found)
     }
 
     // What a search by a target comes to: a file by the rules for it.
-    fn told<R: Asker>(
+    fn answer_found<R: Asker>(
         &self,
         alloc: Global,
         tree: &mut R,
@@ -337,7 +333,7 @@ impl NodeModulesResolver {
         found: Searched,
     ) -> Result<Resolution, ResolveError<NodeRefusal>>
         ensures { Resolves (R.asking tree.old) (R.asking tree.new) result
-            (rows.told self.now sought.now.target.now sought.now.relative found) }
+            (rows.answer_found self.now sought.now.target.now sought.now.relative found) }
     {
         match placed_file(alloc, tree, readings, self, sought.target, found)? {
             Placed::File { path, rewritten } => {
@@ -354,13 +350,21 @@ impl NodeModulesResolver {
 }
 
 // The name that a specifier is answered by where it means a builtin module.
-fn core_module(alloc: Global, specifier: &str) -> Result<Option<Text>, AllocError>
-    ensures { IfOk result (λ name. option_map custom name ≡ rows.core_module specifier.now) }
+fn core_module(
+    alloc: Global,
+    conventions: &Conventions,
+    specifier: &str,
+) -> Result<Option<Text>, AllocError>
+    ensures { IfOk result (λ name.
+        option_map custom name ≡ rows.core_module conventions.now specifier.now) }
 {
     if specifier.starts_with("node:") {
+        if !conventions.is_schemed(&specifier[5..]) {
+            return Ok(None);
+        }
         return Ok(Some(Text::of(alloc, specifier)?));
     }
-    if !is_node_builtin(specifier) {
+    if !conventions.is_core_module(specifier) {
         return Ok(None);
     }
     let mut name = String::from_str(alloc, "node:")?;

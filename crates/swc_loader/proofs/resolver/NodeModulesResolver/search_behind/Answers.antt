@@ -39,4 +39,4 @@ returns g c =
     (asks_then _ (asks_place c.context-context.ensures.conventions c.context-context.ensures.target
     (c.as_str-2.ensures.value ∙ c.in_ok-text.ensures) (c.as_str.ensures.value ∙ c.in_ok-text.ensures) c.root.ensures
     c.in_ok-at.ensures c.in_ok-found.ensures)
-    (rw absolute at c.told.ensures))
+    (rw absolute at c.answer_found.ensures))

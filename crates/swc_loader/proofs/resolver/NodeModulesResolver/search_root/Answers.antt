@@ -16,4 +16,4 @@ pub returns : goal.returns
 unfolding at_root
 returns g c =
     asks_then _ (asks_place c.context-context.ensures.conventions c.context-context.ensures.target refl refl
-    c.root.ensures c.in_ok-at.ensures c.in_ok-found.ensures) c.told.ensures
+    c.root.ensures c.in_ok-at.ensures c.in_ok-found.ensures) c.answer_found.ensures
