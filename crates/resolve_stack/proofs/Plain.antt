@@ -1,11 +1,10 @@
 -- What the node rows answer was found without a row of a manifest.
 use Rattle.std.proofs.Common.{◌≡◌, ℕ, Bool, true, false, cond, List, ◌++◌, Option, Some, None, Result, Ok, Err, refl}
 use Rattle.std.proofs.Common.{not}
-use Rattle.std.specs.Prelude.{codes}
+use Rattle.std.specs.Prelude.{codes, drop}
 use Rattle.std.specs.Option.{option_or}
 use Rattle.sugar_path.specs.Path.{Path, clean, is_absolute}
 use Rattle.tree_core.specs.Tree.{Files}
-use Rattle.tree_core.specs.Builtins.{is_builtin}
 use Rattle.swc_loader.specs.declared.resolution.FileName.{FileName}
 use Rattle.swc_loader.specs.declared.resolution.FileName.TheVariants.{Real, Custom, Anon}
 use Rattle.swc_loader.specs.declared.resolution.Found.{Found}
@@ -21,14 +20,16 @@ use Rattle.swc_loader.specs.declared.located.Placed.TheVariants as placed
 use Rattle.swc_loader.specs.declared.target.TargetEnv.{TargetEnv}
 use Rattle.swc_loader.specs.declared.target.TargetEnv.TheVariants.{Browser, Node}
 use Rattle.swc_loader.specs.declared.search.Searched.{Searched}
-use Rattle.swc_loader.specs.declared.search.Searched.TheVariants.{File, Nothing, Malformed}
+use Rattle.swc_loader.specs.declared.search.Searched.TheVariants.{File, Nothing, Malformed, Unfound}
 use Rattle.tree_core.specs.Rows.{Going, end_of, or_refused}
 use Rattle.tree_core.specs.Told.{Told, unasked, made, where_ok, ◌>>=?◌}
+use Rattle.swc_loader.specs.Conventions.{Conventions}
 use Rattle.swc_loader.specs.Settings.{NodeSettings}
 use Rattle.swc_loader.specs.Specifier.{is_relative, has_node_scheme}
 use Rattle.swc_loader.specs.Spelling.{custom}
 use Rattle.swc_loader.specs.BrowserRulesOnTree.{ruled_file_on}
-use Rattle.swc_loader.specs.NodeRows.{path_text, core_module_for, decided_or_target, target_or_answer}
+use Rattle.swc_loader.specs.NodeRows.{path_text, is_among, is_schemed, core_module_for, decided_or_target}
+use Rattle.swc_loader.specs.NodeRows.{target_or_answer}
 use Rattle.swc_loader.specs.NodeOnTree.{probe_on, or_unanswered_on, module_rule_on, by_rule_on, ruled_specifier_on}
 use Rattle.swc_loader.specs.NodeOnTree.{before_on, answer_placed_on, told_on, at_root_on, behind_base_on, walked_on}
 use Rattle.swc_loader.specs.NodeOnTree.{search_on, node_on}
@@ -52,6 +53,7 @@ told-plain : (t : Files) (s : NodeSettings) (target : List ℕ) (relative : Bool
 told-plain t s target relative (File f) = placed-plain t s relative (ruled_file_on t s f).result
 told-plain t s target relative Nothing = tt
 told-plain t s target relative (Malformed p) = tt
+told-plain t s target relative Unfound = tt
 
 pub search-plain : (t : Files) (s : NodeSettings) (base target : List ℕ) →
     IsPlainResult (search_on t s base target).result
@@ -90,19 +92,19 @@ decided-plain s specifier (Some resolution) core plain other = plain
 decided-plain s specifier None (Some resolution) plain other = other
 decided-plain s specifier None None plain other = tt
 
-core-plain : (env : TargetEnv) (specifier : List ℕ) → IsPlainIfDecided (core_module_for env specifier)
-core-plain Browser specifier = tt
-core-plain Node specifier = by_scheme (has_node_scheme specifier)
+core-plain : (env : TargetEnv) (c : Conventions) (specifier : List ℕ) →
+    IsPlainIfDecided (core_module_for env c specifier)
+core-plain Browser c specifier = tt
+core-plain Node c specifier =
+    by_scheme (has_node_scheme specifier) (is_schemed c (drop 5 specifier)) (is_among c.core_modules specifier)
   where
-    by_builtin : (b : Bool) → IsPlainIfDecided (cond b (Some (custom (codes "node:" ++ specifier))) None)
-    by_builtin true = tt
-    by_builtin false = tt
-
-    by_scheme : (b : Bool) →
-        IsPlainIfDecided (cond b (Some (custom specifier))
-        (cond (is_builtin specifier) (Some (custom (codes "node:" ++ specifier))) None))
-    by_scheme true = tt
-    by_scheme false = by_builtin (is_builtin specifier)
+    by_scheme : (scheme schemed core : Bool) →
+        IsPlainIfDecided (cond scheme (cond schemed (Some (custom specifier)) None)
+        (cond core (Some (custom (codes "node:" ++ specifier))) None))
+    by_scheme true true core = tt
+    by_scheme true false core = tt
+    by_scheme false schemed true = tt
+    by_scheme false schemed false = tt
 
 ruled-plain : (t : Files) (s : NodeSettings) (specifier : List ℕ) (said : ModuleRule) →
     IsPlainIfDecided (by_rule_on t s specifier said).result
@@ -113,8 +115,10 @@ ruled-plain t s specifier (rule.File f) = refl
 pub before-plain : (t : Files) (s : NodeSettings) (importer : Path) (specifier : List ℕ) →
     IsPlainBefore (before_on t s importer specifier).result
 before-plain t s importer specifier =
-    decided-plain s specifier (ruled_specifier_on t s importer specifier).result (core_module_for s.target specifier)
-    (ruled-plain t s specifier (module_rule_on t s importer specifier).result) (core-plain s.target specifier)
+    decided-plain s specifier (ruled_specifier_on t s importer specifier).result
+    (core_module_for s.target s.conventions specifier)
+    (ruled-plain t s specifier (module_rule_on t s importer specifier).result)
+    (core-plain s.target s.conventions specifier)
 
 -- the rows behind the importer, and behind the first look
 abbrev behind_importer : Files → NodeSettings → List ℕ → List ℕ → Told (Going Resolution Resolution NodeRefusal)

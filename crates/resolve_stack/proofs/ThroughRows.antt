@@ -173,7 +173,8 @@ aliased : (t : Files) (s : NodeSettings) (importer : Path) (specifier target : L
     target_or_answer {X = JoinRefusal} (before_on t s importer specifier).result ≡ Ok target →
     alias_of s specifier ≡ target
 aliased t s importer specifier target h =
-    by_decided (option_or (ruled_specifier_on t s importer specifier).result (core_module_for s.target specifier)) h
+    by_decided (option_or (ruled_specifier_on t s importer specifier).result
+    (core_module_for s.target s.conventions specifier)) h
   where
     by_decided : (o : Option Resolution) →
         target_or_answer {X = JoinRefusal} (decided_or_target s specifier o) ≡ Ok target → alias_of s specifier ≡ target

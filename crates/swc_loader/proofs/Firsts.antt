@@ -42,7 +42,8 @@ use Rattle.tree_core.specs.Asks.{Asking, Leads}
 use Rattle.tree_core.proofs.Asking.{leads_item}
 use Rattle.tree_core.proofs.RowOrders.{then-then, then_alike}
 use Rattle.swc_loader.specs.Candidates.{with_endings, in_folder}
-use Rattle.swc_loader.specs.Search.{first_found, found_or_nothing, or_else}
+use Rattle.swc_loader.specs.declared.search.Searched.{Searched}
+use Rattle.swc_loader.specs.Search.{first_or, found_or, or_else}
 
 -- a base with each ending, in a folder
 abbrev pub with_each : Path → List ℕ → List (Bor (List ℕ)) → Plan (Option Path)
@@ -110,15 +111,15 @@ leads_name {old = old} {mid = mid} {whole = whole} d endings names i n h lt is =
     subst P (with_names-next d endings n (drop (i + 1) names)) (leads_item (with_names d endings) names i n h lt is)
 
 -- what one list of paths gives, and where it gives nothing what another does
-pub first_found-append : (ps qs : List Path) → first_found (ps ++ qs) ≡ first_file ps
-    >>= λ found. or_else found (first_found qs)
-unfolding first_found ◌>>=◌
-first_found-append ps qs =
-    ap (λ plan. plan >>= λ found. Done (found_or_nothing found)) (first_file-append ps qs)
-    ∙ then-then (first_file ps) (or_plan (first_file qs)) (λ found. Done (found_or_nothing found))
+pub first_or-append : (missed : Searched) (ps qs : List Path) → first_or missed (ps ++ qs) ≡ first_file ps
+    >>= λ found. or_else found (first_or missed qs)
+unfolding first_or ◌>>=◌
+first_or-append missed ps qs =
+    ap (λ plan. plan >>= λ found. Done (found_or missed found)) (first_file-append ps qs)
+    ∙ then-then (first_file ps) (or_plan (first_file qs)) (λ found. Done (found_or missed found))
     ∙ then_alike (first_file ps) _ _ by_found
   where
     by_found : (found : Option Path) → or_plan (first_file qs) found
-        >>= (λ file. Done (found_or_nothing file)) ≡ or_else found (first_found qs)
+        >>= (λ file. Done (found_or missed file)) ≡ or_else found (first_or missed qs)
     by_found (Some f) = refl
     by_found None = refl

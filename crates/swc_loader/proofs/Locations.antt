@@ -5,7 +5,7 @@ use Rattle.tree_core.specs.Tree.{Files}
 use Rattle.tree_core.specs.Told.{told, made}
 use Rattle.tree_core.proofs.Tellings.{told-done, told-by, told-if, told-never_refuses}
 use Rattle.swc_loader.specs.declared.search.Searched.{Searched}
-use Rattle.swc_loader.specs.declared.search.Searched.TheVariants.{File, Nothing, Malformed}
+use Rattle.swc_loader.specs.declared.search.Searched.TheVariants.{File, Nothing, Malformed, Unfound}
 use Rattle.swc_loader.specs.Search.{folder, place}
 use Rattle.swc_loader.specs.Settings.{NodeSettings}
 use Rattle.swc_loader.specs.BrowserRules.{ruled_file}
@@ -20,6 +20,7 @@ told-searched t s text (File f) =
     told-never_refuses t (ruled_file s f) ∙ ap (made (λ placed. Ok placed)) (told-ruled_file t s f)
 told-searched t s text Nothing = told-done t _
 told-searched t s text (Malformed p) = told-done t _
+told-searched t s text Unfound = told-done t _
 
 told-whole : (t : Files) (s : NodeSettings) (l : Path) → told t (whole s l) ≡ whole_on t s l
 unfolding whole

@@ -30,7 +30,7 @@ use Rattle.swc_loader.specs.declared.browser_rules.Source.TheVariants as source
 use Rattle.swc_loader.specs.declared.located.Placed.{Placed}
 use Rattle.swc_loader.specs.declared.located.Placed.TheVariants as placed
 use Rattle.swc_loader.specs.declared.search.Searched.{Searched}
-use Rattle.swc_loader.specs.Search.{place, found_or_nothing}
+use Rattle.swc_loader.specs.Search.{place}
 use Rattle.swc_loader.specs.SearchOnTree.{place_on}
 use Rattle.swc_loader.specs.Walk.{walk}
 use Rattle.swc_loader.specs.Specifier.{is_relative}
@@ -118,10 +118,10 @@ told-answered_placed t s relative (placed.File f rewritten) =
     told-answered t s None f (is_told_relative s relative f rewritten)
 told-answered_placed t s relative (placed.Ignored name) = told-done t _
 
-told-told : (t : Files) (s : NodeSettings) (target : List ℕ) (relative : Bool) (found : Searched)
+told-answer_found : (t : Files) (s : NodeSettings) (target : List ℕ) (relative : Bool) (found : Searched)
     → told t (rows.answer_found s target relative found) ≡ told_on t s target relative found
 unfolding rows.answer_found
-told-told t s target relative found =
+told-answer_found t s target relative found =
     told-refusing t (searched s target found) _ (told-searched t s target found) (λ what.
     told-never_refuses t (answered_placed s relative what)
     ∙ ap (made (λ resolution. Ok resolution)) (told-answered_placed t s relative what))
@@ -137,7 +137,7 @@ told-place : (t : Files) (s : NodeSettings) (target text : List ℕ) (relative :
     (place_on t s.conventions s.target [] text) (told_on t s target relative)
 told-place t s target text relative =
     told-by t (place s.conventions s.target [] text) _ (place_on_tree.tells t s.conventions s.target (clean [] text)
-    text) (told-told t s target relative)
+    text) (told-answer_found t s target relative)
 
 told-at_root : (t : Files) (s : NodeSettings) (target : List ℕ) → told t (at_root s target) ≡ at_root_on t s target
 unfolding at_root
@@ -157,7 +157,7 @@ told-walked t s base target =
     told-by t (base_folder (clean s.cwd base)) _ (told-base_folder t (clean s.cwd base)) (λ folder.
     told-by t (walk s.conventions s.target target (folder ∷ up folder)) _
     (walk_on_tree.tells t s.conventions s.target target (folder ∷ up folder)) (λ found.
-    told-told t s target true (found_or_nothing found)))
+    told-answer_found t s target true found))
 
 told-search : (t : Files) (s : NodeSettings) (base target : List ℕ)
     → told t (search s base target) ≡ search_on t s base target

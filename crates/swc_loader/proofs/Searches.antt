@@ -8,24 +8,25 @@ use Rattle.tree_core.proofs.Tellings.{told-done, told-by, told-made, told-if, to
 use Rattle.swc_loader.specs.declared.target.TargetEnv.{TargetEnv}
 use Rattle.swc_loader.specs.declared.entry.PackageEntry.{PackageEntry}
 use Rattle.swc_loader.specs.declared.entry.PackageEntry.TheVariants as entry
-use Rattle.swc_loader.specs.declared.search.Searched.TheVariants.{File, Malformed}
+use Rattle.swc_loader.specs.declared.search.Searched.{Searched}
+use Rattle.swc_loader.specs.declared.search.Searched.TheVariants.{File, Nothing, Malformed, Unfound}
 use Rattle.swc_loader.specs.Conventions.{Conventions}
-use Rattle.swc_loader.specs.Candidates.{files_at}
 use Rattle.swc_loader.specs.Search.{
   package_file,
   index_files,
   entry_places,
   places,
-  found_or_nothing,
-  first_found,
+  found_or,
+  first_or,
   by_entry,
   packaged,
   folder,
   or_else,
+  specified_files,
   place_at,
 }
 use Rattle.swc_loader.specs.SearchOnTree.{
-  first_on,
+  first_or_on,
   by_entry_on,
   packaged_on,
   folder_on,
@@ -36,14 +37,15 @@ use Rattle.swc_loader.specs.SearchOnTree.{
   PlainPlaceOnTree,
 }
 
-told-found : (t : Files) (ps : List Path) → told t (first_found ps) ≡ first_on t ps
-unfolding first_found
-told-found t ps = told-made t (first_file ps) found_or_nothing ∙ ap (made found_or_nothing) (told-first_file t ps)
+told-found : (t : Files) (missed : Searched) (ps : List Path) → told t (first_or missed ps) ≡ first_or_on t missed ps
+unfolding first_or
+told-found t missed ps =
+    told-made t (first_file ps) (found_or missed) ∙ ap (made (found_or missed)) (told-first_file t ps)
 
 told-entry : (t : Files) (c : Conventions) (d : Path) (e : PackageEntry) → told t (by_entry c d e) ≡ by_entry_on t c d e
 told-entry t c d entry.Malformed = told-done t (Malformed (package_file d))
-told-entry t c d entry.Missing = told-found t (index_files c d)
-told-entry t c d (entry.At text) = told-found t (entry_places c d text)
+told-entry t c d entry.Missing = told-found t Nothing (index_files c d)
+told-entry t c d (entry.At text) = told-found t Unfound (entry_places c d text)
 
 told-packaged : (t : Files) (c : Conventions) (env : TargetEnv) (d : Path)
     → told t (packaged c env d) ≡ packaged_on t c env d
@@ -55,13 +57,13 @@ told-folder : (t : Files) (c : Conventions) (env : TargetEnv) (d : Path) → tol
 unfolding folder
 told-folder t c env d =
     told-by t (file (package_file d)) _ (told-file t (package_file d))
-    (λ there. told-if t there _ _ (told-packaged t c env d) (told-found t (index_files c d)))
+    (λ there. told-if t there _ _ (told-packaged t c env d) (told-found t Nothing (index_files c d)))
 
 told-place : (t : Files) (c : Conventions) (env : TargetEnv) (p : Path) (text : List ℕ)
     → told t (place_at c env p text) ≡ place_at_on t c env p text
 unfolding place_at
 told-place t c env p text =
-    told-by t (first_file (files_at c p text)) _ (told-first_file t (files_at c p text)) by_found
+    told-by t (first_file (specified_files c p text)) _ (told-first_file t (specified_files c p text)) by_found
   where
     by_found : (found : Option Path) → told t (or_else found (folder c env p)) ≡ or_folder found (folder_on t c env p)
     by_found (Some f) = told-done t (File f)

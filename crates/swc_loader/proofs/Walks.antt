@@ -10,7 +10,6 @@ use Rattle.std.proofs.Common.{
   List,
   [],
   ◌∷◌,
-  Option,
   Result,
   length,
   refl,
@@ -20,12 +19,10 @@ use Rattle.std.proofs.Common.{
 use Rattle.sugar_path.specs.Path.{Path, parent, is_root, up}
 use Rattle.tree_core.specs.declared.tree.ReadError.{ReadError}
 use Rattle.tree_core.specs.Asks.{Asking, Asks}
-use Rattle.tree_core.specs.Plan.{Plan}
 use Rattle.swc_loader.specs.declared.target.TargetEnv.{TargetEnv}
 use Rattle.swc_loader.specs.Conventions.{Conventions}
 use Rattle.swc_loader.specs.declared.search.Searched.{Searched}
-use Rattle.swc_loader.specs.declared.search.Searched.TheVariants.{File, Nothing, Malformed}
-use Rattle.swc_loader.specs.Walk.{or_higher, walk}
+use Rattle.swc_loader.specs.Walk.{walk}
 
 -- where there is a folder above, the way up goes on from it
 pub up-above : (d : Path) (went : Bool) → went ≡ not (is_root d) → went ≡ true → up d ≡ parent d ∷ up (parent d)
@@ -40,15 +37,8 @@ pub up-shorter : (d : Path) (went : Bool) → went ≡ not (is_root d) → went 
 up-shorter [] went is rises = cc
 up-shorter (n ∷ d) went is rises = omega arith
 
--- what is no file goes on
-pub higher-other : (found : Searched) (next : Plan (Option Path)) → ((f : Path) → found ≡ File f → ⊥)
-    → or_higher found next ≡ next
-higher-other (File f) next other = absurd (other f refl)
-higher-other Nothing next other = refl
-higher-other (Malformed p) next other = refl
-
 -- a call by the walk, where the code has read the settings itself
-pub asks_walk : {old new : Asking} {result : Result (Option Path) ReadError} {c c' : Conventions} {env env' : TargetEnv}
+pub asks_walk : {old new : Asking} {result : Result Searched ReadError} {c c' : Conventions} {env env' : TargetEnv}
     (target : List ℕ) (ds : List Path) → c' ≡ c → env' ≡ env → Asks old new result (walk c' env' target ds)
     → Asks old new result (walk c env target ds)
 asks_walk {old = old} {new = new} {result = result} {c = c} {env' = env'} target ds conventions env h =

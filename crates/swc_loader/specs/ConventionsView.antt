@@ -1,5 +1,5 @@
 -- What contracts see of conventions, and what holds of them.
-use Rattle.std.specs.Prelude.{IsTrue, map}
+use Rattle.std.specs.Prelude.{IsTrue, map, option_map}
 use Rattle.swc_loader.specs.declared.conventions.Conventions.TheInside.{Inside}
 use Rattle.swc_loader.specs.Conventions.{Conventions, make_names}
 
@@ -11,6 +11,15 @@ conventions_of c = record {
   main_fields = map (λ f. f.now) c.main_fields.now;
   index_names = map (λ n. n.now) c.index_names.now;
   probes_working_folder = c.probes_working_folder;
+  folders_by_slash = c.folders_by_slash;
+  empty_entries = c.empty_entries;
+  lenient_packages = c.lenient_packages;
+  byte_order_mark = c.byte_order_mark;
+  malformed_ends_walk = c.malformed_ends_walk;
+  unfound_ends_walk = c.unfound_ends_walk;
+  modules_in_modules = c.modules_in_modules;
+  core_modules = map (λ n. n.now) c.core_modules.now;
+  schemed_modules = option_map (λ names. map (λ n. n.now) names.now) c.schemed_modules;
 }
 
 -- what is tried behind a name makes a name of it

@@ -6,18 +6,22 @@ use Rattle.std.specs.Prelude.{
   false,
   not,
   ◌&&◌,
+  ◌||◌,
   if◌then◌else◌,
   List,
   [],
   ◌∷◌,
   codes,
+  nat_eq,
+  bytes_eq,
+  drop,
   Option,
   Some,
   None,
   option_and_then,
 }
 use Rattle.std.specs.Option.{option_or}
-use Rattle.std.specs.List.{list_all}
+use Rattle.std.specs.List.{list_all, starts_with}
 use Rattle.serde_json.specs.Data.{Data, null, boolean, number, string, array, object, Members, no_members, member}
 use Rattle.serde_json.specs.Find.{get, as_str}
 use Rattle.serde_json.specs.Written.{has_float}
@@ -69,27 +73,35 @@ is_browser_field (Some (string s)) = true
 is_browser_field (Some (array ds)) = false
 is_browser_field (Some (object ms)) = are_rule_values ms
 
--- A package.json that the order can read is an object without floats, and the fields that it reads are of their kinds.
+-- an object without floats, of which the fields that are read are of their kinds
+abbrev pub is_strict : Conventions → Data → Bool
+is_strict c d =
+    not (has_float d) && list_all (λ field. is_text_or_nothing (get field d)) c.main_fields &&
+    is_browser_field (get (codes "browser") d)
+
+-- A package.json that can be read is an object, without floats and with fields of their kinds unless these don't count.
 -- Every other one is malformed.
 abbrev pub is_readable : Conventions → Data → Bool
-is_readable c d =
-    is_object d && not (has_float d) &&
-    list_all (λ field. is_text_or_nothing (get field d)) c.main_fields &&
-    is_browser_field (get (codes "browser") d)
+is_readable c d = is_object d && (c.lenient_packages || is_strict c d)
 
 -- the text of a field, where it has one
 abbrev pub text_at : List ℕ → Data → Option (List ℕ)
 text_at field d = option_and_then as_str (get field d)
 
--- the first of these fields that is a text
-abbrev pub first_text : List (List ℕ) → Data → Option (List ℕ)
-first_text [] d = None
-first_text (field ∷ fields) d = option_or (text_at field d) (first_text fields d)
+-- a text, where it may be an entry: an empty one may not be one
+abbrev pub if_entry : Conventions → Option (List ℕ) → Option (List ℕ)
+if_entry c None = None
+if_entry c (Some text) = if c.empty_entries || not (bytes_eq text []) then Some text else None
+
+-- the entry text of the first of these fields that has one
+abbrev pub first_text : Conventions → List (List ℕ) → Data → Option (List ℕ)
+first_text c [] d = None
+first_text c (field ∷ fields) d = option_or (if_entry c (text_at field d)) (first_text c fields d)
 
 -- the entry text: for a browser a textual `browser` goes before the main fields
 abbrev pub entry_text : Conventions → TargetEnv → Data → Option (List ℕ)
-entry_text c Browser d = first_text (codes "browser" ∷ c.main_fields) d
-entry_text c Node d = first_text c.main_fields d
+entry_text c Browser d = first_text c (codes "browser" ∷ c.main_fields) d
+entry_text c Node d = first_text c c.main_fields d
 
 abbrev pub named_by : Option (List ℕ) → PackageEntry
 named_by None = Missing
@@ -98,9 +110,18 @@ named_by (Some text) = At text
 abbrev pub if_readable : Conventions → Data → Option Data
 if_readable c d = if is_readable c d then Some d else None
 
+-- the byte order mark in front of a text
+abbrev pub mark : List ℕ
+mark = 239 ∷ 187 ∷ 191 ∷ []
+
+-- the bytes of a package.json that are read: where the mark is passed over, those behind it
+abbrev pub read_bytes : Conventions → List ℕ → List ℕ
+read_bytes c bytes = if c.byte_order_mark && starts_with nat_eq bytes mark then drop 3 bytes else bytes
+
 -- the package.json that bytes are: none where they are no JSON or are malformed, or where the file can't be read
 abbrev pub package_in : Conventions → Option (List ℕ) → Option Data
-package_in c content = option_and_then (if_readable c) (option_and_then json_of content)
+package_in c content =
+    option_and_then (if_readable c) (option_and_then (λ bytes. json_of (read_bytes c bytes)) content)
 
 abbrev pub entry_in : Conventions → TargetEnv → Option Data → PackageEntry
 entry_in c env None = Malformed

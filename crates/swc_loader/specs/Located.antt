@@ -7,7 +7,7 @@ use Rattle.swc_loader.specs.declared.located.Placed.{Placed}
 use Rattle.swc_loader.specs.declared.refusal.NodeRefusal.{NodeRefusal}
 use Rattle.swc_loader.specs.declared.refusal.NodeRefusal.TheVariants.{NotFound, MalformedPackage}
 use Rattle.swc_loader.specs.declared.search.Searched.{Searched}
-use Rattle.swc_loader.specs.declared.search.Searched.TheVariants.{File, Nothing, Malformed}
+use Rattle.swc_loader.specs.declared.search.Searched.TheVariants.{File, Nothing, Malformed, Unfound}
 use Rattle.swc_loader.specs.Search.{folder, place}
 use Rattle.swc_loader.specs.Settings.{NodeSettings}
 use Rattle.swc_loader.specs.BrowserRules.{ruled_file}
@@ -21,6 +21,7 @@ abbrev pub searched : NodeSettings → List ℕ → Searched → Plan (Result Pl
 searched s text (File f) = never_refuses (ruled_file s f)
 searched s text Nothing = Done (Err (NotFound text))
 searched s text (Malformed p) = Done (Err (MalformedPackage (text_of p)))
+searched s text Unfound = Done (Err (NotFound text))
 
 -- the search of the location itself
 unfoldable pub whole : NodeSettings → Path → Plan (Result Placed NodeRefusal)

@@ -8,7 +8,7 @@ use Rattle.swc_loader.specs.declared.located.Placed.{Placed}
 use Rattle.swc_loader.specs.declared.refusal.NodeRefusal.{NodeRefusal}
 use Rattle.swc_loader.specs.declared.refusal.NodeRefusal.TheVariants.{NotFound, MalformedPackage}
 use Rattle.swc_loader.specs.declared.search.Searched.{Searched}
-use Rattle.swc_loader.specs.declared.search.Searched.TheVariants.{File, Nothing, Malformed}
+use Rattle.swc_loader.specs.declared.search.Searched.TheVariants.{File, Nothing, Malformed, Unfound}
 use Rattle.swc_loader.specs.SearchOnTree.{folder_on, place_on}
 use Rattle.swc_loader.specs.Settings.{NodeSettings}
 use Rattle.swc_loader.specs.BrowserRulesOnTree.{ruled_file_on}
@@ -19,6 +19,7 @@ abbrev pub searched_on : Files → NodeSettings → List ℕ → Searched → To
 searched_on t s text (File f) = made (λ placed. Ok placed) (ruled_file_on t s f)
 searched_on t s text Nothing = unasked (Err (NotFound text))
 searched_on t s text (Malformed p) = unasked (Err (MalformedPackage (text_of p)))
+searched_on t s text Unfound = unasked (Err (NotFound text))
 
 -- the search of the location itself
 abbrev pub whole_on : Files → NodeSettings → Path → Told (Result Placed NodeRefusal)

@@ -36,7 +36,7 @@ use Rattle.swc_loader.specs.declared.browser_rules.Source.TheVariants as source
 use Rattle.swc_loader.specs.declared.located.Placed.{Placed}
 use Rattle.swc_loader.specs.declared.located.Placed.TheVariants as placed
 use Rattle.swc_loader.specs.declared.search.Searched.{Searched}
-use Rattle.swc_loader.specs.Search.{places, found_or_nothing}
+use Rattle.swc_loader.specs.Search.{places}
 use Rattle.swc_loader.specs.SearchOnTree.{place_on}
 use Rattle.swc_loader.specs.WalkOnTree.{walk_on}
 use Rattle.swc_loader.specs.Specifier.{is_relative}
@@ -104,7 +104,7 @@ ruled_specifier_on t s importer specifier = do
 -- what is known of a specifier before a search, by what the rules decide of it
 abbrev pub known_by_rules : NodeSettings → List ℕ → Option Resolution → Before
 known_by_rules s specifier ruled =
-    decided_or_target s specifier (option_or ruled (core_module_for s.target specifier))
+    decided_or_target s specifier (option_or ruled (core_module_for s.target s.conventions specifier))
 
 -- what is decided before a search, or its target
 abbrev pub before_on : Files → NodeSettings → Path → List ℕ → Told Before
@@ -145,7 +145,7 @@ abbrev pub walked_on : Files → NodeSettings → List ℕ → List ℕ → Told
 walked_on t s base target = do
   folder ← base_on t (clean s.cwd base)
   found ← walk_on t s.conventions s.target target (folder ∷ up folder)
-  told_on t s target true (found_or_nothing found)
+  told_on t s target true found
 
 -- the search by a target: an absolute one, one behind the base folder, or one by the walk
 abbrev pub search_on : Files → NodeSettings → List ℕ → List ℕ → Told (Result Resolution NodeRefusal)

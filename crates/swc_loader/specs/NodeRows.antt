@@ -4,6 +4,7 @@ use Rattle.std.specs.Prelude.{
   ℕ,
   ◌==◌,
   ◌&&◌,
+  ◌||◌,
   Bool,
   true,
   false,
@@ -14,6 +15,8 @@ use Rattle.std.specs.Prelude.{
   ◌∷◌,
   ◌++◌,
   codes,
+  bytes_eq,
+  drop,
   get_or,
   Option,
   Some,
@@ -22,9 +25,9 @@ use Rattle.std.specs.Prelude.{
   Ok,
   Err,
 }
-use Rattle.std.specs.Option.{option_or}
+use Rattle.std.specs.List.{list_any}
+use Rattle.std.specs.Option.{option_or, option_map_or}
 use Rattle.sugar_path.specs.Path.{Path, text_of, clean, join, up, parent, below, is_absolute}
-use Rattle.tree_core.specs.Builtins.{is_builtin}
 use Rattle.tree_core.specs.Plan.{Plan, Done, ◌>>=◌, ◌>>=?◌, file}
 use Rattle.tree_core.specs.Rows.{Going, Row, ends_by, never_refuses}
 use Rattle.swc_loader.specs.declared.resolution.FileName.{FileName}
@@ -41,7 +44,8 @@ use Rattle.swc_loader.specs.declared.located.Placed.TheVariants as placed
 use Rattle.swc_loader.specs.declared.target.TargetEnv.{TargetEnv}
 use Rattle.swc_loader.specs.declared.target.TargetEnv.TheVariants.{Browser, Node}
 use Rattle.swc_loader.specs.declared.search.Searched.{Searched}
-use Rattle.swc_loader.specs.Search.{place_without_entry, place, found_or_nothing}
+use Rattle.swc_loader.specs.Conventions.{Conventions}
+use Rattle.swc_loader.specs.Search.{place_without_entry, place}
 use Rattle.swc_loader.specs.Walk.{walk}
 use Rattle.swc_loader.specs.Specifier.{is_relative, has_node_scheme}
 use Rattle.swc_loader.specs.Settings.{NodeSettings, alias_of}
@@ -86,17 +90,26 @@ ruled_specifier s importer specifier = do
   said ← module_rule s importer specifier
   by_rule s specifier said
 
--- Node row 4: for the target Node, a specifier with Node's scheme is answered as it is, and a core module's name by
--- that scheme
-abbrev pub core_module : List ℕ → Option Resolution
-core_module specifier =
-    if has_node_scheme specifier then Some (custom specifier)
-    else if is_builtin specifier then Some (custom (codes "node:" ++ specifier))
+-- a text is one of these
+abbrev pub is_among : List (List ℕ) → List ℕ → Bool
+is_among texts text = list_any (λ t. bytes_eq t text) texts
+
+-- a name is a core module's behind Node's scheme
+abbrev pub is_schemed : Conventions → List ℕ → Bool
+is_schemed c name = option_map_or (λ names. is_among names name || is_among c.core_modules name) c.schemed_modules true
+
+-- Node row 4: for the target Node, a core module's name behind Node's scheme is answered as it is, and one that needs
+-- no scheme by that scheme
+abbrev pub core_module : Conventions → List ℕ → Option Resolution
+core_module c specifier =
+    if has_node_scheme specifier
+    then (if is_schemed c (drop 5 specifier) then Some (custom specifier) else None)
+    else if is_among c.core_modules specifier then Some (custom (codes "node:" ++ specifier))
     else None
 
-abbrev pub core_module_for : TargetEnv → List ℕ → Option Resolution
-core_module_for Browser specifier = None
-core_module_for Node specifier = core_module specifier
+abbrev pub core_module_for : TargetEnv → Conventions → List ℕ → Option Resolution
+core_module_for Browser c specifier = None
+core_module_for Node c specifier = core_module c specifier
 
 -- Node row 5: else the alias of the specifier is searched
 abbrev pub decided_or_target : NodeSettings → List ℕ → Option Resolution → Before
@@ -107,7 +120,7 @@ decided_or_target s specifier None = Target (alias_of s specifier)
 unfoldable pub before_search : NodeSettings → Path → List ℕ → Plan Before
 before_search s importer specifier = do
   ruled ← ruled_specifier s importer specifier
-  Done (decided_or_target s specifier (option_or ruled (core_module_for s.target specifier)))
+  Done (decided_or_target s specifier (option_or ruled (core_module_for s.target s.conventions specifier)))
 
 -- what was decided ends the order, and a target goes on
 abbrev pub target_or_answer : {X : Type 0} → Before → Going (List ℕ) Resolution X
@@ -162,7 +175,7 @@ unfoldable pub walked : NodeSettings → List ℕ → List ℕ → Plan (Result 
 walked s base target = do
   folder ← base_folder (clean s.cwd base)
   found ← walk s.conventions s.target target (folder ∷ up folder)
-  answer_found s target true (found_or_nothing found)
+  answer_found s target true found
 
 -- Node row 8; where `node_modules` is off, nothing is found and nothing is asked
 abbrev pub by_modules : NodeSettings → List ℕ → List ℕ → Plan (Result Resolution NodeRefusal)

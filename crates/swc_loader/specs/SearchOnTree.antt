@@ -8,30 +8,33 @@ use Rattle.swc_loader.specs.declared.target.TargetEnv.{TargetEnv}
 use Rattle.swc_loader.specs.declared.entry.PackageEntry.{PackageEntry}
 use Rattle.swc_loader.specs.declared.entry.PackageEntry.TheVariants as entry
 use Rattle.swc_loader.specs.declared.search.Searched.{Searched}
-use Rattle.swc_loader.specs.declared.search.Searched.TheVariants.{File, Malformed}
+use Rattle.swc_loader.specs.declared.search.Searched.TheVariants.{File, Nothing, Malformed, Unfound}
 use Rattle.swc_loader.specs.Conventions.{Conventions}
-use Rattle.swc_loader.specs.Candidates.{files_at}
 use Rattle.swc_loader.specs.Entry as of
 use Rattle.swc_loader.specs.Search.{
   index_files,
   places,
   place_without_entry,
   package_file,
-  found_or_nothing,
+  found_or,
   entry_places,
+  specified_files,
   folder,
   place_at,
 }
 
 -- the first of paths that is a file
+abbrev pub first_or_on : Files → Searched → List Path → Told Searched
+first_or_on t missed ps = made (found_or missed) (first_file_on t ps)
+
 abbrev pub first_on : Files → List Path → Told Searched
-first_on t ps = made found_or_nothing (first_file_on t ps)
+first_on t ps = first_or_on t Nothing ps
 
 -- what a folder's entry leads to
 abbrev pub by_entry_on : Files → Conventions → Path → PackageEntry → Told Searched
 by_entry_on t c d entry.Malformed = unasked (Malformed (package_file d))
 by_entry_on t c d entry.Missing = first_on t (index_files c d)
-by_entry_on t c d (entry.At text) = first_on t (entry_places c d text)
+by_entry_on t c d (entry.At text) = first_or_on t Unfound (entry_places c d text)
 
 -- a folder that has a package.json: by the entry that its bytes name
 abbrev pub packaged_on : Files → Conventions → TargetEnv → Path → Told Searched
@@ -53,7 +56,7 @@ or_folder None next = next
 -- the place of a text that means a path: the first of its file candidates that is a file, else what its folder gives
 abbrev pub place_at_on : Files → Conventions → TargetEnv → Path → List ℕ → Told Searched
 place_at_on t c env p text = do
-  found ← first_file_on t (files_at c p text)
+  found ← first_file_on t (specified_files c p text)
   or_folder found (folder_on t c env p)
 
 -- the place of a text that is read from a folder

@@ -32,3 +32,14 @@ settings_of cwd target alias preserve_symlinks node_modules = record {
   node_modules = node_modules;
   conventions = the_order;
 }
+
+-- settings with these conventions in place of their own
+abbrev pub following : Conventions → NodeSettings → NodeSettings
+following conventions s = record {
+  cwd = s.cwd;
+  target = s.target;
+  alias = s.alias;
+  preserve_symlinks = s.preserve_symlinks;
+  node_modules = s.node_modules;
+  conventions = conventions;
+}

@@ -1,11 +1,11 @@
 // The entry that a package.json names.
-ghost use Rattle.std.specs.Prelude.{◌≡◌, IfOk, map, option_map};
-ghost use Rattle.std.specs.List.{list_all};
+ghost use Rattle.std.specs.Prelude.{◌≡◌, IfOk, map, nat_eq, option_map};
+ghost use Rattle.std.specs.List.{list_all, starts_with};
 ghost use Rattle.std.specs.Option.{option_copied};
 ghost use Rattle.serde_json.specs.View.{view, members_view};
 ghost use Rattle.serde_json.specs.Find.{get};
-ghost use Rattle.swc_loader.specs.Entry.{entry, package_in, if_readable, is_readable, is_text_or_nothing};
-ghost use Rattle.swc_loader.specs.Entry.{is_browser_field, text_at, first_text, entry_text};
+ghost use Rattle.swc_loader.specs.Entry.{entry, package_in, if_readable, is_readable, is_strict, is_text_or_nothing};
+ghost use Rattle.swc_loader.specs.Entry.{is_browser_field, text_at, if_entry, first_text, entry_text, mark, read_bytes};
 ghost use Rattle.swc_loader.specs.Entry as of;
 
 use crate::{Conventions, Readings, TargetEnv};
@@ -58,10 +58,28 @@ pub(crate) fn package_in<'r>(
     let Some(bytes) = content else {
         return Ok(None);
     };
+    let bytes = read_bytes(alloc, conventions, bytes)?;
     match readings.value_of(alloc, bytes)? {
         Some(package_json) => Ok(if_readable(conventions, package_json)),
         None => Ok(None),
     }
+}
+
+// The bytes of a package.json that are read: where the mark is passed over, those behind it.
+fn read_bytes(alloc: Global, conventions: &Conventions, bytes: Bytes) -> Result<Bytes, AllocError>
+    ensures { IfOk result (λ b. b ≡ read_bytes conventions.now bytes) }
+{
+    if conventions.byte_order_mark() && is_marked(bytes.as_slice()) {
+        return Bytes::of(alloc, &bytes.as_slice()[3..]);
+    }
+    Ok(bytes)
+}
+
+// Whether a byte order mark stands in front.
+fn is_marked(bytes: &[u8]) -> bool
+    ensures { result ≡ starts_with nat_eq bytes.now mark }
+{
+    bytes.starts_with(&[0xEF, 0xBB, 0xBF])
 }
 
 // A JSON value, where it is a package.json that the order can read.
@@ -81,7 +99,14 @@ fn is_readable(conventions: &Conventions, package_json: &Value) -> bool
     ensures { result ≡ is_readable conventions.now (view package_json.now) }
 {
     package_json.is_object()
-        && !holds_float(package_json)
+        && (conventions.lenient_packages() || is_strict(conventions, package_json))
+}
+
+// Whether a package.json holds no float, and the fields that are read are of their kinds.
+fn is_strict(conventions: &Conventions, package_json: &Value) -> bool
+    ensures { result ≡ is_strict conventions.now (view package_json.now) }
+{
+    !holds_float(package_json)
         && are_texts_or_nothing(conventions.main_fields(), package_json)
         && is_browser_field(package_json.get("browser"))
 }
@@ -134,22 +159,38 @@ fn entry_text<'a>(
     ensures { option_copied result ≡ entry_text conventions.now target (view package_json.now) }
 {
     if target == TargetEnv::Browser {
-        if let Some(text) = text_at("browser", package_json) {
+        if let Some(text) = entry_at(conventions, "browser", package_json) {
             return Some(text);
         }
     }
-    first_text(conventions.main_fields(), package_json)
+    first_text(conventions, conventions.main_fields(), package_json)
 }
 
-// The text of the first field that has one.
-fn first_text<'a>(fields: &[&str], package_json: &'a Value) -> Option<&'a str>
+// The entry text of the first field that has one.
+fn first_text<'a>(
+    conventions: &Conventions,
+    fields: &[&str],
+    package_json: &'a Value,
+) -> Option<&'a str>
     ensures { option_copied result ≡
-        first_text (map (λ f. f.now) fields.now) (view package_json.now) }
+        first_text conventions.now (map (λ f. f.now) fields.now) (view package_json.now) }
 {
     for field in fields {
-        if let Some(text) = text_at(field, package_json) {
+        if let Some(text) = entry_at(conventions, field, package_json) {
             return Some(text);
         }
+    }
+    None
+}
+
+// The text of a field, where it may be an entry.
+fn entry_at<'a>(conventions: &Conventions, field: &str, package_json: &'a Value) -> Option<&'a str>
+    ensures { option_copied result ≡
+        if_entry conventions.now (text_at field.now (view package_json.now)) }
+{
+    let text = text_at(field, package_json)?;
+    if conventions.empty_entries() || text != "" {
+        return Some(text);
     }
     None
 }

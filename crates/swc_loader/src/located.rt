@@ -91,7 +91,7 @@ pub(crate) fn placed_file<R: Asker>(
 {
     match found {
         Searched::File(file) => Ok(ruled_file(alloc, tree, readings, resolver, file)?),
-        Searched::Nothing => {
+        Searched::Nothing | Searched::Unfound => {
             let text = Text::of(alloc, text)?;
             Err(ResolveError::Refused(NodeRefusal::NotFound { text }))
         }

@@ -47,7 +47,7 @@ impl NodeModulesResolver {
     ghost use Rattle.sugar_path.specs.Path.{IsCleanPath, path_in};
     ghost use Rattle.tree_core.specs.Asks.{Asks};
     ghost use Rattle.tree_core.specs.Resolving.{Resolves};
-    ghost use Rattle.swc_loader.specs.Settings.{settings_of};
+    ghost use Rattle.swc_loader.specs.Settings.{settings_of, following};
     ghost use Rattle.swc_loader.specs.Spelling.{spelled, answered};
     ghost use Rattle.swc_loader.specs.BrowserRules.{module_rule, ruled_file, rules_for};
     ghost use Rattle.swc_loader.specs.Located.{resolve_at};
@@ -89,6 +89,28 @@ impl NodeModulesResolver {
             preserve_symlinks,
             node_modules: false,
             conventions: Conventions::of_order(),
+        }
+    }
+
+    /// The resolver with these conventions in place of the order's own.
+    pub fn with_conventions(self, conventions: Conventions) -> NodeModulesResolver
+        ensures { result ≡ following conventions self }
+    {
+        let NodeModulesResolver {
+            cwd,
+            target,
+            alias,
+            preserve_symlinks,
+            node_modules,
+            conventions: _,
+        } = self;
+        NodeModulesResolver {
+            cwd,
+            target,
+            alias,
+            preserve_symlinks,
+            node_modules,
+            conventions,
         }
     }
 

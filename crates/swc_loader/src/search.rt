@@ -4,13 +4,15 @@ ghost use Rattle.sugar_path.specs.Path.{join, text_of};
 ghost use Rattle.tree_core.specs.Asks.{Asks};
 ghost use Rattle.tree_core.specs.Plan.{first_file};
 ghost use Rattle.swc_loader.specs.Candidates.{files_at};
-ghost use Rattle.swc_loader.specs.Search.{package_file, index_files, places_at, entry_places};
-ghost use Rattle.swc_loader.specs.Search.{packaged, place_at, first_found};
+ghost use Rattle.swc_loader.specs.Search.{package_file, index_files, places_at, entry_places, specified_files};
+ghost use Rattle.swc_loader.specs.Search.{means_folder};
+ghost use Rattle.swc_loader.specs.Search.{packaged, place_at, first_or, first_found};
 ghost use Rattle.swc_loader.specs.Search.{folder as folder_plan};
+ghost use Rattle.swc_loader.specs.declared.search.Searched.TheVariants.{Unfound};
 
 use crate::candidates::{candidate_file, first_with_ending};
 use crate::entry::entry_of;
-use crate::shape::shape_of;
+use crate::shape::{is_closed, shape_of};
 use crate::{Conventions, PackageEntry, Readings, TargetEnv};
 use std::alloc::{AllocError, Global};
 use sugar_path::CleanPath;
@@ -32,6 +34,8 @@ pub enum Searched {
     Nothing,
     /// A package.json that the search reads isn't one, by its path.
     Malformed(CleanPath),
+    /// A package.json names an entry, and neither that nor an index file is found.
+    Unfound,
 }
 
 /// The place of a text that means this path: its file candidates, and then its folder.
@@ -46,10 +50,34 @@ pub fn place<R: Asker>(
     ensures { Asks (R.asking tree.old) (R.asking tree.new) result
         (place_at context.now.conventions.now context.now.target at.now text.now) }
 {
-    match file_of(alloc, tree, context.conventions, text, at)? {
+    match specified_file(alloc, tree, context.conventions, text, at)? {
         Some(file) => Ok(Searched::File(file)),
         None => folder(alloc, tree, readings, context, at),
     }
+}
+
+// The first file candidate of a specifier's text that is a file.
+fn specified_file<R: Asker>(
+    alloc: Global,
+    tree: &mut R,
+    conventions: &Conventions,
+    text: &str,
+    at: &CleanPath,
+) -> Result<Option<CleanPath>, ReadError>
+    ensures { Asks (R.asking tree.old) (R.asking tree.new) result
+        (first_file (specified_files conventions.now at.now text.now)) }
+{
+    if means_folder(conventions, text) {
+        return Ok(None);
+    }
+    file_of(alloc, tree, conventions, text, at)
+}
+
+// Whether a specifier's text means a folder alone.
+fn means_folder(conventions: &Conventions, text: &str) -> bool
+    ensures { result ≡ means_folder conventions.now text.now }
+{
+    conventions.folders_by_slash() && !is_closed(text)
 }
 
 // The place of a text without entry: its file candidates, and then the index files of its folder.
@@ -143,13 +171,29 @@ fn at_entry<R: Asker>(
     entry: &str,
 ) -> Result<Searched, ReadError>
     ensures { Asks (R.asking tree.old) (R.asking tree.new) result
-        (first_found (entry_places conventions.now folder.now entry.now)) }
+        (first_or Unfound (entry_places conventions.now folder.now entry.now)) }
 {
     let text = joined(alloc, folder, entry)?;
     let at = CleanPath::read(alloc, &CleanPath::root(alloc), text.as_str())?;
     match place_without_entry(alloc, tree, conventions, text.as_str(), &at)? {
         Some(file) => Ok(Searched::File(file)),
-        None => first_index(alloc, tree, conventions, folder),
+        None => index_or_unfound(alloc, tree, conventions, folder),
+    }
+}
+
+// What a folder's index files come to behind an entry that isn't found.
+fn index_or_unfound<R: Asker>(
+    alloc: Global,
+    tree: &mut R,
+    conventions: &Conventions,
+    folder: &CleanPath,
+) -> Result<Searched, ReadError>
+    ensures { Asks (R.asking tree.old) (R.asking tree.new) result
+        (first_or Unfound (index_files conventions.now folder.now)) }
+{
+    match index(alloc, tree, conventions, folder)? {
+        Some(file) => Ok(Searched::File(file)),
+        None => Ok(Searched::Unfound),
     }
 }
 

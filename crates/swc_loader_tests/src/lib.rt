@@ -8,6 +8,8 @@ mod calls;
 #[cfg(test)]
 mod example;
 #[cfg(test)]
+mod like_node;
+#[cfg(test)]
 mod node_orders;
 #[cfg(test)]
 mod rows;

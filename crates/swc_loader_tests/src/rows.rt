@@ -100,21 +100,25 @@ fn project() -> &'static str {
 }
 
 // A tree with these files, apart by `;`.
-fn tree_of(alloc: Global, files: &str) -> Result<MemoryTree, PutError> {
+pub(crate) fn tree_of(alloc: Global, files: &str) -> Result<MemoryTree, PutError> {
     let mut tree = MemoryTree::new(alloc);
     for file in files.split(';') {
-        put_file(&mut tree, file.trim())?;
+        put_file(alloc, &mut tree, file.trim())?;
     }
     Ok(tree)
 }
 
-// Puts a file: its path, behind `->` its canonical name where that is another, and behind a blank its content.
-fn put_file(tree: &mut MemoryTree, file: &str) -> Result<(), PutError> {
+// Puts a file: its path, behind `->` its canonical name where that is another, and behind a blank its content. A `~` in
+// front of the content stands for a byte order mark.
+fn put_file(alloc: Global, tree: &mut MemoryTree, file: &str) -> Result<(), PutError> {
     if file.is_empty() {
         return Ok(());
     }
     let (names, content) = file.split_once(' ').unwrap_or((file, ""));
     let (path, canonical) = names.split_once("->").unwrap_or((names, names));
+    if let Some(behind) = content.strip_prefix('~') {
+        return put_marked(alloc, tree, path, behind, canonical);
+    }
     tree.put(path, content.as_bytes(), canonical)
 }
 
@@ -149,4 +153,17 @@ fn aliases_of(alloc: Global, alias: &str) -> Result<IndexMap<Text, Text>, Fail> 
         aliases.insert(Text::of(alloc, specifier)?, Text::of(alloc, target)?)?;
     }
     Ok(aliases)
+}
+
+// Puts a file with a byte order mark in front of its content.
+fn put_marked(
+    alloc: Global,
+    tree: &mut MemoryTree,
+    path: &str,
+    content: &str,
+    canonical: &str,
+) -> Result<(), PutError> {
+    let mut marked = String::from_str(alloc, "\u{FEFF}")?;
+    marked.push_str(content)?;
+    tree.put(path, marked.as_str().as_bytes(), canonical)
 }

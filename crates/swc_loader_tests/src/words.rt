@@ -74,6 +74,7 @@ pub(crate) fn tell_searched(out: &mut String, found: &Searched) -> Result<(), Al
         Searched::File(file) => out.push_str(file.as_str()),
         Searched::Nothing => out.push_str("nothing"),
         Searched::Malformed(file) => tell(out, "malformed ", file.as_str()),
+        Searched::Unfound => out.push_str("unfound"),
     }
 }
 

@@ -15,12 +15,12 @@ use crate::search::{joined, place, place_without_entry};
 use crate::specifier::is_relative;
 use crate::walk::walk;
 use crate::{
-    Before, FileName, Importer, ModuleRule, NodeModulesResolver, NodeRefusal, Placed, Readings,
-    Resolution, Searched, TargetEnv,
+    Before, Conventions, FileName, Importer, ModuleRule, NodeModulesResolver, NodeRefusal, Placed,
+    Readings, Resolution, Searched, TargetEnv,
 };
 use std::alloc::{AllocError, Global};
 use sugar_path::{CleanPath, Text};
-use tree_core::{Asker, ReadError, ResolveError, is_node_builtin};
+use tree_core::{Asker, ReadError, ResolveError};
 
 // What a row searches: its target, and whether a file that is found is told from the working folder.
 #[derive(Clone, Copy)]
@@ -195,10 +195,10 @@ impl NodeModulesResolver {
     // What a specifier comes to where no rule decides it.
     fn core_module_or_target(&self, alloc: Global, specifier: &str) -> Result<Before, AllocError>
         ensures { IfOk result (λ b. b ≡ rows.decided_or_target self.now specifier.now
-            (rows.core_module_for self.now.target specifier.now)) }
+            (rows.core_module_for self.now.target self.now.conventions specifier.now)) }
     {
         if self.target == TargetEnv::Node {
-            if let Some(name) = core_module(alloc, specifier)? {
+            if let Some(name) = core_module(alloc, &self.conventions, specifier)? {
                 return Ok(Before::Decided(Resolution::custom(name)));
             }
         }
@@ -315,11 +315,7 @@ impl NodeModulesResolver {
     {
         let folder = base_folder(alloc, tree, importer.path)?;
         let context = self.context();
-        let walked = walk(alloc, tree, readings, &context, target, &folder)?;
-        let found = match walked {
-            Some(file) => Searched::File(file),
-            None => Searched::Nothing,
-        };
+        let found = walk(alloc, tree, readings, &context, target, &folder)?;
         let sought = Sought {
             target,
             relative: true,
@@ -354,13 +350,21 @@ impl NodeModulesResolver {
 }
 
 // The name that a specifier is answered by where it means a builtin module.
-fn core_module(alloc: Global, specifier: &str) -> Result<Option<Text>, AllocError>
-    ensures { IfOk result (λ name. option_map custom name ≡ rows.core_module specifier.now) }
+fn core_module(
+    alloc: Global,
+    conventions: &Conventions,
+    specifier: &str,
+) -> Result<Option<Text>, AllocError>
+    ensures { IfOk result (λ name.
+        option_map custom name ≡ rows.core_module conventions.now specifier.now) }
 {
     if specifier.starts_with("node:") {
+        if !conventions.is_schemed(&specifier[5..]) {
+            return Ok(None);
+        }
         return Ok(Some(Text::of(alloc, specifier)?));
     }
-    if !is_node_builtin(specifier) {
+    if !conventions.is_core_module(specifier) {
         return Ok(None);
     }
     let mut name = String::from_str(alloc, "node:")?;

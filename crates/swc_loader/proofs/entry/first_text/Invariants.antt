@@ -5,5 +5,5 @@ use Rattle.swc_loader.proofs.entry.first_text.Given as goal
 
 -- the fields that are left decide
 abbrev pub invariant-loop-field : goal.invariant-loop-field
-invariant-loop-field l = first_text (map (λ f. f.now) l.fields) (view l.package_json) ≡ first_text
-    (map (λ f. f.now) (drop l.field-index l.fields)) (view l.package_json)
+invariant-loop-field l = first_text l.conventions (map (λ f. f.now) l.fields) (view l.package_json) ≡ first_text
+    l.conventions (map (λ f. f.now) (drop l.field-index l.fields)) (view l.package_json)

@@ -1,4 +1,4 @@
-use Rattle.std.proofs.Common.{refl, ap}
+use Rattle.std.proofs.Common.{refl, ap, inl, inr}
 use Rattle.std.specs.Prelude.{Err}
 use Rattle.tree_core.specs.Resolving.{resolving}
 use Rattle.tree_core.specs.Rows.{never_refuses}
@@ -17,7 +17,10 @@ returns-in_ok-ruled_file-in-File g c = rw c.in-File.is (asks_then _ c.in_ok-rule
 
 pub returns-in_ok-text-in-Nothing : goal.returns-in_ok-text-in-Nothing
 returns-in_ok-text-in-Nothing g c =
-    rw c.in-Nothing.is (asks_done (ap (λ text. Err (NotFound text)) c.in_ok-text-in-Nothing.ensures))
+    elim c.in-Nothing.is [
+      | inl is ↦ rw is (asks_done (ap (λ text. Err (NotFound text)) c.in_ok-text-in-Nothing.ensures))
+      | inr is ↦ rw is (asks_done (ap (λ text. Err (NotFound text)) c.in_ok-text-in-Nothing.ensures))
+    ]
 
 pub returns-in_ok-path-in-Malformed : goal.returns-in_ok-path-in-Malformed
 returns-in_ok-path-in-Malformed g c =

@@ -1,7 +1,7 @@
 use Rattle.std.proofs.Common.{◌≡◌, [], refl, ◌∙◌}
 use Rattle.sugar_path.specs.Path.{clean, join, text_of}
 use Rattle.tree_core.proofs.Asking.{asks_as, asks_done, asks_fails}
-use Rattle.swc_loader.proofs.Firsts.{first_found-append}
+use Rattle.swc_loader.proofs.Firsts.{first_or-append}
 use Rattle.swc_loader.proofs.search.at_entry.Goals as goal
 
 pub returns-in_err-file : goal.returns-in_err-file
@@ -12,7 +12,7 @@ returns-in_err-file g c =
     c.as_str-2.ensures.value ∙ c.in_ok-text.ensures in
     let at : c.in_ok-at.at ≡ clean [] (join (text_of c.args.folder.now) c.args.entry.now) =
     rw (c.root.ensures, text) at c.in_ok-at.ensures in
-    rw first_found-append (asks_fails _ _ c.from_residual-in_err-file.ensures.1
+    rw first_or-append (asks_fails _ _ c.from_residual-in_err-file.ensures.1
     (rw (same, at) at c.in_err-file.ensures))
 
 pub returns-in-Some : goal.returns-in-Some
@@ -23,7 +23,7 @@ returns-in-Some g c =
     c.as_str-2.ensures.value ∙ c.in_ok-text.ensures in
     let at : c.in_ok-at.at ≡ clean [] (join (text_of c.args.folder.now) c.args.entry.now) =
     rw (c.root.ensures, text) at c.in_ok-at.ensures in
-    rw first_found-append (asks_as _ (rw (same, at) at c.in_ok-file.ensures) c.in-Some.is (asks_done refl))
+    rw first_or-append (asks_as _ (rw (same, at) at c.in_ok-file.ensures) c.in-Some.is (asks_done refl))
 
 pub returns : goal.returns
 returns g c =
@@ -33,4 +33,4 @@ returns g c =
     c.as_str-2.ensures.value ∙ c.in_ok-text.ensures in
     let at : c.in_ok-at.at ≡ clean [] (join (text_of c.args.folder.now) c.args.entry.now) =
     rw (c.root.ensures, text) at c.in_ok-at.ensures in
-    rw first_found-append (asks_as _ (rw (same, at) at c.in_ok-file.ensures) c.in-None.is c.first_index.ensures)
+    rw first_or-append (asks_as _ (rw (same, at) at c.in_ok-file.ensures) c.in-None.is c.index_or_unfound.ensures)
