@@ -6,9 +6,15 @@ ghost use Rattle.std.specs.Prelude.{◌≡◌, ◌≢◌, ◌⊎◌, ◌↔◌, 
 ghost use Rattle.std.specs.IoError.{error_kind};
 ghost use Rattle.std.specs.Vec.Iter.{into_iter_items};
 
+mod keeping_source;
+mod unnamed;
+
+use crate::keeping_source::KeepingSource;
+use crate::unnamed::Unnamed;
 use cli_core::{ReaderSource, Status, WriterSink, run};
 use command_help::{Topic, topic_of, wrong_words};
-use disk_tree::DiskTree;
+use disk_tree::{DiskFault, DiskTree};
+use document_faults::{Format, told_of};
 use std::alloc::{AllocError, Global};
 use std::env::Args;
 use std::io::ErrorKind;
@@ -16,7 +22,8 @@ use std::process::ExitCode;
 use std::{env, io};
 
 fn main(rt: HostRuntime) -> ExitCode {
-    let status = match words(rt.alloc(), env::args(&rt)) {
+    let args = env::args(&(Unnamed { rt: &rt }, rt.alloc()));
+    let status = match words(rt.alloc(), args) {
         Ok(words) => match topic_of(&words) {
             Some(topic) => help(&rt, topic),
             None => run_and_tell(&rt, &words),
@@ -34,23 +41,54 @@ fn help(rt: &HostRuntime, topic: Topic) -> Status {
     }
 }
 
-// Runs the command; where it ends without a line on the standard output, people are told why.
+// Runs the command; where it ends in another way than with a report, people are told why.
 fn run_and_tell(rt: &HostRuntime, words: &[String]) -> Status {
     let alloc = rt.alloc();
+    let mut source = KeepingSource::new(alloc, ReaderSource::new(rt.stdin()));
+    let mut disk = DiskTree::new(rt);
     let status = run(
         alloc,
         words,
-        &mut ReaderSource::new(rt.stdin()),
+        &mut source,
         &mut WriterSink::new(rt.stdout()),
-        &mut DiskTree::new(rt),
+        &mut disk,
     );
     // A line that isn't told changes nothing of how the run ended.
-    let _told = match fault_line(status) {
-        Some(line) => eprintln!(rt; "{line}"),
-        None if status == Status::Usage => tell_wrong_words(rt, words),
-        None => Ok(()),
+    let _told = match status {
+        Status::Usage => tell_wrong_words(rt, words),
+        Status::Refused => tell_refusal(rt, words, source.kept()),
+        status => match fault_line(status) {
+            Some(line) => tell_fault(rt, line, disk.fault()),
+            None => Ok(()),
+        },
     };
     status
+}
+
+// What is wrong with the document that was read; under `disk` the working folder was refused, and of a source text the
+// standard output says all.
+fn tell_refusal(rt: &HostRuntime, words: &[String], document: Option<&[u8]>) -> io::Result<()> {
+    let Some(word) = words.first() else {
+        return Ok(());
+    };
+    if word.as_str() == "disk" {
+        return eprintln!(rt; "the working folder isn't a clean absolute path");
+    }
+    let Some(format) = Format::read_by(word.as_str()) else {
+        return Ok(());
+    };
+    match document {
+        Some(bytes) => eprint!(rt; "{}", told_of(rt.alloc(), format, bytes)?),
+        None => Ok(()),
+    }
+}
+
+// A line, with the question that the disk refused.
+fn tell_fault(rt: &HostRuntime, line: &str, fault: Option<&DiskFault>) -> io::Result<()> {
+    match fault {
+        Some(fault) => eprintln!(rt; "{line}: {fault}"),
+        None => eprintln!(rt; "{line}"),
+    }
 }
 
 fn tell_wrong_words(rt: &HostRuntime, words: &[String]) -> io::Result<()> {

@@ -1,0 +1,5 @@
+//! The tests of `document_faults`.
+#![tactic(auto)]
+
+#[cfg(test)]
+mod told;
