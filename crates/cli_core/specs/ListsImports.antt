@@ -36,6 +36,7 @@ use Rattle.cli_core.specs.declared.status.Status.TheVariants.{
   TooLong,
   NoMemory,
   TreeFault,
+  TwoReplies,
 }
 
 -- the status and the text that the lines of imports or a cause come to
@@ -71,4 +72,4 @@ pub record ListsImports (jsx : Bool) (status : Status) (source_old source_new : 
       → IsSteady source_old.faults source_new.faults → IsSteady sink_old.faults sink_new.faults
       → (status ≡ Done) ⊎ (status ≡ NoMemory))
   -- no other status comes
-  pub ends : (status ≢ Usage) × (status ≢ TreeFault)
+  pub ends : (status ≢ Usage) × (status ≢ TreeFault) × (status ≢ TwoReplies)

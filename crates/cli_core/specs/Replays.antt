@@ -18,6 +18,7 @@ use Rattle.cli_core.specs.declared.status.Status.TheVariants.{
   TooLong,
   NoMemory,
   TreeFault,
+  TwoReplies,
 }
 
 -- the status and the text that the lines of a bundle's verdicts or a cause come to
@@ -55,4 +56,4 @@ pub record Replays (status : Status) (source_old source_new : SourceState)
       → IsSteady source_old.faults source_new.faults → IsSteady sink_old.faults sink_new.faults
       → (status ≡ Done) ⊎ ((status ≡ Refused) ⊎ (status ≡ NoMemory)))
   -- no other status comes
-  pub ends : (status ≢ Usage) × (status ≢ TreeFault)
+  pub ends : (status ≢ Usage) × (status ≢ TreeFault) × (status ≢ TwoReplies)

@@ -18,6 +18,7 @@ use Rattle.cli_core.specs.declared.status.Status.TheVariants.{
   TooLong,
   NoMemory,
   TreeFault,
+  TwoReplies,
 }
 
 -- The report on a document of a kind. Each fact of bytes is one where the source tells what it has left, and each of a
@@ -45,4 +46,4 @@ pub record Reports (kind : DocumentKind) (status : Status) (source_old source_ne
       → IsSteady source_old.faults source_new.faults → IsSteady sink_old.faults sink_new.faults
       → (status ≡ Done) ⊎ (status ≡ NoMemory))
   -- no other status comes
-  pub ends : (status ≢ Usage) × (status ≢ TreeFault)
+  pub ends : (status ≢ Usage) × (status ≢ TreeFault) × (status ≢ TwoReplies)
