@@ -14,7 +14,8 @@ use sugar_path::Bytes;
 const HASHED: usize = 64;
 
 /// A file's content as a key of a map. Equal keys have equal bytes. The hash is told from the length and the first
-/// bytes alone, so that a look-up of a long content costs a comparison and no walk over all of it.
+/// bytes
+/// alone, so that a look-up of a long content costs a comparison and no walk over all of it.
 #[derive(Drop)]
 pub struct ContentKey {
     content: Bytes,

@@ -17,7 +17,8 @@ const MOST: usize = 128;
 
 /// What the contents of package.jsons were parsed to, so that a content that several rows or requests read is parsed
 /// once. They change no answer: contracts see nothing of what is kept. A content that is one too many takes the place
-/// of all of them.
+/// of
+/// all of them.
 #[derive(Drop)]
 pub struct Readings {
     kept: IndexMap<ContentKey, Option<Value>>,
