@@ -4,7 +4,7 @@ use document_faults::{Format, told_of};
 use std::alloc::Global;
 use std::test::Fail;
 
-fn fields() -> &'static str {
+pub(crate) fn fields() -> &'static str {
     r##"resolve [] => the document: an object, not a list
 resolve 7 => the document: an object, not 7
 resolve {} => the document: no field "cwd"
@@ -71,7 +71,7 @@ replay {"cwd":"/w"} => the document: no field "bundle"
 replay {"cwd":"/w","bundle":[]} => bundle: a text, not a list"##
 }
 
-fn projects() -> &'static str {
+pub(crate) fn projects() -> &'static str {
     r##"resolve {"cwd":"w","files":[],"requests":[]} => cwd: a clean absolute path, not "w"
 resolve {"cwd":"/w/","files":[],"requests":[]} => cwd: a clean absolute path, not "/w/"
 resolve {"cwd":"/w","ts":{"base_url":".","paths":[]},"files":[],"requests":[]} => ts.base_url: a clean absolute path, not "."
@@ -117,7 +117,7 @@ resolve {"cwd":"/w"} x => no JSON: invalid JSON at line 1 column 14"##
 }
 
 // The lines that a row expects.
-fn lines_in(row: &str) -> &str {
+pub(crate) fn lines_in(row: &str) -> &str {
     match row.split_once(" => ") {
         Some((_, lines)) => lines,
         None => "",
