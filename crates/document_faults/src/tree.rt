@@ -1,5 +1,6 @@
 // Whether a document's files make a tree.
 use crate::fault::Fault;
+use crate::format::FILE;
 use crate::placed::{Placed, shown_text};
 use sugar_path::is_clean;
 use tree_core::{MemoryTree, PutError};
@@ -18,12 +19,10 @@ pub(crate) fn check_tree(document: &Placed<'_>) -> Result<(), Fault> {
 
 // Puts one file, without its bytes.
 fn put(tree: &mut MemoryTree, file: &Placed<'_>) -> Result<(), Fault> {
-    let Some(path) = file.member("path")? else {
-        return Ok(());
-    };
+    let path = file.required("path", &FILE)?;
     let canonical = match file.member("canonical")? {
         Some(canonical) => canonical,
-        None => file.member("path")?.ok_or(Fault::NoMemory)?,
+        None => file.required("path", &FILE)?,
     };
     match tree.put(path.text()?, b"", canonical.text()?) {
         Ok(()) => Ok(()),

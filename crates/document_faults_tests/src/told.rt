@@ -4,7 +4,7 @@ use document_faults::{Format, told_of};
 use std::alloc::Global;
 use std::test::Fail;
 
-fn fields() -> &'static str {
+pub(crate) fn fields() -> &'static str {
     r##"resolve [] => the document: an object, not a list
 resolve 7 => the document: an object, not 7
 resolve {} => the document: no field "cwd"
@@ -71,7 +71,7 @@ replay {"cwd":"/w"} => the document: no field "bundle"
 replay {"cwd":"/w","bundle":[]} => bundle: a text, not a list"##
 }
 
-fn projects() -> &'static str {
+pub(crate) fn projects() -> &'static str {
     r##"resolve {"cwd":"w","files":[],"requests":[]} => cwd: a clean absolute path, not "w"
 resolve {"cwd":"/w/","files":[],"requests":[]} => cwd: a clean absolute path, not "/w/"
 resolve {"cwd":"/w","ts":{"base_url":".","paths":[]},"files":[],"requests":[]} => ts.base_url: a clean absolute path, not "."
@@ -99,6 +99,16 @@ resolve {"a":1,"b":1,"c":1,"d":1,"e":1,"f":1,"g":1,"h":1,"i":1} => the document:
 replay {"cwd":"/w","bundle":""} => "##
 }
 
+// Documents with each field that docs/FORMATS.md has: nothing is told of them.
+fn whole() -> &'static str {
+    r##"resolve {"cwd":"/w","target":"node","preserve_symlinks":false,"node_modules":true,"alias":{"a":"b"},"ts":{"base_url":"/w","paths":[["a*",["b*"]]],"version":2},"lock":null,"conditions":["node"],"files":[{"path":"/w/a.js","text":"x"},{"path":"/w/b.js","hex":"0aff","canonical":"/w/c.js"}],"requests":[{"from":"/w/a.js","specifier":"./b"},{"from":{"custom":"x"},"specifier":"b"},{"from":null,"specifier":"b"}]} => 
+bundle {"cwd":"/w","target":"node","preserve_symlinks":false,"node_modules":true,"alias":{"a":"b"},"ts":{"base_url":"/w","paths":[["a*",["b*"]]],"version":2},"lock":null,"conditions":["node"],"files":[{"path":"/w/a.js","text":"x"},{"path":"/w/b.js","hex":"0aff","canonical":"/w/c.js"}],"requests":[{"from":"/w/a.js","specifier":"./b"},{"from":{"custom":"x"},"specifier":"b"},{"from":null,"specifier":"b"}]} => 
+session {"cwd":"/w","target":"node","preserve_symlinks":false,"node_modules":true,"alias":{"a":"b"},"ts":{"base_url":"/w","paths":[["a*",["b*"]]],"version":2},"lock":null,"conditions":["node"],"files":[{"path":"/w/a.js","text":"x"},{"path":"/w/b.js","hex":"0aff","canonical":"/w/c.js"}],"capacity":3,"steps":[{"ask":{"from":{"custom":"x"},"specifier":"b"}},{"put":{"path":"/w/d.js","text":"","canonical":"/w/d.js"}},{"remove":"/w/d.js"}]} => 
+graph {"cwd":"/w","target":"node","preserve_symlinks":false,"node_modules":true,"alias":{"a":"b"},"ts":{"base_url":"/w","paths":[["a*",["b*"]]],"version":2},"lock":null,"conditions":["node"],"files":[{"path":"/w/a.js","text":"x"},{"path":"/w/b.js","hex":"0aff","canonical":"/w/c.js"}],"entries":["/w/a.js"],"capacity":3,"steps":[{"graph":null},{"put":{"path":"/w/d.js","text":"","canonical":"/w/d.js"}},{"remove":"/w/d.js"}],"scanner":"es"} => 
+audit {"cwd":"/w","target":"node","preserve_symlinks":false,"node_modules":true,"alias":{"a":"b"},"ts":{"base_url":"/w","paths":[["a*",["b*"]]],"version":2},"lock":"# a\n# yarn lockfile v1\n\n\na@1:\n  version \"1.0.0\"\n","conditions":["node"],"files":[{"path":"/w/a.js","text":"x"},{"path":"/w/b.js","hex":"0aff","canonical":"/w/c.js"}],"manifest":"/w/.pnp.cjs"} => 
+replay {"cwd":"/w","target":"node","preserve_symlinks":false,"node_modules":true,"alias":{"a":"b"},"ts":{"base_url":"/w","paths":[["a*",["b*"]]],"version":2},"lock":null,"conditions":["node"],"bundle":""} => "##
+}
+
 fn texts() -> &'static str {
     r##"resolve  => no JSON: EOF while parsing at line 1 column 0
 resolve {"cwd": => no JSON: EOF while parsing at line 1 column 7
@@ -107,7 +117,7 @@ resolve {"cwd":"/w"} x => no JSON: invalid JSON at line 1 column 14"##
 }
 
 // The lines that a row expects.
-fn lines_in(row: &str) -> &str {
+pub(crate) fn lines_in(row: &str) -> &str {
     match row.split_once(" => ") {
         Some((_, lines)) => lines,
         None => "",
@@ -144,6 +154,28 @@ fn projects_and_trees_are_told(rt: HostRuntime) -> Result<(), Fail> {
 fn unknown_fields_are_told(rt: HostRuntime) -> Result<(), Fail> {
     for row in unknown().lines() {
         assert_eq!(rt; told_in(rt.alloc(), row)?.as_str(), lines_in(row));
+    }
+    Ok(())
+}
+
+#[test]
+fn each_field_is_known(rt: HostRuntime) -> Result<(), Fail> {
+    for row in whole().lines() {
+        assert_eq!(rt; told_in(rt.alloc(), row)?.as_str(), "", "{row}");
+    }
+    Ok(())
+}
+
+// A field that the table of a format has is one that is read, or known behind others.
+#[test]
+fn each_format_has_its_fields(rt: HostRuntime) -> Result<(), Fail> {
+    for row in whole().lines() {
+        let (command, document) = row.split_once(' ').ok_or("no document")?;
+        let format = Format::read_by(command).ok_or("no command")?;
+        for field in format.fields() {
+            let key = format!(in rt.alloc(); "\"{field}\":")?;
+            assert!(rt; document.contains(key.as_str()), "{command} {field}");
+        }
     }
     Ok(())
 }
