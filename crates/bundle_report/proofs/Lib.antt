@@ -1,3 +1,2 @@
-pub mod Causes
 pub mod Bundled
 pub mod Replayed

@@ -1,4 +1,3 @@
-pub mod Cause
 pub mod Given
 pub mod Bundling
 pub mod Replaying

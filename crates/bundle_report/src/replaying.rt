@@ -9,9 +9,8 @@ ghost use Rattle.trail_bundle.specs.Replaying.{AreReplayed};
 ghost use Rattle.bundle_report.specs.Replaying.{Answers, IsReplayReport, IsReplayedIn, verdict_lines};
 ghost use Rattle.bundle_report.specs.ReplayingParts.{TellsLine, TellsMissed};
 
-use crate::cause::{ReplayCause, ReplayDocumentError};
 use crate::document::{ReplayDocument, read_replay_document};
-use document_core::{GivenSettings, project_in};
+use document_core::{Cause, DocumentError, GivenSettings, project_in};
 use report_core::line_of_verdict;
 use resolve_stack::{Project, Verdict};
 use std::alloc::{AllocError, Global};
@@ -19,7 +18,7 @@ use sugar_path::Text;
 use trail_bundle::{Bundle, BundleReplayError, DecodeError};
 
 /// The lines of the verdicts that a replay document's bundle gives, or the first cause against the document.
-pub fn replay_report_for(alloc: Global, bytes: &[u8]) -> Result<String, ReplayDocumentError>
+pub fn replay_report_for(alloc: Global, bytes: &[u8]) -> Result<String, DocumentError>
     ensures { Answers (result_map_both string_bytes (λ e. e) result) (λ told. IsReplayReport told bytes.now) }
 {
     let ReplayDocument {
@@ -32,7 +31,7 @@ pub fn replay_report_for(alloc: Global, bytes: &[u8]) -> Result<String, ReplayDo
 }
 
 // The bundle that a text is.
-fn bundle_in(alloc: Global, text: &Text) -> Result<Bundle, ReplayDocumentError>
+fn bundle_in(alloc: Global, text: &Text) -> Result<Bundle, DocumentError>
     ensures ok { IfOk result (λ b. text.now ≡ bundle_text (bundle_of b)) }
     ensures valid { IfOk result (λ b. IsBundle (bundle_of b)) }
     ensures wrong { IfErr result (λ e. TellsLine e text.now) }
@@ -40,9 +39,9 @@ fn bundle_in(alloc: Global, text: &Text) -> Result<Bundle, ReplayDocumentError>
     match Bundle::decode(alloc, text.as_str()) {
         Ok(bundle) => Ok(bundle),
         Err(DecodeError::NotABundle { line }) => {
-            Err(ReplayDocumentError::Refused(ReplayCause::BadBundle { line }))
+            Err(DocumentError::Refused(Cause::BadBundle { line }))
         }
-        Err(DecodeError::NoMemory) => Err(ReplayDocumentError::NoMemory),
+        Err(DecodeError::NoMemory) => Err(DocumentError::NoMemory),
     }
 }
 
@@ -52,7 +51,7 @@ fn lines_by(
     bundle: &Bundle,
     settings: GivenSettings,
     lock: &Option<Text>,
-) -> Result<String, ReplayDocumentError>
+) -> Result<String, DocumentError>
     ensures { Answers (result_map_both string_bytes (λ e. e) result) (λ told.
         IsReplayedIn told (bundle_of bundle.now) (project_in (settings_in settings lock.now))) }
 {
@@ -66,7 +65,7 @@ fn verdicts_of(
     alloc: Global,
     bundle: &Bundle,
     project: &Project<'_>,
-) -> Result<Vec<Verdict>, ReplayDocumentError>
+) -> Result<Vec<Verdict>, DocumentError>
     ensures ok { IfOk result (λ verdicts. AreReplayed verdicts.items
         (bundle_of bundle.now).replies project.now (bundle_of bundle.now).requests) }
     ensures missed { IfErr result (λ e. TellsMissed e (bundle_of bundle.now) project.now) }
@@ -74,9 +73,9 @@ fn verdicts_of(
     match bundle.replay_all(alloc, project) {
         Ok(verdicts) => Ok(verdicts),
         Err(BundleReplayError::NotRecorded { request, question }) => {
-            Err(ReplayDocumentError::Refused(ReplayCause::NotRecorded { request, question }))
+            Err(DocumentError::Refused(Cause::NotRecorded { request, question }))
         }
-        Err(BundleReplayError::NoMemory) => Err(ReplayDocumentError::NoMemory),
+        Err(BundleReplayError::NoMemory) => Err(DocumentError::NoMemory),
     }
 }
 

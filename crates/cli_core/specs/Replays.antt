@@ -1,11 +1,10 @@
 -- How the command `replay` runs.
 use Rattle.std.specs.Prelude.{◌≡◌, ◌≢◌, ◌≤◌, ◌<◌, ◌+◌, ◌⊎◌, ℕ, true, List, length, Result, Ok, Err}
 use Rattle.std.specs.Option.{ForSome}
-use Rattle.bundle_report.specs.Cause.{replay_cause_line}
 use Rattle.bundle_report.specs.Replaying.{IsReplayReport}
-use Rattle.bundle_report.specs.declared.cause.ReplayCause.{ReplayCause}
+use Rattle.document_core.specs.declared.cause.Cause.{Cause}
 use Rattle.cli_core.specs.Reading.{LeavesEnd}
-use Rattle.cli_core.specs.Run.{Finishes, IsSteady, ReadsAll, is_of_source}
+use Rattle.cli_core.specs.Run.{Finishes, IsSteady, ReadsAll, is_of_source, reply_as}
 use Rattle.cli_core.specs.Streams.{SinkState, SourceState}
 use Rattle.cli_core.specs.Writing.{AppendsFront}
 use Rattle.cli_core.specs.declared.reading.TheConstants.{CHUNK, LONGEST}
@@ -21,14 +20,9 @@ use Rattle.cli_core.specs.declared.status.Status.TheVariants.{
   TwoReplies,
 }
 
--- the status and the text that the lines of a bundle's verdicts or a cause come to
-abbrev pub reply_as : Result (List ℕ) ReplayCause → Status × List ℕ
-reply_as (Ok text) = (Done, text)
-reply_as (Err cause) = (Refused, replay_cause_line cause)
-
 -- something is told of a replay document, of whose status and text this holds
 pub record IsTold (bytes : List ℕ) (Holds : Status → List ℕ → Type 0) : Type 0 where
-  pub told : Result (List ℕ) ReplayCause
+  pub told : Result (List ℕ) Cause
   pub is_report : IsReplayReport told bytes
   pub holds : Holds (reply_as told).0 (reply_as told).1
 

@@ -10,7 +10,8 @@ use crate::sink::Sink;
 use crate::source::Source;
 use crate::status::Status;
 use crate::writing::write_all;
-use bundle_report::{ReplayDocumentError, line_of_replay_cause, replay_report_for};
+use bundle_report::replay_report_for;
+use document_core::{DocumentError, line_of_cause};
 use std::alloc::{AllocError, Global};
 
 // Reads one replay document from the source, and writes the lines of its bundle's verdicts to the sink, or the line of
@@ -50,10 +51,10 @@ fn reply_to(alloc: Global, bytes: &[u8]) -> Result<Reply, AllocError>
             status: Status::Done,
             text,
         }),
-        Err(ReplayDocumentError::Refused(cause)) => Ok(Reply {
+        Err(DocumentError::Refused(cause)) => Ok(Reply {
             status: Status::Refused,
-            text: line_of_replay_cause(alloc, &cause)?,
+            text: line_of_cause(alloc, &cause)?,
         }),
-        Err(ReplayDocumentError::NoMemory) => Err(AllocError),
+        Err(DocumentError::NoMemory) => Err(AllocError),
     }
 }

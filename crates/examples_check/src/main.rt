@@ -1,7 +1,7 @@
 //! Whether each document of a folder gives the text that stands beside it, `NAME.out` for `NAME.json`, or a front of it
-//! where writing fails, and whether the trails of its requests decide. It is given the folder. A document whose name
-//! begins with `session`, `graph`, `audit` or `bundle` is run by that command, one whose name begins with `explain` by
-//! `resolve --explain`, and each other one by `resolve`.
+//! where writing fails, whether the trails of its requests decide, and what their bundle comes to. It is given the
+//! folder. A document whose name begins with `session`, `graph`, `audit` or `bundle` is run by that command, one whose
+//! name begins with `explain` by `resolve --explain`, and each other one by `resolve`, whose requests are bundled too.
 #![tactic(auto)]
 
 ghost use Rattle.std.specs.Prelude.{◌≡◌, true, Some, IfOk, IfSome, [], ◌∷◌, codes, map, string_bytes};
@@ -9,9 +9,11 @@ ghost use Rattle.cli_core.specs.Command.{asked};
 ghost use Rattle.cli_core.specs.Run.{reply_for};
 ghost use Rattle.cli_core.specs.declared.command.Command.TheVariants.{Report};
 
+mod bundles;
 mod cut_short;
 mod replays;
 
+use crate::bundles::{BundleTries, bundle_in};
 use crate::cut_short::ends_at_each_sink;
 use crate::replays::{Replays, replays_in};
 use cli_core::{DocumentKind, OutcomeForm, PlainSink, PlainSource, Status, run};
@@ -42,11 +44,26 @@ fn tell(rt: &(impl Files + Print + AllocGlobal), folder: &str, name: &str) -> io
         differ,
     } = replays_in(rt.alloc(), &document)?;
     let kind = kind_of(name);
+    let bundle = bundle_of(rt.alloc(), kind, &document, &wanted)?;
     let ends = how_sinks_end(rt.alloc(), kind, &document, &wanted)?;
     let tells = how_it_is_written(rt.alloc(), kind, document, &wanted)?;
     println!(rt;
-        "{name}: {tells}, {ends}; {requests} requests replayed, without {questions} questions and {files} files: {differ} differ"
+        "{name}: {tells}, {ends}; {requests} requests replayed, without {questions} questions and {files} files: {differ} differ; bundle cut {} times: {} differ",
+        bundle.cuts, bundle.differ
     )
+}
+
+// What the bundle of a document comes to whose requests give a line each.
+fn bundle_of(
+    alloc: Global,
+    kind: DocumentKind,
+    document: &[u8],
+    lines: &[u8],
+) -> Result<BundleTries, AllocError> {
+    match kind {
+        DocumentKind::Requests(OutcomeForm::Line) => bundle_in(alloc, document, lines),
+        _ => Ok(BundleTries::none()),
+    }
 }
 
 // What a document holds, by its name.

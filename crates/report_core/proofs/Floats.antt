@@ -1,5 +1,5 @@
 -- No refusal and no trail holds a float, so that their compact text is known.
-use Rattle.std.proofs.Common.{◌≡◌, ℕ, false, List, [], ◌∷◌, Option, Some, None, refl}
+use Rattle.std.proofs.Common.{◌≡◌, false, List, [], ◌∷◌, refl}
 use Rattle.std.specs.Prelude.{map}
 use Rattle.serde_json.specs.View.{items_of}
 use Rattle.serde_json.specs.Written.{has_float, items_have_float}
@@ -15,12 +15,8 @@ use Rattle.resolve_stack.specs.declared.verdict.JoinRefusal.TheVariants.{Undecla
 use Rattle.resolve_stack.specs.declared.verdict.JoinRefusal.TheVariants.{NotInRegistry, NotLocked, MalformedPackage}
 use Rattle.resolve_stack.specs.declared.verdict.JoinRefusal.TheVariants.{OutOfRange, Archive, NotExported, Outside}
 use Rattle.resolve_stack.specs.declared.verdict.JoinRefusal.TheVariants.{NotFound, BaseNotAFile}
-use Rattle.report_core.specs.Verdicts.{text_or_null, refusal_value}
+use Rattle.report_core.specs.Verdicts.{refusal_value}
 use Rattle.report_core.specs.Verdicts.{refused_value}
-
-text_without : (o : Option (List ℕ)) → has_float (text_or_null o) ≡ false
-text_without None = refl
-text_without (Some t) = refl
 
 refusal_without : (refusal : JoinRefusal) → has_float (refusal_value refusal) ≡ false
 refusal_without (BadSpecifier specifier) = refl

@@ -21,10 +21,7 @@ use Rattle.swc_loader.specs.declared.resolution.Resolution.{Resolution}
 use Rattle.resolve_stack.specs.declared.verdict.Verdict.{Verdict}
 use Rattle.resolve_stack.specs.declared.verdict.Verdict.TheVariants.{Answered, Refused}
 use Rattle.swc_loader.specs.declared.resolution.Via.{Via}
-
-abbrev pub text_or_null : Option (List ℕ) → Data
-text_or_null None = null
-text_or_null (Some t) = string t
+use Rattle.trail_texts.specs.TrailTexts.{text_or_null}
 
 -- what answers: a file's text or a custom name
 abbrev pub name_value : FileName → Data

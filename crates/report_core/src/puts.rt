@@ -6,7 +6,7 @@ ghost use Rattle.serde_json.specs.Data.{member, no_members, null, object, string
 ghost use Rattle.serde_json.specs.View.{view};
 ghost use Rattle.serde_json.specs.Written.{comma_if, compact_text, has_float};
 ghost use Rattle.report_core.specs.Puts.{IsPut};
-ghost use Rattle.report_core.specs.Verdicts.{text_or_null};
+ghost use Rattle.trail_texts.specs.TrailTexts.{text_or_null};
 
 use serde_json::Value;
 use std::alloc::AllocError;

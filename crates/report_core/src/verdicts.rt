@@ -3,7 +3,7 @@ ghost use Rattle.std.specs.Prelude.{◌≡◌, IfOk, map};
 ghost use Rattle.serde_json.specs.Data.{array};
 ghost use Rattle.serde_json.specs.View.{items_of, view};
 ghost use Rattle.report_core.specs.Verdicts.{cause_name, locator_value, package_value};
-ghost use Rattle.report_core.specs.Verdicts.{refusal_value, refused_value, text_or_null};
+ghost use Rattle.report_core.specs.Verdicts.{refusal_value, refused_value};
 ghost use Rattle.resolve_stack.specs.declared.verdict.JoinRefusal.TheVariants as refusal;
 
 use pnp_core::{HydrationCause, MissingPeerDependency, PackageLocator, UndeclaredDependency};
@@ -11,15 +11,6 @@ use resolve_stack::{JoinRefusal, Refusal, TsRefusal};
 use serde_json::{Value, json};
 use std::alloc::{AllocError, Global};
 use sugar_path::Text;
-
-pub(crate) fn value_of_text(alloc: Global, text: &Option<Text>) -> Result<Value, AllocError>
-    ensures { IfOk result (λ value. view value ≡ text_or_null text.now) }
-{
-    match text {
-        None => Ok(Value::Null),
-        Some(text) => Value::try_from_str(alloc, text.as_str()),
-    }
-}
 
 // The refusal of a request.
 pub(crate) fn value_of_refused(alloc: Global, refusal: &Refusal) -> Result<Value, AllocError>

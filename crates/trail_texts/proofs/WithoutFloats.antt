@@ -16,7 +16,7 @@ use Rattle.trail_texts.specs.TrailTexts.{
   text_or_null,
 }
 
-pub text_without : (o : Option (List ℕ)) → has_float (text_or_null o) ≡ false
+text_without : (o : Option (List ℕ)) → has_float (text_or_null o) ≡ false
 text_without None = refl
 text_without (Some t) = refl
 

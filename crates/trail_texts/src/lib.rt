@@ -7,4 +7,4 @@ mod steps;
 
 pub use reading::{bytes_of_hex, read_importer};
 pub use requests::value_of_request;
-pub use steps::{value_of_question, value_of_step, value_of_text};
+pub use steps::{value_of_question, value_of_step};

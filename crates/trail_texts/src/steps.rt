@@ -50,8 +50,8 @@ fn value_of_bytes(alloc: Global, bytes: &Option<Bytes>) -> Result<Value, AllocEr
     }
 }
 
-/// A text that may be absent: null where it is.
-pub fn value_of_text(alloc: Global, text: &Option<Text>) -> Result<Value, AllocError>
+// A text that may be absent: null where it is.
+fn value_of_text(alloc: Global, text: &Option<Text>) -> Result<Value, AllocError>
     ensures { IfOk result (λ value. view value ≡ text_or_null text.now) }
 {
     match text {

@@ -1,6 +1,6 @@
-use Rattle.std.proofs.Common.{Ok, refl}
+use Rattle.std.proofs.Common.{refl}
+use Rattle.document_core.proofs.Causes.{meets_raised, meets_stops, meets_then, ok_then}
 use Rattle.bundle_report.specs.Given.{fields_of}
-use Rattle.bundle_report.proofs.Causes.{meets_raised, meets_stops, meets_then}
 use Rattle.bundle_report.proofs.document.read_fields.Goals as goal
 
 pub returns-in_err-settings : goal.returns-in_err-settings
@@ -15,4 +15,4 @@ returns-in_err-bundle c =
 
 pub returns : goal.returns
 unfolding fields_of
-returns c = meets_then _ _ _ (Ok _) c.in_ok-settings.ensures (meets_then _ _ _ (Ok _) c.in_ok-bundle.ensures refl)
+returns c = ok_then _ _ c.in_ok-settings.ensures (ok_then _ _ c.in_ok-bundle.ensures refl)

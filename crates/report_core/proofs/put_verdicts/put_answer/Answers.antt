@@ -1,5 +1,6 @@
 use Rattle.std.proofs.Common.{string_bytes, codes}
-use Rattle.report_core.specs.Verdicts.{found_value, name_value, text_or_null}
+use Rattle.trail_texts.specs.TrailTexts.{text_or_null}
+use Rattle.report_core.specs.Verdicts.{found_value, name_value}
 use Rattle.report_core.proofs.Members.{Three, three-but}
 use Rattle.report_core.proofs.put_verdicts.put_answer.Goals as goal
 
