@@ -1,6 +1,5 @@
 -- A package that is written as JSON, and loaded from that again. A load gives back what it gave before, but for a `bin`
--- that was absent: it is
--- written as null, and a `bin` that is null is there.
+-- that was absent: it is written as null, and a `bin` that is null is there.
 use Rattle.std.specs.Prelude.{◌≡◌, false, Option, None, Some, Ok, option_map, unwrap_or}
 use Rattle.std.specs.Cmp.Lexicographic.{slice_cmp}
 use Rattle.std.specs.List.Sorted.{IsStrictlySortedBy}
@@ -49,9 +48,8 @@ abbrev pub LoadsAgain : Type 0
 LoadsAgain = (p : Package) → IsAsLoaded p → from_value p.path (value_of p) ≡ Ok (loaded_again p)
 
 -- so is the text that is written for that JSON, where it reads back. It does at up to 127 levels; `exports` that are an
--- object of conditions are
--- loaded as those of the main entry, one level deeper than they were read, so a text of 127 levels can give a package
--- whose own text doesn't read
+-- object of conditions are loaded as those of the main entry, one level deeper than they were read, so a text of 127
+-- levels can give a package whose own text doesn't read
 abbrev pub TextLoadsAgain : Type 0
 TextLoadsAgain = (p : Package) → IsAsLoaded p → read (compact_text (value_of p)) ≡ Some (value_of p)
     → from_text p.path (compact_text (value_of p)) ≡ Ok (loaded_again p)

@@ -10,8 +10,7 @@ use sugar_path::Text;
 
 impl PackageJson {
     /// Which file of the package a subpath means under conditions, as a text that begins with `./`; `None` where the
-    /// package
-    /// doesn't export it. The subpath is `.` for the package itself, and begins with `./` else.
+    /// package doesn't export it. The subpath is `.` for the package itself, and begins with `./` else.
     pub fn exported(
         &self,
         alloc: Global,

@@ -56,8 +56,8 @@ next_place (Jump by) at passing = []
 next_place (Back by) at passing = []
 
 -- What is so while the steps at a place are taken: those that wait and those that were taken are alive there, and the
--- next ones at the next place; a walk that begins there, or that comes
--- from the place before, has its step among them; and so does one that goes on from a step that was taken.
+-- next ones at the next place; a walk that begins there, or that comes from the place before, has its step among them;
+-- and so does one that goes on from a step that was taken.
 pub record Settling (direction : Direction) (passes : ℕ → ℕ → ℕ → Type 0) (begins : ℕ → Bool) (program : List Step)
     (place : ℕ) (waiting taken next : List ℕ) : Type 0 where
   pub waits_by : (q : ℕ) → Contains waiting q → IsAlive passes begins program q place

@@ -1,6 +1,6 @@
 -- The grammar of patterns, over the characters of their texts, after ECMAScript's without flags (ECMA-262, Pattern;
--- `]`, `{` and `}` may stand for themselves, as in its Annex B). Limits are left out.
--- Each relation is between a text and what is left of it: the text begins with such a thing, and the rest follows.
+-- `]`, `{` and `}` may stand for themselves, as in its Annex B). Limits are left out. Each relation is between a text
+-- and what is left of it: the text begins with such a thing, and the rest follows.
 use Prim.Native.Char.{code}
 use Rattle.std.specs.Prelude.{
   ◌≡◌,

@@ -1,6 +1,6 @@
 -- What a JSON value (RFC 8259) reads as: a reader takes a value to what it says, and to nothing where the value is of
--- another kind.
--- A `do` here is over readings: it goes on with what a reading gives, and gives nothing where one of them doesn't read.
+-- another kind. A `do` here is over readings: it goes on with what a reading gives, and gives nothing where one of them
+-- doesn't read.
 use Rattle.std.specs.Prelude.{◌≡◌, ℕ, List, [], ◌∷◌, Option, Some, None, Result, Ok, Err, option_map}
 pub use Rattle.sugar_path.specs.Front.{◌>>=◌}
 use Rattle.serde_json.specs.Data.{

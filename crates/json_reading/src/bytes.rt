@@ -23,7 +23,7 @@ pub fn read_json(alloc: Global, bytes: &[u8]) -> Result<Value, FromJsonError>
     }
 }
 
-/// The same, where the value borrows its texts if no number stands in it.
+/// The value that bytes are as JSON, which borrows its texts from the bytes if no number stands in it.
 #[tactic(auto, unfolding(crate::specs::Bytes::json_of))]
 pub fn read_bytes<'a>(
     alloc: Global,

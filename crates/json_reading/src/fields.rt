@@ -9,8 +9,7 @@ use crate::json_value::JsonValue;
 use std::alloc::Global;
 
 /// A member that has to be there. `OtherKind` comes where the value is no object, where the object lacks it, and where
-/// it is
-/// of another kind.
+/// it is of another kind.
 pub fn field<T: FromJson, J: JsonValue>(
     alloc: Global,
     value: &J,

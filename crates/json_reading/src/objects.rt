@@ -13,8 +13,7 @@ use std::marker::Model;
 use sugar_path::Text;
 
 /// An object's members by their names, seen as the list of names and values. An `IndexMap` shows its room too, which no
-/// reader
-/// promises, so it stands in a type of its own.
+/// reader promises, so it stands in a type of its own.
 #[derive(Drop)]
 pub struct Object<T> {
     /// The members in their order, which is that of their names' bytes.

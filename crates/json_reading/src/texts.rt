@@ -27,8 +27,7 @@ pub enum ReadJson<'a> {
 }
 
 /// The value of a text that reads as JSON of at most 127 levels. `OtherKind` comes where it is none. The scratch takes
-/// the texts
-/// that have escapes.
+/// the texts that have escapes.
 pub fn read_text<'a>(
     alloc: Global,
     text: &'a str,

@@ -1,6 +1,5 @@
--- The checks of a binding, as plans of questions: that the bound package has a row, and that the lock allows it.
--- A `do` here is over plans of results: the next plan goes on with what a check gives, and a check's refusal ends them
--- all.
+-- The checks of a binding, as plans of questions: that the bound package has a row, and that the lock allows it. A `do`
+-- here is over plans of results: the next plan goes on with what a check gives, and a check's refusal ends them all.
 use Rattle.std.specs.Prelude.{ℕ, if◌then◌else◌, List, Option, Some, None, ok_or, Result, Ok, Err}
 use Rattle.tree_core.specs.Plan.{Plan, Done}
 use Rattle.tree_core.specs.Resolving.{◌>>=◌}

@@ -13,8 +13,7 @@ pub fn fault_on_tree()
 {}
 
 /// A binding that passes the checks is locked: an entry names its package, and the version of the first such entry is
-/// within the range that
-/// the asking package declares.
+/// within the range that the asking package declares.
 pub fn passes_as_locked()
     ensures { PassesAsLocked }
 {}

@@ -1,6 +1,5 @@
 -- The grammar of npm's versions and ranges: relations between a text and what it stands for. Those of parts and
--- alternatives are between a text
--- and what is left of it too: the text begins with such a thing, and the rest follows.
+-- alternatives are between a text and what is left of it too: the text begins with such a thing, and the rest follows.
 use Rattle.std.specs.Prelude.{◌≡◌, ◌⊎◌, ◌++◌, ◌↔◌, ◌<◌, ℕ, true, List, [], ◌∷◌, Option, Some, None, Ok, codes, length}
 use Rattle.std.specs.List.{list_all}
 use Rattle.semver.specs.Grammar.{IsValid}

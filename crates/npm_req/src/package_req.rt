@@ -41,8 +41,7 @@ impl PackageReq {
 }
 
 /// The name and the requirement of `name@range`, as they stand: the name reaches to the last `@` behind its first byte,
-/// and without one
-/// the requirement is `*`.
+/// and without one the requirement is `*`.
 pub fn name_and_range(text: &str) -> (&str, &str)
     ensures { (result.0.now, result.1.now) ≡ name_and_range text.now }
 {

@@ -42,10 +42,8 @@ pub(crate) struct Decided<'e> {
 }
 
 /// Which file of a package a subpath means under conditions, as a text that begins with `./`; `None` where the package
-/// doesn't
-/// export it. The subpath is `.` for the package itself, and begins with `./` else. After the package entry points of
-/// Node, but
-/// that conditions are taken in the order given, and `default` counts only where it is one of them.
+/// doesn't export it. The subpath is `.` for the package itself, and begins with `./` else. After the package entry
+/// points of Node, but that conditions are taken in the order given, and `default` counts only where it is one of them.
 pub fn exported(
     alloc: Global,
     exports: &Map<String, Value>,

@@ -124,7 +124,7 @@ none-to t n m front behind k lt is = by_place (leb_tells n k)
         ∙ ap (λ i. slash (get_or t i 0)) same ∙ is)
     by_place (inr w) = not-both (slash (get_or t k 0)) (front k w.1) is
 
--- the same at the slice that is searched
+-- the first slash of the slice that is searched is that of the rest
 rest-whole : (t : List ℕ) (n : ℕ) (r : Option ℕ) → IsFirstByte (is_byte 47) (take (length t - n) (drop n t)) r
     → IsFirstByte (is_byte 47) (drop n t) r
 rest-whole t n r h = let P : List ℕ → Type 0 = λ s. IsFirstByte (is_byte 47) s r in

@@ -95,7 +95,7 @@ HasClimb-up (Rooted p) a b h none ups depth = absurd h
 HasClimb-up (Relative k []) a b h none ups depth = (omega (arith, h.0, ups), omega (arith, h.1, depth))
 HasClimb-up (Relative k (n ∷ p)) a b h none ups depth = absurd (omega (arith, h.1, none))
 
--- ---- the same at the parts that a loop passed
+-- ---- the route of the parts that a loop passed
 abbrev pub seen_route : List (Bor (List ℕ)) → Route
 seen_route seen = route_by_parts (Relative 0 []) (map (λ x. x.now) seen)
 

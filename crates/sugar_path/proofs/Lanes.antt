@@ -127,7 +127,7 @@ block-tells (suc n) (x ∷ xs) (y ∷ ys) h k = by_test (x == y) (block-tells n 
     )
     by_test false w = (omega arith, λ lt. refl, λ le. absurd (omega (arith, le)))
 
--- the same where the count went on to some place
+-- what a block tells where the count went on to some place
 pub block-at : (at end : ℕ) (xs ys : List ℕ) (k : ℕ) → 32 ≤ end - at → end ≡ min (length xs) (length ys)
     → k ≡ shared (take 32 (drop at xs)) (take 32 (drop at ys)) → TellsBlock 32 (drop at xs) (drop at ys) k
 block-at at end xs ys k room ends is =

@@ -92,7 +92,7 @@ shared-slash base target n k told last =
           ∙ front));
     }
 
--- the same at the slices that are borrowed
+-- the way between two texts by the slices that are borrowed
 pub way-slices : (base target : List ℕ) (k : ℕ) → SharesSlash base target k
     → between (parts (take (length base - (k + 1)) (drop (k + 1) base)))
     (parts (take (length target - (k + 1)) (drop (k + 1) target))) ≡ between (parts base) (parts target)

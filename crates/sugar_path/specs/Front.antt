@@ -1,6 +1,6 @@
 -- Readings of a text's front: what the front says, or nothing where it doesn't fit. The first of two that fits is std's
--- `option_or`.
--- A `do` over `◌>>=◌` here is of results that may be missing: it ends at the first reading that doesn't fit.
+-- `option_or`. A `do` over `◌>>=◌` here is of results that may be missing: it ends at the first reading that doesn't
+-- fit.
 use Rattle.std.specs.Prelude.{
   ℕ,
   ◌==◌,

@@ -94,7 +94,7 @@ pub(crate) fn are_steps(path: &[u8], may_go_up: bool) -> bool
     has_plain_names(path) || are_steps_in_turn(path, may_go_up)
 }
 
-// The same, told by one part after the other.
+// Whether the parts are such steps, told by one part after the other.
 fn are_steps_in_turn(path: &[u8], may_go_up: bool) -> bool
     ensures { result ≡ are_steps may_go_up (parts path.now) }
 {

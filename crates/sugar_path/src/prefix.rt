@@ -32,7 +32,7 @@ fn equal_lanes(left: &[u8], right: &[u8], at: usize) -> usize
     differ.to_bitmask().trailing_zeros().min(32) as usize
 }
 
-// The same one byte after the other, for the last ones.
+// How many first bytes two slices share, told one after the other: for the last ones.
 fn equal_bytes(left: &[u8], right: &[u8]) -> usize
     ensures { result ≡ common_prefix_len nat_eq left.now right.now }
 {

@@ -61,7 +61,7 @@ pub told-by : {A B : Type 0} {m : Told A} {f : A → Told B} (t : Files) (p : Pl
 told-by {m = m} {f = f} t p k first rest =
     told-then t p k ∙ ap (λ x. on.◌>>=◌ x (λ a. told t (k a))) first ∙ next_alike m (λ a. told t (k a)) f rest
 
--- the same of plans that may refuse
+-- a plan that may refuse, and then the plan that its answer gives, by what each of them tells
 pub told-refusing : {A B X : Type 0} {m : Told (Result A X)} {f : A → Told (Result B X)} (t : Files)
     (p : Plan (Result A X)) (k : A → Plan (Result B X)) → told t p ≡ m → ((a : A) → told t (k a) ≡ f a)
     → told t (p >>=? k) ≡ on.◌>>=?◌ m f

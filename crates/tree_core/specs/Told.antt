@@ -1,7 +1,6 @@
 -- What a search comes to on a tree, with the questions that it puts to it: the form of the laws by which a reader
--- checks the plans.
--- A `do` by this file's `>>=` is over what is told: each line is a search on a tree, and the next one goes on with its
--- result.
+-- checks the plans. A `do` by this file's `>>=` is over what is told: each line is a search on a tree, and the next one
+-- goes on with its result.
 use Rattle.std.specs.Prelude.{ℕ, Bool, List, [], ◌∷◌, ◌++◌, Option, Result, Ok, Err, option_map}
 use Rattle.std.specs.FinMap.{get}
 use Rattle.sugar_path.specs.Path.{Path, text_of}

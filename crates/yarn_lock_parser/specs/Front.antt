@@ -1,6 +1,6 @@
 -- What a text's front is, and what follows it. A reading of a front is what the front says, and the text that follows
--- it.
--- A `do` here is over readings: it goes on with what a reading gives, and gives nothing where one of them doesn't read.
+-- it. A `do` here is over readings: it goes on with what a reading gives, and gives nothing where one of them doesn't
+-- read.
 use Rattle.std.specs.Prelude.{
   ◌≡◌,
   ◌++◌,

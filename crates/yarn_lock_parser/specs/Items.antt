@@ -1,7 +1,6 @@
 -- The lines of an entry that say one thing: its version, where it was found, and what its files hash to. Each is read
--- from
--- behind the blanks that it begins with; a quote may open its key.
--- A `do` here is over readings: it goes on with what a reading gives, and gives nothing where one of them doesn't read.
+-- from behind the blanks that it begins with; a quote may open its key. A `do` here is over readings: it goes on with
+-- what a reading gives, and gives nothing where one of them doesn't read.
 use Rattle.std.specs.Prelude.{ℕ, List, [], ◌∷◌, Option, Some, codes}
 use Rattle.std.specs.Option.{option_or}
 use Rattle.yarn_lock_parser.specs.ByteSet.{is_version_byte, is_unquoted_byte}

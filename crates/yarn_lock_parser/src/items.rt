@@ -1,6 +1,5 @@
 // The lines of an entry that say one thing: its version, where it was found, and what its files hash to. Each is read
-// from
-// behind the blanks that it begins with.
+// from behind the blanks that it begins with.
 ghost use Rattle.std.specs.Prelude.{◌≡◌, ◌∷◌, [], option_map};
 ghost use Rattle.yarn_lock_parser.specs.Front.{after_optional};
 ghost use Rattle.yarn_lock_parser.specs.Items.{at_value, integrity_at, resolved_at, version_at};
